@@ -1,0 +1,4 @@
+pub mod Tests
+pub mod Lists
+pub mod Loops
+pub mod Counts

@@ -1,0 +1,1 @@
+// Definitions and laws over any element, in specs/: nothing to run.

@@ -1,0 +1,5 @@
+pub mod Theorems
+pub mod Cases
+pub mod Dots
+pub mod Walks
+pub mod Verdicts

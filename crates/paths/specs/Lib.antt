@@ -1,0 +1,4 @@
+pub mod Containment
+pub mod Components
+pub mod Trimming
+pub mod Laws

@@ -1,0 +1,4 @@
+pub mod Table
+pub mod Masks
+pub mod Theorems
+pub mod Cases
