@@ -3,11 +3,11 @@
 #define _GNU_SOURCE
 #include "guvrendik.h"
 
-#include <pthread.h>
 #include <stdbool.h>
 #include <stdio.h>
 #include <string.h>
 #include <sys/mman.h>
+#include <ucontext.h>
 #include <unistd.h>
 
 _Static_assert(sizeof(guvrendik_containment) == 4 && offsetof(guvrendik_containment, contained) == 0, "layout");
@@ -69,28 +69,31 @@ static void run_examples(void) {
 }
 
 static uint8_t longest[65536];
+static guvrendik_containment longest_answer;
 
-static void *one_call(void *answer) {
-    *(guvrendik_containment *)answer = guvrendik_contains(longest, sizeof longest, longest, sizeof longest);
-    return NULL;
-}
+static void one_call(void) { longest_answer = guvrendik_contains(longest, sizeof longest, longest, sizeof longest); }
 
-static void *no_call(void *answer) { return answer; }
+static void no_call(void) {}
 
-/* How far below the top of a fresh stack a thread wrote. */
-static size_t stack_of(void *(*body)(void *), guvrendik_containment *answer) {
+/* How far below the top of a fresh stack a function wrote. It runs in a context of its own and not in a thread, whose start and
+ * end take more stack than the call and would hide it. */
+static size_t stack_of(void (*body)(void)) {
     enum { SIZE = 1 << 20, PAINT = 0xA5 };
     static uint8_t stack[SIZE] __attribute__((aligned(4096)));
+    static ucontext_t here, there;
     memset(stack, PAINT, SIZE);
-    pthread_attr_t attributes;
-    pthread_t thread;
-    pthread_attr_init(&attributes);
-    pthread_attr_setstack(&attributes, stack, SIZE);
-    if (pthread_create(&thread, &attributes, body, answer) != 0) {
-        perror("thread");
+    if (getcontext(&there) != 0) {
+        perror("context");
         _exit(1);
     }
-    pthread_join(thread, NULL);
+    there.uc_stack.ss_sp = stack;
+    there.uc_stack.ss_size = SIZE;
+    there.uc_link = &here;
+    makecontext(&there, body, 0);
+    if (swapcontext(&here, &there) != 0) {
+        perror("context");
+        _exit(1);
+    }
     size_t untouched = 0;
     while (untouched < SIZE && stack[untouched] == PAINT) {
         untouched++;
@@ -103,11 +106,10 @@ int main(void) {
     expect(guvrendik_contains(NULL, 0, NULL, 0).contained == 1, "the empty path in itself, as NULL");
     expect(guvrendik_contains(NULL, 0, (const uint8_t *)"x", 1).contained == 1, "'x' in the empty path, as NULL");
     memset(longest, 'a', sizeof longest);
-    guvrendik_containment answer = {0};
-    size_t idle = stack_of(no_call, &answer), used = stack_of(one_call, &answer);
-    expect(answer.contained == 1, "a path of 65,536 bytes in itself");
-    printf("stack of one call: %zu bytes\n", used < idle ? 0 : used - idle);
-    expect(used < idle + 1024, "a call takes less than 1 KB of stack");
+    size_t idle = stack_of(no_call), used = stack_of(one_call);
+    expect(longest_answer.contained == 1, "a path of 65,536 bytes in itself");
+    printf("stack of one call: %zu bytes\n", used - idle);
+    expect(idle < used && used < idle + 1024, "a call takes some stack, less than 1 KB");
     printf("%u passed, %u failed\n", passed, failed);
     return failed != 0;
 }
