@@ -3,25 +3,49 @@
 use mathlib.Core.Path.{_≡_, refl}
 use mathlib.Core.Bool.{Bool, true, false, Bool·beq}
 use mathlib.Core.List.{List, [], _∷_}
+use Prim.Native.Nat.{ℕ}
 use Prim.Native.String.{String}
 use Rattle.lists.specs.Tests.{beq-same}
 use Rattle.lists.specs.Lists.{every}
 use Rattle.paths.specs.Containment.{same, components, climbing, trimmed, starting, contained}
+use Rattle.register.specs.Chain.{live}
+use Rattle.register.specs.declared.Claim.{Claim}
 use Rattle.examples.specs.Paths.{bytes}
 
 -- one of 01's examples, with the answer that 01 gives
 pub data Example : Type 0 where
   -- the inner path in the outer one: yes or no
   inside : (inner outer : String) → (answer : Bool) → Example
+  -- a claim of this weight and expiry live at a moment: yes or no
+  lives : (weight expiry now : ℕ) → (answer : Bool) → Example
+
+-- a claim of that weight and expiry, and zeros besides
+abbrev pub weighing : ℕ → ℕ → Claim
+weighing weight expiry = record {
+  id = 0;
+  parent = 0;
+  grantor = 0;
+  holder = 0;
+  resource = 0;
+  rights = 0;
+  weight = weight;
+  expiry = expiry;
+}
 
 -- whether the definition answers as the example says
 abbrev pub holds : Example → Bool
 holds (inside inner outer answer) = Bool·beq (contained (bytes outer) (bytes inner)) answer
+holds (lives weight expiry now answer) = Bool·beq (live now (weighing weight expiry)) answer
 
 -- an example of a containment that holds is that containment
 pub inside-sound : (inner outer : String) (answer : Bool) →
     holds (inside inner outer answer) ≡ true → contained (bytes outer) (bytes inner) ≡ answer
 inside-sound inner outer answer h = beq-same (contained (bytes outer) (bytes inner)) answer h
+
+-- an example of a live claim that holds is that liveness
+pub lives-sound : (weight expiry now : ℕ) (answer : Bool) →
+    holds (lives weight expiry now answer) ≡ true → live now (weighing weight expiry) ≡ answer
+lives-sound weight expiry now answer h = beq-same (live now (weighing weight expiry)) answer h
 
 -- 01, "Fixed examples": each with 01's words above it
 abbrev pub table : List Example
@@ -44,6 +68,9 @@ table =
     ∷ inside "a/../b" "a/../b" false
     -- `a..b` in itself yes
     ∷ inside "a..b" "a..b" true
+    -- Weight 600, expiry 2000: live at 1999, not at 2000
+    ∷ lives 600 2000 1999 true
+    ∷ lives 600 2000 2000 false
     ∷ []
 
 -- every example of the table holds

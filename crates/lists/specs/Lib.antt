@@ -1,4 +1,6 @@
 pub mod Tests
 pub mod Lists
+pub mod Each
+pub mod Trims
 pub mod Loops
 pub mod Counts

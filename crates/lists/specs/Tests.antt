@@ -1,6 +1,9 @@
 -- Laws of tests, as `&&` and `||` join them. Assumes nothing.
 use mathlib.Core.Path.{_≡_, refl, sym}
 use mathlib.Core.Bool.{Bool, true, false, _&&_, _||_, Bool·beq}
+use mathlib.Core.List.{List, [], _∷_}
+use Prim.Native.Nat.{ℕ}
+use native.Mathlib.Omega.{arith}
 
 -- a test taken apart, with its equation
 pub cases : {A : Type 0} (b : Bool) → (b ≡ true → A) → (b ≡ false → A) → A
@@ -26,6 +29,25 @@ pub or-right : (a b : Bool) → a || b ≡ false → b ≡ false
 or-right true b h = cc
 or-right false b h = h
 
+-- either of two tests, the first told not to hold
+pub or-other : (a b : Bool) → a || b ≡ true → a ≡ false → b ≡ true
+or-other true b h e = cc
+or-other false b h e = h
+
+pub or-second : (a b : Bool) → b ≡ true → a || b ≡ true
+or-second true b e = refl
+or-second false b e = e
+
+pub or-middle : (a b c d : Bool) → (a || b) || (c || d) ≡ (a || c) || (b || d)
+or-middle true b c d = refl
+or-middle false true true d = refl
+or-middle false true false d = refl
+or-middle false false c d = refl
+
+-- a test does not both hold and fail
+pub clash : {A : Type 0} (b : Bool) → b ≡ true → b ≡ false → A
+clash b h k = let never : _≡_ {A = ℕ} 0 1 = cc in absurd (omega arith)
+
 -- two tests that follow from each other are one
 pub iff-same : (a b : Bool) → (a ≡ true → b ≡ true) → (b ≡ true → a ≡ true) → a ≡ b
 iff-same true b f g = cc (f refl)
@@ -38,3 +60,8 @@ beq-same true true h = refl
 beq-same true false h = sym h
 beq-same false true h = h
 beq-same false false h = refl
+
+-- all of some tests
+abbrev pub ands : List Bool → Bool
+ands [] = true
+ands (b ∷ l) = b && ands l

@@ -1,0 +1,116 @@
+-- Walks up a chain by the columns of ids and parent numbers, for whatever is to be answered of the chain. Assumes nothing.
+use mathlib.Core.Path.{_≡_, refl, sym, ap, _∙_}
+use mathlib.Core.Bool.{Bool, true, false, _||_, cond}
+use mathlib.Core.List.{List, [], _∷_}
+use Prim.Native.Nat.{ℕ, suc, _+_, _≤_, _<_}
+use native.Mathlib.Omega.{arith}
+use borrow.Author.Tests.{le-leb, lt-leb, eq-eqb, ne-eqb}
+use lib.Dec.{eqb, leb}
+use lib.ListN.{length, getD}
+use Rattle.lists.specs.Lists.{any}
+use Rattle.register.specs.Limits.{hopLimit}
+use Rattle.register.specs.Chain.{rootGranted, circling}
+use Rattle.columns.specs.declared.Hops.{Hops}
+use Rattle.columns.specs.declared.Hops.the-variants.{Up, Beyond}
+use Rattle.columns.specs.declared.Place.the-variants.{At, Nowhere}
+use Rattle.columns.specs.Columns.{latestPlace, chainPlaces, stepsUp}
+use Rattle.columns.specs.Laws.{chain-places-nil, chain-places-zero, chain-places-at, chain-places-nowhere}
+
+-- a walk has come to the parent number x, among the places below n: what it is to answer, e, is g of the chain still above
+pub record Walk {B : Type 0} (g : List ℕ → B) (ids parents : List ℕ) (n x : ℕ) (e : B) : Type 0 where
+  pub ahead : e ≡ g (chainPlaces ids parents n x)
+
+module _ {B : Type 0} {g : List ℕ → B} {ids parents : List ℕ} {n x : ℕ} {e : B} (w : Walk g ids parents n x e) where
+  -- a step up
+  walk-at : {k : ℕ} → (x ≡ 0 → ⊥) → latestPlace ids n x ≡ At k → e ≡ g (k ∷ chainPlaces ids parents k (getD parents k 0))
+  walk-at {k} h q = w .ahead ∙ ap g (chain-places-at ids parents n x k h q)
+
+  -- nothing is above: the number names none, is nowhere, or no place is left
+  walk-root : x ≡ 0 → e ≡ g []
+  walk-root h = w .ahead ∙ ap (λ y. g (chainPlaces ids parents n y)) h ∙ ap g (chain-places-zero ids parents n)
+
+  walk-nowhere : latestPlace ids n x ≡ Nowhere → e ≡ g []
+  walk-nowhere q = w .ahead ∙ ap g (chain-places-nowhere ids parents n x q)
+
+  walk-none : n ≡ 0 → e ≡ g []
+  walk-none h = w .ahead ∙ ap (λ m. g (chainPlaces ids parents m x)) h ∙ ap g (chain-places-nil ids parents x)
+
+-- the steps up, told from those made and the chain still above
+abbrev stepsAfter : ℕ → List ℕ → Hops
+stepsAfter k l = cond (leb (k + length l) hopLimit) (Up (k + length l)) Beyond
+
+steps-end : (k : ℕ) → k ≤ hopLimit → stepsAfter k [] ≡ Up k
+steps-end k h = let none : k + 0 ≡ k = omega arith in rw (none, le-leb k hopLimit h)
+
+-- k steps were made, and e is the number of steps up
+pub record Climbing (ids parents : List ℕ) (k n x : ℕ) (e : Hops) : Type 0 where
+  pub walk : Walk (stepsAfter k) ids parents n x e
+
+pub climbing-start : (ids parents : List ℕ) (n x : ℕ) → Climbing ids parents 0 n x (stepsUp (chainPlaces ids parents n x))
+climbing-start ids parents n x =
+    let none : length (chainPlaces ids parents n x) ≡ 0 + length (chainPlaces ids parents n x) = omega arith in
+    record { walk = record { ahead = ap (λ m. cond (leb m hopLimit) (Up m) Beyond) none } }
+
+module _ {ids parents : List ℕ} {k n x : ℕ} {e : Hops} (s : Climbing ids parents k n x e) where
+  pub climbing-root : k ≤ hopLimit → x ≡ 0 → e ≡ Up k
+  climbing-root h o = walk-root (s .walk) o ∙ steps-end k h
+
+  pub climbing-nowhere : k ≤ hopLimit → latestPlace ids n x ≡ Nowhere → e ≡ Up k
+  climbing-nowhere h q = walk-nowhere (s .walk) q ∙ steps-end k h
+
+  pub climbing-beyond : hopLimit < k → e ≡ Beyond
+  climbing-beyond h = s .walk .ahead ∙ rw (lt-leb (k + length (chainPlaces ids parents n x)) hopLimit (omega arith))
+
+  pub climbing-next : (x ≡ 0 → ⊥) → {at : ℕ} → latestPlace ids n x ≡ At at → {up : ℕ} → up ≡ getD parents at 0
+      → Climbing ids parents (k + 1) at up e
+  climbing-next o {at} q {up} u =
+      let one-more : k + suc (length (chainPlaces ids parents at up)) ≡ k + 1 + length (chainPlaces ids parents at up) = omega arith in
+      record { walk = record { ahead = walk-at (s .walk) o q ∙ rw (← u, one-more) } }
+
+-- whether h granted the root of the chain still above or, where nothing is above, top
+abbrev rootAfter : List ℕ → ℕ → Bool → List ℕ → Bool
+rootAfter grantors h top [] = top
+rootAfter grantors h top (j ∷ l) = rootAfter grantors h (eqb (getD grantors j 0) h) l
+
+-- whether h holds a claim of the chain still above, or granted its root
+abbrev circlingAfter : List ℕ → List ℕ → ℕ → Bool → List ℕ → Bool
+circlingAfter grantors holders h top l = any (λ j. eqb (getD holders j 0) h) l || rootAfter grantors h top l
+
+-- no member so far is held by h, top is whether h granted the latest of them, and e is whether h circles
+pub record Circling (ids parents grantors holders : List ℕ) (h n x : ℕ) (top e : Bool) : Type 0 where
+  pub walk : Walk (circlingAfter grantors holders h top) ids parents n x e
+
+pub circling-start : (ids parents grantors holders : List ℕ) (h n x : ℕ)
+    → Circling ids parents grantors holders h n x false
+    (circling (λ j. getD grantors j 0) (λ j. getD holders j 0) (chainPlaces ids parents n x) h)
+unfolding circling rootGranted
+circling-start ids parents grantors holders h n x = record { walk = record { ahead = whole (chainPlaces ids parents n x) } }
+  where
+    root : (j : ℕ) (l : List ℕ) → rootGranted (λ k. getD grantors k 0) (j ∷ l) h ≡ rootAfter grantors h (eqb (getD grantors j 0) h) l
+    root j [] = refl
+    root j (k ∷ l) = root k l
+
+    whole : (l : List ℕ) → circling (λ j. getD grantors j 0) (λ j. getD holders j 0) l h ≡ circlingAfter grantors holders h false l
+    whole [] = refl
+    whole (j ∷ l) = rw (root j l)
+
+module _ {ids parents grantors holders : List ℕ} {h n x : ℕ} {top e : Bool} (s : Circling ids parents grantors holders h n x top e) where
+  pub circling-root : x ≡ 0 → e ≡ top
+  circling-root = walk-root (s .walk)
+
+  pub circling-nowhere : latestPlace ids n x ≡ Nowhere → e ≡ top
+  circling-nowhere = walk-nowhere (s .walk)
+
+  pub circling-none : n ≡ 0 → e ≡ top
+  circling-none = walk-none (s .walk)
+
+  module _ (o : x ≡ 0 → ⊥) {at : ℕ} (q : latestPlace ids n x ≡ At at) {holder : ℕ} (held : holder ≡ getD holders at 0) where
+    -- a member that h holds decides
+    pub circling-held : holder ≡ h → e ≡ true
+    circling-held same = walk-at (s .walk) o q ∙ rw (eq-eqb (getD holders at 0) h (sym held ∙ same))
+
+    -- past a member that another holds, its grantor is what is known of the root
+    pub circling-next : (holder ≡ h → ⊥) → {grantor : ℕ} → grantor ≡ getD grantors at 0 → {up : ℕ} → up ≡ getD parents at 0
+        → Circling ids parents grantors holders h at up (eqb grantor h) e
+    circling-next other granted u =
+        record { walk = record { ahead = walk-at (s .walk) o q ∙ rw (ne-eqb (getD holders at 0) h (λ same. other (held ∙ same)), granted, u) } }

@@ -1,0 +1,33 @@
+-- `columns::owners` meets its contract: a column is filled from the front (Filling). Assumes nothing.
+use mathlib.Core.Path.{refl}
+use Prim.Native.Nat.{_-_}
+use native.Mathlib.Omega.{arith}
+use borrow.Author.Needs.{needs}
+use Rattle.lists.specs.Loops.{length-mapped}
+use Rattle.register.specs.Limits.{actorLimit}
+use Rattle.columns.specs.Columns.{ownerOf}
+use Rattle.columns.proofs.Filling.{Filling, empty, fill, full}
+use Rattle.columns.proofs.owners.Statement.{statement}
+use Rattle.columns.proofs.owners.Tie as tie
+
+abbrev Inv-loop : tie.InvT-loop
+Inv-loop k column₀ i₀ column i = Filling ownerOf (k .list) actorLimit i column
+
+abbrev μ-loop : tie.MeasureT-loop
+μ-loop k column₀ i₀ column i = actorLimit - i
+
+pub owners-spec : {M : Type 1} → statement M
+owners-spec =
+    tie.close
+    (tie.spec
+    Inv-loop
+    μ-loop
+    (λ c. empty (search (needs, length-mapped)) refl)
+    (λ c. omega arith)
+    (λ c. omega arith)
+    (λ c. omega arith)
+    (λ c. omega arith)
+    (λ c. omega arith)
+    (λ c. omega arith)
+    (λ c. fill (c .before .loop .inv) _ (c .loop-test .taken))
+    (λ c. full (c .before .loop .inv) (c .loop-test .left)))

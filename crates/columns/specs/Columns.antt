@@ -1,0 +1,76 @@
+-- Working definitions: the columns of a register's lists, and chains as places of columns. They are shaped for the code; what they
+-- are in 01's words is proved in Laws (`chain-natural`).
+use mathlib.Core.Bool.{Bool, false, _&&_, _||_, cond}
+use mathlib.Core.List.{List, [], _∷_}
+use Prim.Native.Nat.{ℕ, zero, suc}
+use lib.Dec.{eqb, ltb, leb}
+use lib.ListN.{length, getD}
+use Rattle.register.specs.Limits.{hopLimit}
+use Rattle.register.specs.Chain.{chain}
+use Rattle.register.specs.declared.Actor.{Actor}
+use Rattle.register.specs.declared.Resource.{Resource}
+use Rattle.register.specs.declared.Claim.{Claim}
+use Rattle.columns.specs.declared.Hops.{Hops}
+use Rattle.columns.specs.declared.Hops.the-variants.{Up, Beyond}
+use Rattle.columns.specs.declared.Place.{Place}
+use Rattle.columns.specs.declared.Place.the-variants.{At, Nowhere}
+
+abbrev pub actorId : Actor → ℕ
+actorId a = a .id
+
+abbrev pub kindOf : Actor → ℕ
+kindOf a = a .kind
+
+abbrev pub ownerOf : Actor → ℕ
+ownerOf a = a .owner
+
+abbrev pub resourceId : Resource → ℕ
+resourceId o = o .id
+
+abbrev pub keeperOf : Resource → ℕ
+keeperOf o = o .keeper
+
+abbrev pub claimId : Claim → ℕ
+claimId c = c .id
+
+abbrev pub parentOf : Claim → ℕ
+parentOf c = c .parent
+
+abbrev pub grantorOf : Claim → ℕ
+grantorOf c = c .grantor
+
+abbrev pub holderOf : Claim → ℕ
+holderOf c = c .holder
+
+abbrev pub claimedOf : Claim → ℕ
+claimedOf c = c .resource
+
+abbrev pub rightsOf : Claim → ℕ
+rightsOf c = c .rights
+
+abbrev pub weightOf : Claim → ℕ
+weightOf c = c .weight
+
+-- the places below n of an array, the latest first
+unfoldable pub places : ℕ → List ℕ
+places zero = []
+places (suc n) = n ∷ places n
+
+-- the latest place below n at which the column holds x
+unfoldable pub latestPlace : List ℕ → ℕ → ℕ → Place
+latestPlace column zero x = Nowhere
+latestPlace column (suc n) x = let more = latestPlace column n x in cond (ltb n (length column) && eqb (getD column n 0) x) (At n) more
+
+-- whether a place holds x in one column and y in the other
+unfoldable pub beside : List ℕ → List ℕ → ℕ → ℕ → Bool
+beside [] other x y = false
+beside (a ∷ column) [] x y = false
+beside (a ∷ column) (b ∷ other) x y = (eqb x a && eqb y b) || beside column other x y
+
+-- the chain from the parent number p up, as places below n, by the columns of ids and of parent numbers
+abbrev pub chainPlaces : List ℕ → List ℕ → ℕ → ℕ → List ℕ
+chainPlaces ids parents n p = chain (λ j. getD ids j 0) (λ j. getD parents j 0) (places n) p
+
+-- the number of steps of a chain, where it is not more than the limit
+abbrev pub stepsUp : {A : Type 0} → List A → Hops
+stepsUp l = cond (leb (length l) hopLimit) (Up (length l)) Beyond

@@ -1,0 +1,230 @@
+-- What columns say of the lists that they are the columns of, and what the definitions over columns say place by place. Assumes nothing.
+use mathlib.Core.Path.{_≡_, refl, sym, ap, _∙_, fun-ext}
+use mathlib.Core.Bool.{Bool, true, false, _&&_}
+use mathlib.Core.List.{List, [], _∷_, map, reverse-append}
+use Prim.Native.Nat.{ℕ, zero, suc, _≤_, _<_, min}
+use native.Mathlib.Omega.{arith}
+use borrow.Author.Tests.{lt-ltb, le-ltb, eq-eqb, ne-eqb, le-leb, lt-leb, ltb-true, ltb-false, eqb-true, eqb-false, leb-true, leb-false}
+use lib.Dec.{eqb, ltb, leb}
+use lib.ListN.{length, take, getD, length-map, List·getD-map, List·getD-eq-default}
+use lib.Seq.{take-suc, take-all}
+use Rattle.lists.specs.Tests.{cases, and-left, and-right, and-both}
+use Rattle.lists.specs.Lists.{any}
+use Rattle.register.specs.Limits.{hopLimit}
+use Rattle.register.specs.Register.{noClaim}
+use Rattle.register.specs.Chain.{latest, chain, numbered, circling}
+use Rattle.register.specs.Laws.{chain-nil, chain-hit, chain-miss, chain-zero, chain-map, circling-map}
+use Rattle.register.specs.declared.Claim.{Claim}
+use Rattle.columns.specs.declared.Hops.the-variants.{Up, Beyond}
+use Rattle.columns.specs.declared.Place.the-variants.{At, Nowhere}
+use Rattle.columns.specs.Columns.{claimId, parentOf, grantorOf, holderOf, places, latestPlace, beside, chainPlaces, stepsUp}
+
+and-none : (a b : Bool) → b ≡ false → a && b ≡ false
+and-none true b e = e
+and-none false b e = refl
+
+-- whether place n of a column is there and holds x
+abbrev holds : List ℕ → ℕ → ℕ → Bool
+holds column n x = ltb n (length column) && eqb (getD column n 0) x
+
+module _ (column : List ℕ) (x : ℕ) where
+  -- below place 0 there is none
+  pub place-none : latestPlace column 0 x ≡ Nowhere
+  unfolding latestPlace
+  place-none = refl
+
+  place-here : (n : ℕ) → holds column n x ≡ true → latestPlace column (suc n) x ≡ At n
+  unfolding latestPlace
+  place-here n e = rw e
+
+  place-before : (n : ℕ) → holds column n x ≡ false → latestPlace column (suc n) x ≡ latestPlace column n x
+  unfolding latestPlace
+  place-before n e = rw e
+
+  pub place-hit : (n : ℕ) → n < length column → getD column n 0 ≡ x → latestPlace column (suc n) x ≡ At n
+  place-hit n h e = place-here n (rw (lt-ltb n (length column) h, eq-eqb (getD column n 0) x e))
+
+  pub place-miss : (n : ℕ) → n < length column → (getD column n 0 ≡ x → ⊥) → latestPlace column (suc n) x ≡ latestPlace column n x
+  place-miss n h e = place-before n (rw (lt-ltb n (length column) h, ne-eqb (getD column n 0) x e))
+
+  -- past the end of the column there is nothing, whatever is looked for
+  pub place-past : (n : ℕ) → length column ≤ n → latestPlace column (suc n) x ≡ latestPlace column n x
+  place-past n h = place-before n (rw (le-ltb n (length column) h))
+
+  pub place-within : (n : ℕ) → latestPlace column n x ≡ latestPlace column (min n (length column)) x
+  place-within zero = let none : min 0 (length column) ≡ 0 = omega arith in rw none
+  place-within (suc n) =
+      cases (ltb n (length column))
+      (λ e. let inside : min (suc n) (length column) ≡ suc n = omega (arith, ltb-true n (length column) e) in rw inside)
+      (λ e. let past : length column ≤ n = ltb-false n (length column) e in
+      let same : min (suc n) (length column) ≡ min n (length column) = omega arith in
+      rw same (place-past n past ∙ place-within n))
+
+  -- what is found stands below n, in the column, and is x
+  pub place-found : (n k : ℕ) → latestPlace column n x ≡ At k → (k < n) × (k < length column) × (getD column k 0 ≡ x)
+  place-found zero k q = let never : _≡_ {A = ℕ} 0 1 = cc place-none in absurd (omega arith)
+  place-found (suc n) k q =
+      cases (holds column n x)
+      (λ e. let same : n ≡ k = cc (place-here n e) in
+      rw (← same) (
+        omega arith,
+        ltb-true n (length column) (and-left (ltb n (length column)) (eqb (getD column n 0) x) e),
+        eqb-true (getD column n 0) x (and-right (ltb n (length column)) (eqb (getD column n 0) x) e),
+      ))
+      (λ e. let found = place-found n k (sym (place-before n e) ∙ q) in (omega (arith, found .0), found .1, found .2))
+
+-- a chain of places, one place more: it is taken where it holds the number looked for
+module _ (ids parents : List ℕ) where
+  pub chain-places-nil : (x : ℕ) → chainPlaces ids parents 0 x ≡ []
+  unfolding places
+  chain-places-nil x = chain-nil (λ j. getD ids j 0) (λ j. getD parents j 0) x
+
+  chain-places-hit : (n x : ℕ) → numbered (λ j. getD ids j 0) (λ j. getD parents j 0) x n ≡ true
+      → chainPlaces ids parents (suc n) x ≡ n ∷ chainPlaces ids parents n (getD parents n 0)
+  unfolding places
+  chain-places-hit n x e = chain-hit (λ j. getD ids j 0) (λ j. getD parents j 0) n (places n) x e
+
+  chain-places-miss : (n x : ℕ) → numbered (λ j. getD ids j 0) (λ j. getD parents j 0) x n ≡ false
+      → chainPlaces ids parents (suc n) x ≡ chainPlaces ids parents n x
+  unfolding places
+  chain-places-miss n x e = chain-miss (λ j. getD ids j 0) (λ j. getD parents j 0) n (places n) x e
+
+  -- past the end of the ids the number is 0, which names none
+  chain-places-past : (n x : ℕ) → length ids ≤ n → chainPlaces ids parents (suc n) x ≡ chainPlaces ids parents n x
+  chain-places-past n x h = chain-places-miss n x (rw (List·getD-eq-default ids 0 h) (zero-unnumbered x))
+    where
+      zero-unnumbered : (x : ℕ) → ltb 0 x && eqb 0 x ≡ false
+      zero-unnumbered zero = refl
+      zero-unnumbered (suc x) = rw (lt-ltb 0 (suc x) (omega arith)) (ne-eqb 0 (suc x) (λ q. omega arith))
+
+  pub chain-places-zero : (n : ℕ) → chainPlaces ids parents n 0 ≡ []
+  chain-places-zero n = chain-zero (λ j. getD ids j 0) (λ j. getD parents j 0) (places n)
+
+  -- the chain from x up begins where x stands latest
+  pub chain-places-at : (n x k : ℕ) → (x ≡ 0 → ⊥) → latestPlace ids n x ≡ At k
+      → chainPlaces ids parents n x ≡ k ∷ chainPlaces ids parents k (getD parents k 0)
+  chain-places-at zero x k h q = let never : _≡_ {A = ℕ} 0 1 = cc (place-none ids x) in absurd (omega arith)
+  chain-places-at (suc n) x k h q =
+      cases (ltb n (length ids))
+      (λ t. let inside : n < length ids = ltb-true n (length ids) t in
+      cases (eqb (getD ids n 0) x)
+      (λ e. let same : n ≡ k = cc (place-hit ids x n inside (eqb-true (getD ids n 0) x e)) in
+      rw (← same) (chain-places-hit n x (and-both (ltb 0 x) (eqb (getD ids n 0) x) (lt-ltb 0 x (omega arith)) e)))
+      (λ e. chain-places-miss n x (and-none (ltb 0 x) (eqb (getD ids n 0) x) e)
+      ∙ chain-places-at n x k h (sym (place-miss ids x n inside (eqb-false (getD ids n 0) x e)) ∙ q)))
+      (λ t. let past : length ids ≤ n = ltb-false n (length ids) t in
+      chain-places-past n x past ∙ chain-places-at n x k h (sym (place-past ids x n past) ∙ q))
+
+  -- no place holds x, so there is no chain
+  pub chain-places-nowhere : (n x : ℕ) → latestPlace ids n x ≡ Nowhere → chainPlaces ids parents n x ≡ []
+  chain-places-nowhere zero x q = chain-places-nil x
+  chain-places-nowhere (suc n) x q =
+      cases (ltb n (length ids))
+      (λ t. let inside : n < length ids = ltb-true n (length ids) t in
+      cases (eqb (getD ids n 0) x)
+      (λ e. let never : _≡_ {A = ℕ} 0 1 = cc (place-hit ids x n inside (eqb-true (getD ids n 0) x e)) in absurd (omega arith))
+      (λ e. chain-places-miss n x (and-none (ltb 0 x) (eqb (getD ids n 0) x) e)
+      ∙ chain-places-nowhere n x (sym (place-miss ids x n inside (eqb-false (getD ids n 0) x e)) ∙ q)))
+      (λ t. let past : length ids ≤ n = ltb-false n (length ids) t in
+      chain-places-past n x past ∙ chain-places-nowhere n x (sym (place-past ids x n past) ∙ q))
+
+-- the limit of the steps: a chain within it, and one beyond it
+module _ {A : Type 0} (l : List A) where
+  pub steps-within : (k : ℕ) → length l ≡ k → k ≤ hopLimit → stepsUp l ≡ Up k
+  steps-within k e h = rw (e, le-leb k hopLimit h)
+
+  pub steps-beyond : hopLimit < length l → stepsUp l ≡ Beyond
+  steps-beyond h = rw (lt-leb (length l) hopLimit h)
+
+  -- what the number of steps says of the chain: one of as many steps as the limit is told from a longer one
+  pub steps-up-within : (k : ℕ) → stepsUp l ≡ Up k → (length l ≡ k) × (k ≤ hopLimit)
+  steps-up-within k q =
+      cases (leb (length l) hopLimit)
+      (λ e. let within : length l ≤ hopLimit = leb-true (length l) hopLimit e in
+      let same : length l ≡ k = cc (steps-within (length l) refl within) in (same, omega arith))
+      (λ e. let never : _≡_ {A = ℕ} 0 1 = cc (steps-beyond (leb-false (length l) hopLimit e)) in absurd (omega arith))
+
+  pub steps-up-beyond : stepsUp l ≡ Beyond → hopLimit < length l
+  steps-up-beyond q =
+      cases (leb (length l) hopLimit)
+      (λ e. let never : _≡_ {A = ℕ} 0 1 = cc (steps-within (length l) refl (leb-true (length l) hopLimit e)) in absurd (omega arith))
+      (λ e. leb-false (length l) hopLimit e)
+
+-- the columns of any list
+module _ {A : Type 0} where
+  -- the elements at the places below n are the first n, the latest first
+  pub places-latest : (d : A) (l : List A) (n : ℕ) → n ≤ length l → map (λ j. getD l j d) (places n) ≡ latest (take n l)
+  unfolding places
+  places-latest d l zero h = refl
+  places-latest d l (suc n) h =
+      let inside : n < length l = omega arith in
+      let before : n ≤ length l = omega arith in
+      rw (take-suc l n d, reverse-append (take n l) (getD l n d ∷ []), places-latest d l n before)
+
+  -- a number among the first n of a column is that of one of the first n
+  pub among-natural : (f : A → ℕ) (x n : ℕ) (l : List A) → any (eqb x) (take n (map f l)) ≡ any (λ a. eqb x (f a)) (take n l)
+  among-natural f x zero l = refl
+  among-natural f x (suc n) [] = refl
+  among-natural f x (suc n) (a ∷ l) = rw (among-natural f x n l)
+
+  pub beside-natural : (f g : A → ℕ) (x y n : ℕ) (l : List A)
+      → beside (take n (map f l)) (take n (map g l)) x y ≡ any (λ a. eqb x (f a) && eqb y (g a)) (take n l)
+  unfolding beside
+  beside-natural f g x y zero l = refl
+  beside-natural f g x y (suc n) [] = refl
+  beside-natural f g x y (suc n) (a ∷ l) = rw (beside-natural f g x y n l)
+
+-- a column read at a place is the field of what stands there
+column-at : (f : Claim → ℕ) → f noClaim ≡ 0 → (cs : List Claim) → _≡_ {A = ℕ → ℕ} (λ j. getD (map f cs) j 0) (λ j. f (getD cs j noClaim))
+column-at f z cs = fun-ext (λ j. rw z at (List·getD-map f cs j noClaim))
+
+-- the chains of the first n of a list of claims
+module _ (cs : List Claim) where
+  -- the places of a chain are those of the chain's claims
+  pub chain-natural : (n p : ℕ)
+      → map (λ j. getD cs j noClaim) (chainPlaces (map claimId cs) (map parentOf cs) n p) ≡ chain claimId parentOf (latest (take n cs)) p
+  chain-natural zero p = rw (chain-places-nil (map claimId cs) (map parentOf cs) p, chain-nil claimId parentOf p)
+  chain-natural (suc n) p =
+      cases (ltb n (length cs))
+      (λ t. let inside : suc n ≤ length cs = ltb-true n (length cs) t in
+      rw (column-at claimId refl cs, column-at parentOf refl cs, ← places-latest noClaim cs (suc n) inside)
+      (sym (chain-map (λ j. getD cs j noClaim) claimId parentOf (places (suc n)) p)))
+      (λ t. let past : length cs ≤ n = ltb-false n (length cs) t in
+      let ended : length (map claimId cs) ≤ n = omega (arith, length-map cs claimId) in
+      let whole : take (suc n) cs ≡ take n cs = take-all (suc n) cs (omega arith) ∙ sym (take-all n cs past) in
+      rw (chain-places-past (map claimId cs) (map parentOf cs) n p ended, whole) (chain-natural n p))
+
+  pub hop-count-natural : (n p : ℕ)
+      → stepsUp (chainPlaces (map claimId cs) (map parentOf cs) n p) ≡ stepsUp (chain claimId parentOf (latest (take n cs)) p)
+  hop-count-natural n p =
+      rw (← chain-natural n p, length-map (chainPlaces (map claimId cs) (map parentOf cs) n p) (λ j. getD cs j noClaim))
+
+  pub circling-natural : (n p h : ℕ)
+      → circling (λ j. getD (map grantorOf cs) j 0) (λ j. getD (map holderOf cs) j 0) (chainPlaces (map claimId cs) (map parentOf cs) n p) h
+      ≡ circling grantorOf holderOf (chain claimId parentOf (latest (take n cs)) p) h
+  circling-natural n p h =
+      ap (λ f. circling f (λ j. getD (map holderOf cs) j 0) (chainPlaces (map claimId cs) (map parentOf cs) n p) h) (column-at grantorOf refl cs)
+      ∙ ap (λ f. circling (λ j. grantorOf (getD cs j noClaim)) f (chainPlaces (map claimId cs) (map parentOf cs) n p) h) (column-at holderOf refl cs)
+      ∙ sym (circling-map (λ j. getD cs j noClaim) grantorOf holderOf (chainPlaces (map claimId cs) (map parentOf cs) n p) h)
+      ∙ ap (λ l. circling grantorOf holderOf l h) (chain-natural n p)
+
+  -- what is found is the claim of that number, and the chain from it up begins with it
+  pub latest-place-found : (n x k : ℕ) → latestPlace (map claimId cs) n x ≡ At k
+      → (k < n) × (k < length cs) × (claimId (getD cs k noClaim) ≡ x)
+  latest-place-found n x k q =
+      let found = place-found (map claimId cs) x n k q in
+      (found .0, omega (arith, found .1, length-map cs claimId), sym (List·getD-map claimId cs k noClaim) ∙ found .2)
+
+  pub chain-found : (n x k : ℕ) → (x ≡ 0 → ⊥) → latestPlace (map claimId cs) n x ≡ At k
+      → chain claimId parentOf (latest (take n cs)) x
+      ≡ getD cs k noClaim ∷ chain claimId parentOf (latest (take k cs)) (parentOf (getD cs k noClaim))
+  chain-found n x k h q =
+      sym (chain-natural n x)
+      ∙ ap (map (λ j. getD cs j noClaim)) (chain-places-at (map claimId cs) (map parentOf cs) n x k h q)
+      ∙ ap (λ l. getD cs k noClaim ∷ l) (chain-natural k (getD (map parentOf cs) k 0))
+      ∙ ap (λ p. getD cs k noClaim ∷ chain claimId parentOf (latest (take k cs)) p) (List·getD-map parentOf cs k noClaim)
+
+  -- what is nowhere has no chain
+  pub chain-nowhere : (n x : ℕ) → latestPlace (map claimId cs) n x ≡ Nowhere → chain claimId parentOf (latest (take n cs)) x ≡ []
+  chain-nowhere n x q =
+      sym (chain-natural n x) ∙ ap (map (λ j. getD cs j noClaim)) (chain-places-nowhere (map claimId cs) (map parentOf cs) n x q)

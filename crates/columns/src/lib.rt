@@ -1,0 +1,291 @@
+// The register's numbers as columns, and what is looked up in them: judgements over many claims look at columns that are lent to
+// them, and copy nothing. Every call answers for every column and count: past the end of a column there is nothing, and a number
+// is 0.
+ghost use mathlib.Core.Path.{_≡_};
+ghost use mathlib.Core.List.{map};
+ghost use Prim.Native.Nat.{min};
+ghost use lib.Dec.{eqb};
+ghost use lib.ListN.{getD, take};
+ghost use Rattle.lists.specs.Lists.{any};
+ghost use Rattle.register.specs.Chain.{circling};
+ghost use Rattle.columns.specs.Columns.{actorId, kindOf, ownerOf, resourceId, keeperOf, claimId, parentOf, grantorOf, holderOf, claimedOf, rightsOf, weightOf};
+ghost use Rattle.columns.specs.Columns.{latestPlace, chainPlaces, stepsUp, beside};
+use register::Actors;
+use register::Claims;
+use register::Register;
+use register::Resources;
+
+// Where a number stands in a column.
+pub enum Place {
+    At(usize),
+    Nowhere,
+}
+
+// The number of steps up to the root, or that there is no root within the limit.
+pub enum Hops {
+    Up(usize),
+    Beyond,
+}
+
+pub fn actor_ids(k: Actors) -> [u32; Register::ACTORS]
+    ensures { λ r. ⌜ r ≡ map actorId (k .list) ⌝ }
+{
+    let mut column = [0u32; Register::ACTORS];
+    let mut i: usize = 0;
+    while i < Register::ACTORS {
+        column[i] = k.list[i].id;
+        i += 1;
+    }
+    column
+}
+
+pub fn kinds(k: Actors) -> [u32; Register::ACTORS]
+    ensures { λ r. ⌜ r ≡ map kindOf (k .list) ⌝ }
+{
+    let mut column = [0u32; Register::ACTORS];
+    let mut i: usize = 0;
+    while i < Register::ACTORS {
+        column[i] = k.list[i].kind;
+        i += 1;
+    }
+    column
+}
+
+pub fn owners(k: Actors) -> [u32; Register::ACTORS]
+    ensures { λ r. ⌜ r ≡ map ownerOf (k .list) ⌝ }
+{
+    let mut column = [0u32; Register::ACTORS];
+    let mut i: usize = 0;
+    while i < Register::ACTORS {
+        column[i] = k.list[i].owner;
+        i += 1;
+    }
+    column
+}
+
+pub fn resource_ids(k: Resources) -> [u32; Register::RESOURCES]
+    ensures { λ r. ⌜ r ≡ map resourceId (k .list) ⌝ }
+{
+    let mut column = [0u32; Register::RESOURCES];
+    let mut i: usize = 0;
+    while i < Register::RESOURCES {
+        column[i] = k.list[i].id;
+        i += 1;
+    }
+    column
+}
+
+pub fn keepers(k: Resources) -> [u32; Register::RESOURCES]
+    ensures { λ r. ⌜ r ≡ map keeperOf (k .list) ⌝ }
+{
+    let mut column = [0u32; Register::RESOURCES];
+    let mut i: usize = 0;
+    while i < Register::RESOURCES {
+        column[i] = k.list[i].keeper;
+        i += 1;
+    }
+    column
+}
+
+pub fn claim_ids(k: Claims) -> [u32; Register::CLAIMS]
+    ensures { λ r. ⌜ r ≡ map claimId (k .list) ⌝ }
+{
+    let mut column = [0u32; Register::CLAIMS];
+    let mut i: usize = 0;
+    while i < Register::CLAIMS {
+        column[i] = k.list[i].id;
+        i += 1;
+    }
+    column
+}
+
+pub fn parents(k: Claims) -> [u32; Register::CLAIMS]
+    ensures { λ r. ⌜ r ≡ map parentOf (k .list) ⌝ }
+{
+    let mut column = [0u32; Register::CLAIMS];
+    let mut i: usize = 0;
+    while i < Register::CLAIMS {
+        column[i] = k.list[i].parent;
+        i += 1;
+    }
+    column
+}
+
+pub fn grantors(k: Claims) -> [u32; Register::CLAIMS]
+    ensures { λ r. ⌜ r ≡ map grantorOf (k .list) ⌝ }
+{
+    let mut column = [0u32; Register::CLAIMS];
+    let mut i: usize = 0;
+    while i < Register::CLAIMS {
+        column[i] = k.list[i].grantor;
+        i += 1;
+    }
+    column
+}
+
+pub fn holders(k: Claims) -> [u32; Register::CLAIMS]
+    ensures { λ r. ⌜ r ≡ map holderOf (k .list) ⌝ }
+{
+    let mut column = [0u32; Register::CLAIMS];
+    let mut i: usize = 0;
+    while i < Register::CLAIMS {
+        column[i] = k.list[i].holder;
+        i += 1;
+    }
+    column
+}
+
+pub fn claimed(k: Claims) -> [u32; Register::CLAIMS]
+    ensures { λ r. ⌜ r ≡ map claimedOf (k .list) ⌝ }
+{
+    let mut column = [0u32; Register::CLAIMS];
+    let mut i: usize = 0;
+    while i < Register::CLAIMS {
+        column[i] = k.list[i].resource;
+        i += 1;
+    }
+    column
+}
+
+pub fn rights(k: Claims) -> [u32; Register::CLAIMS]
+    ensures { λ r. ⌜ r ≡ map rightsOf (k .list) ⌝ }
+{
+    let mut column = [0u32; Register::CLAIMS];
+    let mut i: usize = 0;
+    while i < Register::CLAIMS {
+        column[i] = k.list[i].rights;
+        i += 1;
+    }
+    column
+}
+
+pub fn weights(k: Claims) -> [u32; Register::CLAIMS]
+    ensures { λ r. ⌜ r ≡ map weightOf (k .list) ⌝ }
+{
+    let mut column = [0u32; Register::CLAIMS];
+    let mut i: usize = 0;
+    while i < Register::CLAIMS {
+        column[i] = k.list[i].weight;
+        i += 1;
+    }
+    column
+}
+
+// The lesser of two numbers.
+pub fn least(a: usize, b: usize) -> usize
+    ensures { λ r. ⌜ r ≡ min a b ⌝ }
+{
+    if a < b { a } else { b }
+}
+
+// The number at a place of a column, 0 past its end.
+pub fn number_at(column: &[u32], at: usize) -> u32
+    ensures { λ r. ⌜ r ≡ getD (now (column .entry)) at 0 ⌝ }
+{
+    if at < column.len() { column[at] } else { 0 }
+}
+
+// Whether `x` stands among the first `n` of a column.
+pub fn is_among(column: &[u32], n: usize, x: u32) -> bool
+    ensures { λ r. ⌜ r ≡ any (eqb x) (take n (now (column .entry))) ⌝ }
+{
+    let top = least(n, column.len());
+    let mut hit = false;
+    let mut i: usize = 0;
+    while i < top {
+        hit = hit | (x == column[i]);
+        i += 1;
+    }
+    hit
+}
+
+// Whether, among the first `n` of two columns, a place holds `x` in the one and `y` in the other.
+pub fn is_beside<'a>(column: &'a [u32], other: &'a [u32], n: usize, x: u32, y: u32) -> bool
+    ensures { λ r. ⌜ r ≡ beside (take n (now (column .entry))) (take n (now (other .entry))) x y ⌝ }
+{
+    let top = least(n, least(column.len(), other.len()));
+    let mut hit = false;
+    let mut i: usize = 0;
+    while i < top {
+        hit = hit | ((x == column[i]) & (y == other[i]));
+        i += 1;
+    }
+    hit
+}
+
+// The latest place below `n` at which a column holds `x`.
+pub fn latest_place(column: &[u32], n: usize, x: u32) -> Place
+    ensures { λ r. ⌜ r ≡ latestPlace (now (column .entry)) n x ⌝ }
+{
+    let mut i = least(n, column.len());
+    while 0 < i {
+        i -= 1;
+        if column[i] == x {
+            return Place::At(i);
+        }
+    }
+    Place::Nowhere
+}
+
+// The walk up the chain from the parent number `p`, over the first `n` claims by their columns: at most 16 steps.
+pub fn hop_count<'a>(ids: &'a [u32], parents: &'a [u32], n: usize, p: u32) -> Hops
+    ensures { λ r. ⌜ r ≡ stepsUp (chainPlaces (now (ids .entry)) (now (parents .entry)) n p) ⌝ }
+{
+    let mut below = n;
+    let mut next = p;
+    let mut steps: usize = 0;
+    while steps <= Register::HOPS {
+        if next == 0 {
+            return Hops::Up(steps);
+        }
+        let place = latest_place(ids, below, next);
+        match place {
+            Place::At(at) => {
+                below = at;
+                next = number_at(parents, at);
+                steps += 1;
+            }
+            Place::Nowhere => {
+                return Hops::Up(steps);
+            }
+        }
+    }
+    Hops::Beyond
+}
+
+// Whether `h` holds a claim on the chain from the parent number `p` up, or is the grantor of that chain's root.
+pub fn circles<'a>(
+    ids: &'a [u32],
+    parents: &'a [u32],
+    grantors: &'a [u32],
+    holders: &'a [u32],
+    n: usize,
+    p: u32,
+    h: u32,
+) -> bool
+    ensures { λ r. ⌜ r ≡ circling (λ j. getD (now (grantors .entry)) j 0) (λ j. getD (now (holders .entry)) j 0) (chainPlaces (now (ids .entry)) (now (parents .entry)) n p) h ⌝ }
+{
+    let mut below = n;
+    let mut next = p;
+    let mut top = false;
+    while 0 < below {
+        if next == 0 {
+            return top;
+        }
+        let place = latest_place(ids, below, next);
+        match place {
+            Place::At(member) => {
+                if number_at(holders, member) == h {
+                    return true;
+                }
+                top = number_at(grantors, member) == h;
+                next = number_at(parents, member);
+                below = member;
+            }
+            Place::Nowhere => {
+                return top;
+            }
+        }
+    }
+    top
+}

@@ -1,0 +1,109 @@
+-- What holds of each element of a list, over the elements behind it or alone, and what follows from it. Assumes nothing.
+use mathlib.Core.Path.{_≡_, refl}
+use mathlib.Core.Bool.{Bool, true, false, _||_}
+use mathlib.Core.List.{List, [], _∷_, _++_, map}
+use native.Mathlib.Omega.{arith}
+use Prim.Native.Nat.{ℕ}
+use Rattle.lists.specs.Tests.{ands, and-left, and-right, and-both, or-left, or-right, or-middle}
+use Rattle.lists.specs.Lists.{any, every}
+
+-- a list taken apart, with its equation
+pub list-cases : {A C : Type 0} (L : List C) → (L ≡ [] → A) → ((c : C) (M : List C) → L ≡ c ∷ M → A) → A
+list-cases [] f g = f refl
+list-cases (c ∷ M) f g = g c M refl
+
+-- a list with an element is not empty
+pub cons-clash : {A C : Type 0} {c : C} {L : List C} → c ∷ L ≡ [] → A
+cons-clash e = let never : _≡_ {A = ℕ} 0 1 = cc in absurd (omega arith)
+
+module _ {C : Type 0} where
+  -- F holds of each element and the elements behind it
+  abbrev pub Each : (List C → C → Type 0) → List C → Type 0
+  Each F [] = Unit {0}
+  Each F (c ∷ L) = F L c × Each F L
+
+  -- Q holds of each element
+  abbrev pub All : (C → Type 0) → List C → Type 0
+  All Q L = Each (λ M c. Q c) L
+
+  pub each-all : (F : List C → C → Type 0) → ((L : List C) (c : C) → F L c) → (L : List C) → Each F L
+  each-all F f [] = tt
+  each-all F f (c ∷ L) = (f L c, each-all F f L)
+
+  pub each-imp : (F G : List C → C → Type 0) → ((L : List C) (c : C) → F L c → G L c) → (L : List C) → Each F L → Each G L
+  each-imp F G f [] h = tt
+  each-imp F G f (c ∷ L) h = (f L c (h .0), each-imp F G f L (h .1))
+
+  pub all-imp : (Q R : C → Type 0) → ((c : C) → Q c → R c) → (L : List C) → All Q L → All R L
+  all-imp Q R f = each-imp (λ L c. Q c) (λ L c. R c) (λ L c. f c)
+
+  pub each-both : (F G K : List C → C → Type 0) → ((L : List C) (c : C) → F L c → G L c → K L c) → (L : List C) → Each F L → Each G L → Each K L
+  each-both F G K f [] h k = tt
+  each-both F G K f (c ∷ L) h k = (f L c (h .0) (k .0), each-both F G K f L (h .1) (k .1))
+
+  pub all-both : (Q R S : C → Type 0) → ((c : C) → Q c → R c → S c) → (L : List C) → All Q L → All R L → All S L
+  all-both Q R S f = each-both (λ L c. Q c) (λ L c. R c) (λ L c. S c) (λ L c. f c)
+
+  -- what holds of each holds of each behind it too
+  pub each-behind : (F : List C → C → Type 0) (L : List C) → Each F L → Each (λ M c. F M c × Each F M) L
+  each-behind F [] h = tt
+  each-behind F (c ∷ L) h = (h, each-behind F L (h .1))
+
+  pub all-append : (Q : C → Type 0) (L M : List C) → All Q L → All Q M → All Q (L ++ M)
+  all-append Q [] M h k = k
+  all-append Q (c ∷ L) M h k = (h .0, all-append Q L M (h .1) k)
+
+  pub all-append-right : (Q : C → Type 0) (L M : List C) → All Q (L ++ M) → All Q M
+  all-append-right Q [] M h = h
+  all-append-right Q (c ∷ L) M h = all-append-right Q L M (h .1)
+
+  -- no element passes the test exactly where each fails it
+  pub none-all : (p : C → Bool) (L : List C) → any p L ≡ false → All (λ c. p c ≡ false) L
+  none-all p [] h = tt
+  none-all p (c ∷ L) h = (or-left (p c) (any p L) h, none-all p L (or-right (p c) (any p L) h))
+
+  pub all-none : (p : C → Bool) (L : List C) → All (λ c. p c ≡ false) L → any p L ≡ false
+  all-none p [] h = refl
+  all-none p (c ∷ L) h = rw (h .0) (all-none p L (h .1))
+
+  -- every element passes the test exactly where each passes it
+  pub every-all : (p : C → Bool) (L : List C) → every p L ≡ true → All (λ c. p c ≡ true) L
+  every-all p [] h = tt
+  every-all p (c ∷ L) h = (and-left (p c) (every p L) h, every-all p L (and-right (p c) (every p L) h))
+
+  pub all-every : (p : C → Bool) (L : List C) → All (λ c. p c ≡ true) L → every p L ≡ true
+  all-every p [] h = refl
+  all-every p (c ∷ L) h = and-both (p c) (every p L) (h .0) (all-every p L (h .1))
+
+  pub any-same : (p q : C → Bool) (L : List C) → All (λ c. p c ≡ q c) L → any p L ≡ any q L
+  any-same p q [] h = refl
+  any-same p q (c ∷ L) h = rw (h .0, any-same p q L (h .1))
+
+  -- some element passes one of two tests where some passes the first or some the second
+  pub any-either : (p q : C → Bool) (L : List C) → any (λ c. p c || q c) L ≡ any p L || any q L
+  any-either p q [] = refl
+  any-either p q (c ∷ L) = rw (any-either p q L) (or-middle (p c) (q c) (any p L) (any q L))
+
+-- all of some tests, taken apart
+pub ands-out : (l : List Bool) → ands l ≡ true → All (λ b. b ≡ true) l
+ands-out [] h = tt
+ands-out (b ∷ l) h = (and-left b (ands l) h, ands-out l (and-right b (ands l) h))
+
+-- elements read through f
+module _ {E C : Type 0} (f : E → C) where
+  pub any-map : (p : C → Bool) (L : List E) → any p (map f L) ≡ any (λ e. p (f e)) L
+  any-map p [] = refl
+  any-map p (e ∷ L) = rw (any-map p L)
+
+  pub every-map : (p : C → Bool) (L : List E) → every p (map f L) ≡ every (λ e. p (f e)) L
+  every-map p [] = refl
+  every-map p (e ∷ L) = rw (every-map p L)
+
+  -- what holds of each read through f holds of each of the mapped list, and back
+  pub all-map : (Q : C → Type 0) (L : List E) → All (λ e. Q (f e)) L → All Q (map f L)
+  all-map Q [] h = tt
+  all-map Q (e ∷ L) h = (h .0, all-map Q L (h .1))
+
+  pub all-unmap : (Q : C → Type 0) (L : List E) → All Q (map f L) → All (λ e. Q (f e)) L
+  all-unmap Q [] h = tt
+  all-unmap Q (e ∷ L) h = (h .0, all-unmap Q L (h .1))

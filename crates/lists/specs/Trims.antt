@@ -1,0 +1,90 @@
+-- Lists trimmed of the elements that a test takes, where the test looks at what stands behind an element too. Assumes nothing.
+use mathlib.Core.Path.{_≡_, refl, ap, sym, _∙_}
+use mathlib.Core.Bool.{Bool, true, false, cond}
+use mathlib.Core.List.{List, [], _∷_, _++_, map, reverse, reverse-cons, append-nil}
+use Prim.Native.Nat.{_≤_}
+use native.Mathlib.Omega.{arith}
+use lib.ListN.{length}
+use Rattle.lists.specs.Tests.{cases}
+use Rattle.lists.specs.Each.{Each, All}
+
+module _ {C : Type 0} where
+  -- what is left without the elements that the test takes, in their order
+  unfoldable pub trim : (List C → C → Bool) → List C → List C
+  trim t [] = []
+  trim t (c ∷ L) = let rest = trim t L in cond (t L c) rest (c ∷ rest)
+
+  -- the same by a test that looks at the element alone
+  abbrev pub sift : (C → Bool) → List C → List C
+  sift p L = trim (λ M c. p c) L
+
+  module _ (t : List C → C → Bool) where
+    pub trim-nil : trim t [] ≡ []
+    unfolding trim
+    trim-nil = refl
+
+    pub trim-hit : (c : C) (L : List C) → t L c ≡ true → trim t (c ∷ L) ≡ trim t L
+    unfolding trim
+    trim-hit c L e = rw e
+
+    pub trim-miss : (c : C) (L : List C) → t L c ≡ false → trim t (c ∷ L) ≡ c ∷ trim t L
+    unfolding trim
+    trim-miss c L e = rw e
+
+    -- what holds of nothing, of an element taken and of an element left holds of every trimmed list
+    pub trim-ind : (M : List C → List C → Type 0) → M [] []
+        → ((c : C) (L : List C) → t L c ≡ true → M L (trim t L) → M (c ∷ L) (trim t L))
+        → ((c : C) (L : List C) → t L c ≡ false → M L (trim t L) → M (c ∷ L) (c ∷ trim t L)) → (L : List C) → M L (trim t L)
+    trim-ind M z f g [] = rw trim-nil z
+    trim-ind M z f g (c ∷ L) = let ih = trim-ind M z f g L in
+        cases (t L c) (λ e. rw (trim-hit c L e) (f c L e ih)) (λ e. rw (trim-miss c L e) (g c L e ih))
+
+    pub all-trim : (Q : C → Type 0) (L : List C) → All Q L → All Q (trim t L)
+    all-trim Q = trim-ind (λ L K. All Q L → All Q K) (λ h. h) (λ c L e ih h. ih (h .1)) (λ c L e ih h. (h .0, ih (h .1)))
+
+    pub trim-length : (L : List C) → length (trim t L) ≤ length L
+    trim-length = trim-ind (λ L K. length K ≤ length L) (omega arith) (λ c L e ih. omega arith) (λ c L e ih. omega arith)
+
+    pub trim-none : (L : List C) → Each (λ M c. t M c ≡ false) L → trim t L ≡ L
+    trim-none [] h = trim-nil
+    trim-none (c ∷ L) h = trim-miss c L (h .0) ∙ ap (λ K. c ∷ K) (trim-none L (h .1))
+
+  pub trim-same : (t u : List C → C → Bool) (L : List C) → Each (λ M c. t M c ≡ u M c) L → trim t L ≡ trim u L
+  trim-same t u = trim-ind t (λ L K. Each (λ M c. t M c ≡ u M c) L → K ≡ trim u L) (λ h. sym (trim-nil u))
+      (λ c L e ih h. ih (h .1) ∙ sym (trim-hit u c L (sym (h .0) ∙ e))) (λ c L e ih h. ap (λ K. c ∷ K) (ih (h .1)) ∙ sym (trim-miss u c L (sym (h .0) ∙ e)))
+
+  -- to trim by u, and what is left by t, is to trim by s, where t looks at what u leaves
+  pub trim-trim : (s t u : List C → C → Bool) (L : List C) → Each (λ M c. (u M c ≡ true → s M c ≡ true) × (u M c ≡ false → t (trim u M) c ≡ s M c)) L
+      → trim t (trim u L) ≡ trim s L
+  trim-trim s t u = trim-ind u (λ L K. Each (λ M c. (u M c ≡ true → s M c ≡ true) × (u M c ≡ false → t (trim u M) c ≡ s M c)) L → trim t K ≡ trim s L)
+      (λ h. trim-nil t ∙ sym (trim-nil s)) (λ c L e ih h. ih (h .1) ∙ sym (trim-hit s c L (h .0 .0 e)))
+      (λ c L e ih h. cases (s L c) (λ f. trim-hit t c (trim u L) (h .0 .1 e ∙ f) ∙ ih (h .1) ∙ sym (trim-hit s c L f))
+      (λ f. trim-miss t c (trim u L) (h .0 .1 e ∙ f) ∙ ap (λ K. c ∷ K) (ih (h .1)) ∙ sym (trim-miss s c L f)))
+
+  pub sift-append : (p : C → Bool) (L M : List C) → sift p (L ++ M) ≡ sift p L ++ sift p M
+  sift-append p [] M = rw (trim-nil (λ M c. p c))
+  sift-append p (c ∷ L) M =
+      cases (p c) (λ e. rw (trim-hit (λ M c. p c) c (L ++ M) e, trim-hit (λ M c. p c) c L e) (sift-append p L M))
+      (λ e. rw (trim-miss (λ M c. p c) c (L ++ M) e, trim-miss (λ M c. p c) c L e, sift-append p L M))
+
+  -- a test that looks at the element alone may be put to a list in either order
+  pub sift-reverse : (p : C → Bool) (L : List C) → sift p (reverse L) ≡ reverse (sift p L)
+  sift-reverse p [] = rw (trim-nil (λ M c. p c))
+  sift-reverse p (c ∷ L) = rw (reverse-cons c L, sift-append p (reverse L) (c ∷ []), sift-reverse p L)
+      (cases (p c) (λ e. rw (trim-hit (λ M c. p c) c [] e, trim-nil (λ M c. p c), trim-hit (λ M c. p c) c L e) (append-nil (reverse (sift p L))))
+      (λ e. rw (trim-miss (λ M c. p c) c [] e, trim-nil (λ M c. p c), trim-miss (λ M c. p c) c L e) (sym (reverse-cons c (sift p L)))))
+
+  -- a test that takes every element leaves none
+  pub sift-every : (p : C → Bool) (L : List C) → All (λ c. p c ≡ true) L → sift p L ≡ []
+  sift-every p [] h = trim-nil (λ M c. p c)
+  sift-every p (c ∷ L) h = trim-hit (λ M c. p c) c L (h .0) ∙ sift-every p L (h .1)
+
+  -- nothing that is left passes the test
+  pub sift-spared : (p : C → Bool) (L : List C) → All (λ c. p c ≡ false) (sift p L)
+  sift-spared p = trim-ind (λ M c. p c) (λ L K. All (λ c. p c ≡ false) K) tt (λ c L e ih. ih) (λ c L e ih. (e, ih))
+
+-- elements read through f
+pub trim-map : {E C : Type 0} (f : E → C) (t : List C → C → Bool) (u : List E → E → Bool) → ((M : List E) (e : E) → t (map f M) (f e) ≡ u M e)
+    → (L : List E) → trim t (map f L) ≡ map f (trim u L)
+trim-map f t u same = trim-ind u (λ L K. trim t (map f L) ≡ map f K) (trim-nil t)
+    (λ e L k ih. trim-hit t (f e) (map f L) (same L e ∙ k) ∙ ih) (λ e L k ih. trim-miss t (f e) (map f L) (same L e ∙ k) ∙ ap (λ K. f e ∷ K) ih)

@@ -1,0 +1,48 @@
+-- The chain of a claim, its hop count, and when a claim is live.
+use mathlib.Core.Bool.{Bool, false, _&&_, _||_, cond}
+use mathlib.Core.List.{List, [], _∷_, reverse}
+use Prim.Native.Nat.{ℕ}
+use lib.Dec.{eqb, ltb}
+use lib.ListN.{length}
+use Rattle.lists.specs.Lists.{any}
+use Rattle.register.specs.declared.Claim.{Claim}
+
+-- a list from its last element to its first: what stands earlier comes later
+abbrev pub latest : {A : Type 0} → List A → List A
+latest l = reverse l
+
+module _ {C : Type 0} (id up : C → ℕ) where
+  -- whether p is the number of c: 0 is no claim's number
+  abbrev pub numbered : ℕ → C → Bool
+  numbered p c = ltb 0 p && eqb (id c) p
+
+  -- the one numbered p, the one that its parent number names, and so on up to a root; latest first, so a parent stands further along
+  unfoldable pub chain : List C → ℕ → List C
+  chain [] p = []
+  chain (c ∷ earlier) p = let here = c ∷ chain earlier (up c) in let past = chain earlier p in cond (numbered p c) here past
+
+-- the chain above a claim, among those earlier than it, latest first: the chain without the claim itself
+abbrev pub above : List Claim → Claim → List Claim
+above earlier c = chain (λ d. d .id) (λ d. d .parent) earlier (c .parent)
+
+-- the hop count of a claim: the number of steps up to the root
+abbrev pub hopsOf : List Claim → Claim → ℕ
+hopsOf earlier c = length (above earlier c)
+
+-- the chain of a claim: the claim, its parent, and so on
+abbrev pub chainOf : List Claim → Claim → List Claim
+chainOf earlier c = c ∷ above earlier c
+
+-- whether h granted the root of a chain, which is its last member
+unfoldable pub rootGranted : {A : Type 0} → (A → ℕ) → List A → ℕ → Bool
+rootGranted grantor [] h = false
+rootGranted grantor (c ∷ []) h = eqb (grantor c) h
+rootGranted grantor (c ∷ d ∷ l) h = rootGranted grantor (d ∷ l) h
+
+-- whether h holds a claim on a chain, or granted its root
+unfoldable pub circling : {A : Type 0} → (A → ℕ) → (A → ℕ) → List A → ℕ → Bool
+circling grantor holder l h = any (λ c. eqb (holder c) h) l || rootGranted grantor l h
+
+-- a claim is live at a moment when its weight is above 0 and its expiry is 0 or above that moment
+abbrev pub live : ℕ → Claim → Bool
+live now c = ltb 0 (c .weight) && (eqb (c .expiry) 0 || ltb now (c .expiry))

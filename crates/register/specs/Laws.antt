@@ -1,0 +1,88 @@
+-- Laws of chains, for any things that have a number and a parent's number. Assumes nothing.
+use mathlib.Core.Path.{_≡_, refl, ap, sym, _∙_}
+use mathlib.Core.Bool.{true, false, and-false}
+use mathlib.Core.List.{List, [], _∷_, map}
+use Prim.Native.Nat.{ℕ, _≤_, _<_}
+use native.Mathlib.Omega.{arith}
+use borrow.Author.Tests.{eqb-true, eq-eqb, ne-eqb, lt-ltb}
+use lib.Dec.{eqb, ltb}
+use lib.ListN.{length}
+use Rattle.lists.specs.Tests.{cases, and-right}
+use Rattle.lists.specs.Each.{All, cons-clash, any-map}
+use Rattle.register.specs.Chain.{numbered, chain, rootGranted, circling}
+
+module _ {C : Type 0} (id up : C → ℕ) where
+  pub chain-nil : (p : ℕ) → chain id up [] p ≡ []
+  unfolding chain
+  chain-nil p = refl
+
+  pub chain-hit : (c : C) (L : List C) (p : ℕ) → numbered id up p c ≡ true → chain id up (c ∷ L) p ≡ c ∷ chain id up L (up c)
+  unfolding chain
+  chain-hit c L p e = rw e
+
+  pub chain-miss : (c : C) (L : List C) (p : ℕ) → numbered id up p c ≡ false → chain id up (c ∷ L) p ≡ chain id up L p
+  unfolding chain
+  chain-miss c L p e = rw e
+
+  -- what holds of the chains of no claim, of a claim found and of a claim passed over holds of every chain
+  pub chain-ind : (M : List C → ℕ → List C → Type 0) → ((p : ℕ) → M [] p [])
+      → ((c : C) (L : List C) (p : ℕ) → numbered id up p c ≡ true → M L (up c) (chain id up L (up c)) → M (c ∷ L) p (c ∷ chain id up L (up c)))
+      → ((c : C) (L : List C) (p : ℕ) → numbered id up p c ≡ false → M L p (chain id up L p) → M (c ∷ L) p (chain id up L p))
+      → (L : List C) (p : ℕ) → M L p (chain id up L p)
+  chain-ind M z f g [] p = rw chain-nil (z p)
+  chain-ind M z f g (c ∷ L) p =
+      cases (numbered id up p c) (λ e. rw (chain-hit c L p e) (f c L p e (chain-ind M z f g L (up c))))
+      (λ e. rw (chain-miss c L p e) (g c L p e (chain-ind M z f g L p)))
+
+  -- a thing is numbered by its own number, where that is not 0, and by no other
+  pub numbered-own : (c : C) → 0 < id c → numbered id up (id c) c ≡ true
+  numbered-own c above = rw (lt-ltb 0 (id c) above) (eq-eqb (id c) (id c) refl)
+
+  pub numbered-id : (p : ℕ) (c : C) → numbered id up p c ≡ true → id c ≡ p
+  numbered-id p c e = eqb-true (id c) p (and-right (ltb 0 p) (eqb (id c) p) e)
+
+  pub numbered-other : (p : ℕ) (c : C) → (id c ≡ p → ⊥) → numbered id up p c ≡ false
+  numbered-other p c other = rw (ne-eqb (id c) p other) (and-false (ltb 0 p))
+
+  -- the first of the chain of number p has that number
+  pub chain-id : (L : List C) (p : ℕ) (d : C) (H : List C) → chain id up L p ≡ d ∷ H → id d ≡ p
+  chain-id = chain-ind (λ L p K. (d : C) (H : List C) → K ≡ d ∷ H → id d ≡ p) (λ p d H k. cons-clash (sym k))
+      (λ c L p e ih d H k. let same : d ≡ c = cc in rw same (numbered-id p c e)) (λ c L p e ih d H k. ih d H k)
+
+  -- what holds of each holds of each on a chain
+  pub all-chain : (Q : C → Type 0) (L : List C) (p : ℕ) → All Q L → All Q (chain id up L p)
+  all-chain Q = chain-ind (λ L p H. All Q L → All Q H) (λ p h. h) (λ c L p e ih h. (h .0, ih (h .1))) (λ c L p e ih h. ih (h .1))
+
+  -- a number has no chain exactly where nothing has that number
+  pub chain-absent : (L : List C) (p : ℕ) → All (λ c. numbered id up p c ≡ false) L → chain id up L p ≡ []
+  chain-absent [] p h = chain-nil p
+  chain-absent (c ∷ L) p h = chain-miss c L p (h .0) ∙ chain-absent L p (h .1)
+
+  pub absent-chain : (L : List C) (p : ℕ) → chain id up L p ≡ [] → All (λ c. numbered id up p c ≡ false) L
+  absent-chain = chain-ind (λ L p H. H ≡ [] → All (λ c. numbered id up p c ≡ false) L) (λ p h. tt) (λ c L p e ih h. cons-clash h) (λ c L p e ih h. (e, ih h))
+
+  -- 0 is the number of none, so a root has no chain above it
+  pub chain-zero : (L : List C) → chain id up L 0 ≡ []
+  chain-zero [] = chain-nil 0
+  chain-zero (c ∷ L) = chain-miss c L 0 refl ∙ chain-zero L
+
+  -- a chain is not longer than the list
+  pub chain-length : (L : List C) (p : ℕ) → length (chain id up L p) ≤ length L
+  chain-length = chain-ind (λ L p H. length H ≤ length L) (λ p. omega arith) (λ c L p e ih. omega arith) (λ c L p e ih. omega arith)
+
+-- things read through f
+module _ {E C : Type 0} (f : E → C) (id up : C → ℕ) where
+  pub chain-map : (L : List E) (p : ℕ) → chain id up (map f L) p ≡ map f (chain (λ e. id (f e)) (λ e. up (f e)) L p)
+  chain-map = chain-ind (λ e. id (f e)) (λ e. up (f e)) (λ L p H. chain id up (map f L) p ≡ map f H) (λ p. chain-nil id up p)
+      (λ e L p k ih. chain-hit id up (f e) (map f L) p k ∙ ap (λ H. f e ∷ H) ih) (λ e L p k ih. chain-miss id up (f e) (map f L) p k ∙ ih)
+
+module _ {E C : Type 0} (f : E → C) (grantor holder : C → ℕ) where
+  pub root-granted-map : (L : List E) (h : ℕ) → rootGranted grantor (map f L) h ≡ rootGranted (λ e. grantor (f e)) L h
+  unfolding rootGranted
+  root-granted-map [] h = refl
+  root-granted-map (c ∷ []) h = refl
+  root-granted-map (c ∷ d ∷ L) h = root-granted-map (d ∷ L) h
+
+  pub circling-map : (L : List E) (h : ℕ) → circling grantor holder (map f L) h ≡ circling (λ e. grantor (f e)) (λ e. holder (f e)) L h
+  unfolding circling
+  circling-map L h = rw (root-granted-map L h, any-map f (λ c. eqb (holder c) h) L)

@@ -1,0 +1,4 @@
+pub mod Limits
+pub mod Register
+pub mod Chain
+pub mod Laws

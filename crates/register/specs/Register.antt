@@ -1,0 +1,65 @@
+-- The three lists of a register, when two registers are the same, and the empty register.
+use mathlib.Core.Path.{_≡_}
+use mathlib.Core.List.{List, map}
+use Prim.Native.Nat.{ℕ}
+use lib.ListN.{take, replicate}
+use Rattle.register.specs.Limits.{actorLimit, resourceLimit, claimLimit, pathLimit}
+use Rattle.register.specs.declared.Actor.{Actor}
+use Rattle.register.specs.declared.Resource.{Resource}
+use Rattle.register.specs.declared.Claim.{Claim}
+use Rattle.register.specs.declared.Actors.{Actors}
+use Rattle.register.specs.declared.Resources.{Resources}
+use Rattle.register.specs.declared.Claims.{Claims}
+use Rattle.register.specs.declared.Register.{Register}
+
+-- the actors, resources and claims that stand: entries past a count are ignored
+abbrev pub actorsOf : Actors → List Actor
+actorsOf r = take (r .count) (r .list)
+
+abbrev pub resourcesOf : Resources → List Resource
+resourcesOf r = take (r .count) (r .list)
+
+abbrev pub claimsOf : Claims → List Claim
+claimsOf r = take (r .count) (r .list)
+
+-- a resource's path: bytes past its length are ignored
+abbrev pub pathOf : Resource → List ℕ
+pathOf o = take (o .len) (o .path)
+
+-- a resource as it stands, without the bytes past its path
+pub record Standing : Type 0 where
+  pub id : ℕ
+  pub public : ℕ
+  pub keeper : ℕ
+  pub len : ℕ
+  pub path : List ℕ
+
+abbrev pub standing : Resource → Standing
+standing o = record { id = o .id; public = o .public; keeper = o .keeper; len = o .len; path = pathOf o }
+
+-- Two registers are the same when their three lists are, each with its count: a count above its limit is told from the limit.
+pub record Same (r s : Register) : Type 0 where
+  pub actorCount : r .actors .count ≡ s .actors .count
+  pub actors : actorsOf (r .actors) ≡ actorsOf (s .actors)
+  pub resourceCount : r .resources .count ≡ s .resources .count
+  pub resources : map standing (resourcesOf (r .resources)) ≡ map standing (resourcesOf (s .resources))
+  pub claimCount : r .claims .count ≡ s .claims .count
+  pub claims : claimsOf (r .claims) ≡ claimsOf (s .claims)
+
+-- what stands at a place that nothing was put into: all zeros
+abbrev pub noActor : Actor
+noActor = record { id = 0; kind = 0; owner = 0 }
+
+abbrev pub noResource : Resource
+noResource = record { id = 0; public = 0; keeper = 0; len = 0; path = replicate pathLimit 0 }
+
+abbrev pub noClaim : Claim
+noClaim = record { id = 0; parent = 0; grantor = 0; holder = 0; resource = 0; rights = 0; weight = 0; expiry = 0 }
+
+-- the empty register
+unfoldable pub emptyRegister : Register
+emptyRegister = record {
+  actors = record { list = replicate actorLimit noActor; count = 0 };
+  resources = record { list = replicate resourceLimit noResource; count = 0 };
+  claims = record { list = replicate claimLimit noClaim; count = 0 };
+}

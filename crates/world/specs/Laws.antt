@@ -1,0 +1,94 @@
+-- Laws of distinct numbers, and what the tests of actors and resources by columns are in 01's words. Assumes nothing.
+use mathlib.Core.Path.{_≡_, refl, sym, ap, fun-ext}
+use mathlib.Core.Bool.{Bool, true, false, not, _&&_, _||_, or-false, and-false}
+use mathlib.Core.List.{List, [], _∷_, _++_, map}
+use Prim.Native.Nat.{ℕ, zero, suc, _<_}
+use native.Mathlib.Omega.{arith}
+use borrow.Author.Tests.{eq-eqb, ne-eqb, eqb-true, eqb-false, not-true}
+use lib.Dec.{eqb}
+use lib.ListN.{length, take, getD}
+use Rattle.lists.specs.Tests.{cases, and-left, and-right}
+use Rattle.lists.specs.Lists.{any, any-append}
+use Rattle.register.specs.declared.Actor.{Actor}
+use Rattle.register.specs.declared.Resource.{Resource}
+use Rattle.columns.specs.Columns.{actorId, kindOf}
+use Rattle.columns.specs.Laws.{beside-natural}
+use Rattle.register.specs.Limits.{humanKind}
+use Rattle.rules.specs.Sound.{distinct, human, actorFits, resourceFits}
+use Rattle.world.specs.Judged.{humanIn}
+
+-- the first n of a column
+pub take-map : {A : Type 0} (f : A → ℕ) (n : ℕ) (l : List A) → take n (map f l) ≡ map f (take n l)
+take-map f zero l = refl
+take-map f (suc n) [] = refl
+take-map f (suc n) (a ∷ l) = rw (take-map f n l)
+
+-- a number that stands at a place is among them
+any-at : (x : ℕ) (l : List ℕ) (k : ℕ) → k < length l → getD l k 0 ≡ x → any (eqb x) l ≡ true
+any-at x [] k h e = absurd (omega arith)
+any-at x (a ∷ l) zero h e = rw (eq-eqb x a (sym e))
+any-at x (a ∷ l) (suc k) h e = cases (eqb x a) (λ t. rw t) (λ t. rw t (any-at x l k (omega arith) e))
+
+-- numbers are equal either way round
+eqb-turned : (x y : ℕ) → eqb x y ≡ eqb y x
+eqb-turned x y = cases (eqb y x) (λ e. rw e (eq-eqb x y (sym (eqb-true y x e)))) (λ e. rw e (ne-eqb x y (λ q. eqb-false y x e (sym q))))
+
+-- one number more behind the others
+pub distinct-more : (l : List ℕ) (x : ℕ) → distinct (l ++ (x ∷ [])) ≡ distinct l && not (any (eqb x) l)
+unfolding distinct
+distinct-more [] x = refl
+distinct-more (a ∷ l) x =
+    rw (distinct-more l x, any-append (eqb a) l (x ∷ []), or-false (eqb a x), eqb-turned a x)
+    (joined (any (eqb a) l) (eqb x a) (distinct l) (any (eqb x) l))
+  where
+    joined : (p q d r : Bool) → not (p || q) && (d && not r) ≡ (not p && d) && not (q || r)
+    joined true q d r = refl
+    joined false true true r = refl
+    joined false true false r = refl
+    joined false false d r = refl
+
+-- numbers that are not distinct are not so with more behind them
+pub distinct-front : (l m : List ℕ) → distinct l ≡ false → distinct (l ++ m) ≡ false
+unfolding distinct
+distinct-front [] m h = let never : _≡_ {A = ℕ} 0 1 = cc in absurd (omega arith)
+distinct-front (a ∷ l) m h =
+    cases (any (eqb a) l) (λ e. rw (any-append (eqb a) l m, e)) (λ e. rw (distinct-front l m (rw e at h)) (and-false (not (any (eqb a) (l ++ m)))))
+
+-- two places of distinct numbers hold different ones
+pub distinct-differ : (l : List ℕ) → distinct l ≡ true → (i j : ℕ) → i < j → j < length l → getD l i 0 ≡ getD l j 0 → ⊥
+unfolding distinct
+distinct-differ [] t i j before within same = omega arith
+distinct-differ (a ∷ l) t i zero before within same = omega arith
+distinct-differ (a ∷ l) t zero (suc j) before within same =
+    let none : any (eqb a) l ≡ false = not-true (any (eqb a) l) (and-left (not (any (eqb a) l)) (distinct l) t) in
+    let never : _≡_ {A = ℕ} 0 1 = cc (any-at a l j (omega arith) (sym same)) in omega arith
+distinct-differ (a ∷ l) t (suc i) (suc j) before within same =
+    distinct-differ l (and-right (not (any (eqb a) l)) (distinct l) t) i j (omega arith) (omega arith) same
+
+-- a doubled number: the numbers are not distinct
+pub distinct-doubled : (l : List ℕ) (i j : ℕ) → i < j → j < length l → getD l i 0 ≡ getD l j 0 → distinct l ≡ false
+distinct-doubled l i j before within same =
+    cases (distinct l) (λ t. absurd (distinct-differ l t i j before within same)) (λ t. t)
+
+-- who is a human by the columns of the first n actors is a human of these
+module _ (l : List Actor) (n : ℕ) where
+  pub human-natural : (x : ℕ) → humanIn (map actorId l) (map kindOf l) n x ≡ human (take n l) x
+  human-natural x = beside-natural actorId kindOf x humanKind n l
+
+  pub same-humans : _≡_ {A = ℕ → Bool} (λ x. humanIn (map actorId l) (map kindOf l) n x) (λ x. human (take n l) x)
+  same-humans = fun-ext human-natural
+
+  pub actor-fits-natural : (a : Actor) → actorFits (humanIn (map actorId l) (map kindOf l) n) a ≡ actorFits (human (take n l)) a
+  actor-fits-natural a = ap (λ test. actorFits test a) same-humans
+
+  pub resource-fits-natural : (o : Resource) → resourceFits (humanIn (map actorId l) (map kindOf l) n) o ≡ resourceFits (human (take n l)) o
+  resource-fits-natural o = ap (λ test. resourceFits test o) same-humans
+
+-- an actor and a resource are asked of one number whether it is a human's: the owner, the keeper
+pub actor-fits-same : (f g : ℕ → Bool) (a : Actor) → f (a .owner) ≡ g (a .owner) → actorFits f a ≡ actorFits g a
+unfolding actorFits
+actor-fits-same f g a e = rw e
+
+pub resource-fits-same : (f g : ℕ → Bool) (o : Resource) → f (o .keeper) ≡ g (o .keeper) → resourceFits f o ≡ resourceFits g o
+unfolding resourceFits
+resource-fits-same f g o e = rw e

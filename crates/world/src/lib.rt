@@ -1,0 +1,131 @@
+// Whether the actors and the resources of a register are as they should be: fields in range, owners and keepers who are humans of the
+// register, paths of the right bytes, distinct ids. Every call answers for every count and content.
+ghost use mathlib.Core.Path.{_≡_};
+ghost use lib.ListN.{take};
+ghost use Rattle.lists.specs.Lists.{every};
+ghost use Rattle.register.specs.Limits.{ranged, pathByteLeast, pathByteGreatest};
+ghost use Rattle.register.specs.Register.{actorsOf, resourcesOf, pathOf};
+ghost use Rattle.rules.specs.Sound.{distinct, actorFits, resourceFits, soundActors, soundResources};
+ghost use Rattle.world.specs.Judged.{humanIn};
+use register::Actor;
+use register::Actors;
+use register::Register;
+use register::Resource;
+use register::Resources;
+
+// Whether the first `n` of a column are distinct.
+pub fn is_distinct(column: &[u32], n: usize) -> bool
+    ensures { λ r. ⌜ r ≡ distinct (take n (now (column .entry))) ⌝ }
+{
+    let top = columns::least(n, column.len());
+    let mut i: usize = 0;
+    while i < top {
+        if columns::is_among(column, i, column[i]) {
+            return false;
+        }
+        i += 1;
+    }
+    true
+}
+
+// Whether an actor's fields are as they should be among the first `n` actors.
+pub fn actor_fits<'a>(ids: &'a [u32], kinds: &'a [u32], n: usize, a: Actor) -> bool
+    ensures { λ r. ⌜ r ≡ actorFits (humanIn (now (ids .entry)) (now (kinds .entry)) n) a ⌝ }
+{
+    if !register::is_id(a.id) {
+        return false;
+    }
+    if a.owner == 0 {
+        if a.kind == Actor::HUMAN {
+            return true;
+        }
+        return a.kind == Actor::MACHINE;
+    }
+    if register::ID_LIMIT < a.owner {
+        return false;
+    }
+    if a.kind != Actor::MACHINE {
+        return false;
+    }
+    columns::is_beside(ids, kinds, n, a.owner, Actor::HUMAN)
+}
+
+// Whether the actors are as they should be, with distinct ids.
+pub fn actors_sound(k: Actors) -> bool
+    ensures { λ r. ⌜ r ≡ soundActors (actorsOf k) ⌝ }
+{
+    let ids = columns::actor_ids(k);
+    let kinds = columns::kinds(k);
+    let n = k.count;
+    let top = columns::least(n, Register::ACTORS);
+    let mut i: usize = 0;
+    while i < top {
+        let a = k.list[i];
+        if !actor_fits(&ids, &kinds, n, a) {
+            return false;
+        }
+        i += 1;
+    }
+    is_distinct(&ids, n)
+}
+
+// Whether each byte of a resource's path is one that a path may have.
+pub fn path_fits(o: Resource) -> bool
+    ensures { λ r. ⌜ r ≡ every (ranged pathByteLeast pathByteGreatest) (pathOf o) ⌝ }
+{
+    let top = columns::least(o.len, Register::PATH);
+    let mut i: usize = 0;
+    while i < top {
+        if o.path[i] < register::PATH_BYTE_LEAST {
+            return false;
+        }
+        if register::PATH_BYTE_GREATEST < o.path[i] {
+            return false;
+        }
+        i += 1;
+    }
+    true
+}
+
+// Whether a resource's fields are as they should be among the first `n` actors.
+pub fn resource_fits<'a>(ids: &'a [u32], kinds: &'a [u32], n: usize, o: Resource) -> bool
+    ensures { λ r. ⌜ r ≡ resourceFits (humanIn (now (ids .entry)) (now (kinds .entry)) n) o ⌝ }
+{
+    if !register::is_id(o.id) {
+        return false;
+    }
+    if 1 < o.public {
+        return false;
+    }
+    if !register::is_id(o.keeper) {
+        return false;
+    }
+    if Register::PATH < o.len {
+        return false;
+    }
+    if !columns::is_beside(ids, kinds, n, o.keeper, Actor::HUMAN) {
+        return false;
+    }
+    path_fits(o)
+}
+
+// Whether the resources are as they should be among the actors, with distinct ids.
+pub fn resources_sound(a: Actors, k: Resources) -> bool
+    ensures { λ r. ⌜ r ≡ soundResources (actorsOf a) (resourcesOf k) ⌝ }
+{
+    let ids = columns::actor_ids(a);
+    let kinds = columns::kinds(a);
+    let reports = columns::resource_ids(k);
+    let actors = a.count;
+    let n = k.count;
+    let top = columns::least(n, Register::RESOURCES);
+    let mut i: usize = 0;
+    while i < top {
+        let o = k.list[i];
+        if !resource_fits(&ids, &kinds, actors, o) {
+            return false;
+        }
+        i += 1;
+    }
+    is_distinct(&reports, n)
+}
