@@ -1,7 +1,7 @@
 -- Whether some or every element of a list passes a test, and what follows from it. Assumes nothing.
-use mathlib.Core.Path.{_≡_, refl}
-use mathlib.Core.Bool.{Bool, true, false, _&&_, _||_}
-use mathlib.Core.List.{List, [], _∷_, _++_}
+use mathlib.Core.Path.{_≡_, refl, ap, _∙_}
+use mathlib.Core.Bool.{Bool, true, false, _&&_, _||_, or-comm, or-false}
+use mathlib.Core.List.{List, [], _∷_, _++_, reverse, reverse-cons}
 use Prim.Native.Nat.{ℕ, zero, suc, _<_}
 use native.Mathlib.Omega.{arith}
 use lib.ListN.{length, getD}
@@ -17,6 +17,14 @@ module _ {A : Type 0} where
   pub any-append : (p : A → Bool) (l m : List A) → any p (l ++ m) ≡ any p l || any p m
   any-append p [] m = refl
   any-append p (a ∷ l) m = cases (p a) (λ e. rw e) (λ e. rw e (any-append p l m))
+
+  -- some element passes a test whichever way round the list is
+  pub any-reverse : (p : A → Bool) (l : List A) → any p (reverse l) ≡ any p l
+  any-reverse p [] = refl
+  any-reverse p (a ∷ l) =
+      ap (any p) (reverse-cons a l)
+      ∙ any-append p (reverse l) (a ∷ [])
+      ∙ rw (any-reverse p l, or-false (p a)) (or-comm (any p l) (p a))
 
   -- whether every element passes the test
   abbrev pub every : (A → Bool) → List A → Bool

@@ -1,8 +1,8 @@
--- `soundness_cases::tower` meets its contract: twenty turns, and every number is small. Assumes nothing.
+-- `register_cases::building::tower` meets its contract: twenty turns, and every number is small. Assumes nothing.
 use Prim.Native.Nat.{_≤_, _-_}
 use borrow.Author.Needs.{needs}
-use Rattle.soundness_cases.proofs.tower.Statement.{statement}
-use Rattle.soundness_cases.proofs.tower.Tie as tie
+use Rattle.register_cases.proofs.building.tower.Statement.{statement}
+use Rattle.register_cases.proofs.building.tower.Tie as tie
 
 abbrev Inv-loop : tie.InvT-loop
 Inv-loop claims r₀ i₀ r i = i ≤ 20

@@ -1,0 +1,109 @@
+-- Grant and revocation in 01's words: the tests of each in their order, and the register that it hands back.
+use mathlib.Core.Bool.{Bool, false, not, _&&_, cond}
+use mathlib.Core.List.{List, [], _∷_, _++_}
+use Prim.Native.Nat.{ℕ, _+_, _-_}
+use lib.Dec.{eqb, leb, ltb}
+use lib.ListN.{length, set, replicate}
+use Rattle.lists.specs.Lists.{any}
+use Rattle.rights.specs.Rights.{delegating, hasRight, hasRights, barsMachine}
+use Rattle.register.specs.Limits.{claimLimit, hopLimit, momentEnd}
+use Rattle.register.specs.Register.{actorsOf, resourcesOf, claimsOf, noClaim}
+use Rattle.register.specs.Chain.{latest, chain, above, circling, live}
+use Rattle.register.specs.declared.Claim.{Claim}
+use Rattle.register.specs.declared.Register.{Register}
+use Rattle.rules.specs.Sound.{World, worldOf, sound, claimFits, namesStand, fresh, rootKept}
+use Rattle.rules.specs.Striking.{strike}
+use Rattle.changes.specs.Refusals.{Test, outcomeOf, isAccepted}
+use Rattle.changes.specs.declared.Granted.{Granted}
+use Rattle.changes.specs.declared.Revoked.{Revoked}
+use Rattle.changes.specs.declared.Refusal.the-variants.{Unsound, OutOfRange, Unknown, IdStands, Full, NotKeeper, Ownerless, MachineBarred, ParentAbsent}
+use Rattle.changes.specs.declared.Refusal.the-variants.{ParentNotHeld, ParentDead, NoDelegate, RightLacking, WeightAbove, TooManyHops, Circle, ClaimAbsent, NoGrantor}
+
+-- the world of a register, and its claims latest first
+abbrev pub worldIn : Register → World
+worldIn r = worldOf (actorsOf (r .actors)) (resourcesOf (r .resources))
+
+abbrev pub standing : Register → List Claim
+standing r = latest (claimsOf (r .claims))
+
+-- The liveness that a grant asks for, of the chain above the claim, whose first member is the parent: the parent is live. This looks at
+-- the parent alone.
+unfoldable pub sourceLive : ℕ → List Claim → Bool
+sourceLive now [] = false
+sourceLive now (p ∷ higher) = live now p
+
+-- the tests of a grant with a parent, over the chain above the claim: 9 to 16
+unfoldable pub parentTests : ℕ → List Claim → Claim → List Test
+parentTests now [] c = record { passed = false; refusal = ParentAbsent } ∷ []
+parentTests now (p ∷ higher) c =
+    record { passed = eqb (p .holder) (c .grantor) && eqb (p .resource) (c .resource); refusal = ParentNotHeld }
+    ∷ record { passed = sourceLive now (p ∷ higher); refusal = ParentDead }
+    ∷ record { passed = hasRight (p .rights) delegating; refusal = NoDelegate }
+    ∷ record { passed = hasRights (p .rights) (c .rights); refusal = RightLacking }
+    ∷ record { passed = leb (c .weight) (p .weight); refusal = WeightAbove }
+    ∷ record { passed = leb (length (p ∷ higher)) hopLimit; refusal = TooManyHops }
+    ∷ record { passed = not (circling (λ d. d .grantor) (λ d. d .holder) (p ∷ higher) (c .holder)); refusal = Circle }
+    ∷ []
+
+-- tests 3 to 8 of a grant, in a world and behind the claims that stand, of which there are n
+unfoldable pub worldTests : World → List Claim → ℕ → Claim → List Test
+worldTests w earlier n c =
+    record { passed = namesStand w c; refusal = Unknown }
+    ∷ record { passed = fresh earlier c; refusal = IdStands }
+    ∷ record { passed = ltb n claimLimit; refusal = Full }
+    ∷ record { passed = rootKept w c; refusal = NotKeeper }
+    ∷ record { passed = not (w .machine (c .grantor) && w .ownerless (c .grantor)); refusal = Ownerless }
+    ∷ record { passed = not (w .machine (c .grantor) && barsMachine (c .rights)); refusal = MachineBarred }
+    ∷ []
+
+-- the tests of a grant: 1 to 8 and, with a parent, 9 to 16
+unfoldable pub grantTests : Register → Claim → ℕ → List Test
+grantTests r c now =
+    record { passed = sound r; refusal = Unsound }
+    ∷ record { passed = claimFits c && ltb now momentEnd; refusal = OutOfRange }
+    ∷ (worldTests (worldIn r) (standing r) (r .claims .count) c
+    ++ cond (eqb (c .parent) 0) [] (parentTests now (above (standing r) c) c))
+
+-- the register with a claim at the end of its list
+abbrev pub appended : Register → Claim → Register
+appended r c = record {
+  actors = r .actors;
+  resources = r .resources;
+  claims = record { list = set (r .claims .list) (r .claims .count) c; count = r .claims .count + 1 };
+}
+
+-- the answer of a grant: accepted, the claim goes to the end of the list; refused, the register is as it came
+unfoldable pub granted : Register → Claim → ℕ → Granted
+granted r c now = record {
+  register = cond (isAccepted (outcomeOf (grantTests r c now))) (appended r c) r;
+  outcome = outcomeOf (grantTests r c now);
+}
+
+-- the tests of a revocation: 1, 3, 17 and 18
+unfoldable pub revokeTests : Register → ℕ → ℕ → List Test
+revokeTests r who x =
+    record { passed = sound r; refusal = Unsound }
+    ∷ record { passed = worldIn r .known who; refusal = Unknown }
+    ∷ record { passed = any (λ c. eqb (c .id) x) (standing r); refusal = ClaimAbsent }
+    ∷ record { passed = any (λ c. eqb (c .grantor) who) (chain (λ c. c .id) (λ c. c .parent) (standing r) x); refusal = NoGrantor }
+    ∷ []
+
+-- the claims that are left, in their order, when those that P names go with all that is drawn from them
+abbrev pub leftOf : (Claim → Bool) → Register → List Claim
+leftOf P r = latest (strike (λ c. c .id) (λ c. c .parent) P (standing r))
+
+-- the register with just these claims: every place behind them holds the zero claim
+abbrev pub holding : Register → List Claim → Register
+holding r cs = record {
+  actors = r .actors;
+  resources = r .resources;
+  claims = record { list = cs ++ replicate (claimLimit - length cs) noClaim; count = length cs };
+}
+
+-- the answer of a revocation: accepted, the claim and every claim with it on its chain go; refused, the register is as it came
+unfoldable pub revoked : Register → ℕ → ℕ → Revoked
+revoked r who x = record {
+  register = cond (isAccepted (outcomeOf (revokeTests r who x))) (holding r (leftOf (λ c. eqb (c .id) x) r)) r;
+  outcome = outcomeOf (revokeTests r who x);
+  removed = cond (isAccepted (outcomeOf (revokeTests r who x))) (length (standing r) - length (leftOf (λ c. eqb (c .id) x) r)) 0;
+}

@@ -1,0 +1,127 @@
+-- What any calls of grant and revocation come to: the record of all that ever stood, what is left of it, and the statement.
+-- To read it: `Call`, `step` and `took` run the calls by the very definitions that the contracts of grant and revocation cite. `book` is
+-- kept beside the run and asks it one thing only, whether a call was accepted. `left` says what should stand at the end. `History` says
+-- that just this stands. `sift` leaves out what its test takes. `Shaped`, which the theorem asks, holds of every register of the program
+-- by its type: its array of claims has 256 places.
+use mathlib.Core.Path.{_≡_}
+use mathlib.Core.Bool.{Bool, true, false, not, _&&_, cond}
+use mathlib.Core.List.{List, [], _∷_, _++_, map}
+use Prim.Native.Nat.{ℕ}
+use lib.Dec.{eqb}
+use lib.ListN.{length}
+use Rattle.lists.specs.Lists.{any}
+use Rattle.lists.specs.Trims.{sift}
+use Rattle.register.specs.Limits.{claimLimit}
+use Rattle.register.specs.Register.{Same, claimsOf}
+use Rattle.register.specs.Chain.{latest, chain}
+use Rattle.register.specs.declared.Claim.{Claim}
+use Rattle.register.specs.declared.Register.{Register}
+use Rattle.changes.specs.Refusals.{isAccepted}
+use Rattle.changes.specs.Changes.{standing, granted, revoked, holding}
+
+-- a call: the claim to grant and the clock reading; who revokes and the id of the claim to revoke
+pub data Call : Type 0 where
+  grant : Claim → ℕ → Call
+  revoke : ℕ → ℕ → Call
+
+-- the register that a call hands back, and whether the call was accepted
+abbrev pub step : Register → Call → Register
+step r (grant c now) = granted r c now .register
+step r (revoke who x) = revoked r who x .register
+
+abbrev pub took : Register → Call → Bool
+took r (grant c now) = isAccepted (granted r c now .outcome)
+took r (revoke who x) = isAccepted (revoked r who x .outcome)
+
+-- the register at the end of calls, and whether each of them was accepted
+unfoldable pub run : Register → List Call → Register
+run r [] = r
+run r (k ∷ ks) = run (step r k) ks
+
+unfoldable pub accepts : Register → List Call → Bool
+accepts r [] = true
+accepts r (k ∷ ks) = took r k && accepts (step r k) ks
+
+-- A claim that ever stood: whether it stood at the start, else the clock reading of its grant; its serial number, which is never used
+-- again, while its id may be; and the serial numbers on the chain above it when it came.
+pub record Entry : Type 0 where
+  pub claim : Claim
+  pub old : Bool
+  pub clock : ℕ
+  pub serial : ℕ
+  pub line : List ℕ
+
+-- every claim that ever stood, latest first, and the serial numbers of those that an accepted revocation named while they stood
+pub record Book : Type 0 where
+  pub all : List Entry
+  pub named : List ℕ
+
+abbrev pub claims : List Entry → List Claim
+claims es = map (λ e. e .claim) es
+
+abbrev pub serials : List Entry → List ℕ
+serials es = map (λ e. e .serial) es
+
+abbrev pub among : List ℕ → ℕ → Bool
+among named s = any (eqb s) named
+
+-- what is struck: what is named, with all drawn from it
+abbrev pub gone : List ℕ → Entry → Bool
+gone named e = any (among named) (e .serial ∷ e .line)
+
+-- what is not struck, latest first
+abbrev pub remains : Book → List Entry
+remains b = sift (gone (b .named)) (b .all)
+
+-- a claim that comes, with the entries that stand then, latest first
+abbrev pub entered : Bool → ℕ → List Entry → ℕ → Claim → Entry
+entered old clock es serial c = record {
+  claim = c;
+  old = old;
+  clock = clock;
+  serial = serial;
+  line = serials (chain (λ e. e .claim .id) (λ e. e .claim .parent) es (c .parent));
+}
+
+-- the claims that stand at the start, latest first
+unfoldable pub started : List Claim → List Entry
+started [] = []
+started (c ∷ earlier) = let es = started earlier in entered true 0 es (length earlier) c ∷ es
+
+-- what an accepted call writes: a grant a new entry, a revocation the serial number of what stands with the id
+abbrev pub wrote : Book → Call → Book
+wrote b (grant c now) = record { all = entered false now (remains b) (length (b .all)) c ∷ b .all; named = b .named }
+wrote b (revoke who x) = record { all = b .all; named = serials (sift (λ e. not (eqb (e .claim .id) x)) (remains b)) ++ b .named }
+
+-- the book b, kept on through calls from the register r
+unfoldable pub kept : Register → Book → List Call → Book
+kept r b [] = b
+kept r b (k ∷ ks) = kept (step r k) (cond (took r k) (wrote b k) b) ks
+
+abbrev pub book : Register → List Call → Book
+book r ks = kept r (record { all = started (standing r); named = [] }) ks
+
+-- what is left of all that ever stood, earliest first; of it the claims of the start; and the others' grants at their clock readings
+abbrev pub left : Register → List Call → List Entry
+left r ks = latest (remains (book r ks))
+
+abbrev pub olds : List Entry → List Claim
+olds es = claims (sift (λ e. not (e .old)) es)
+
+abbrev pub grants : List Entry → List Call
+grants es = map (λ e. grant (e .claim) (e .clock)) (sift (λ e. e .old) es)
+
+-- the array of claims has a place for each claim that may stand
+abbrev pub Shaped : Register → Type 0
+Shaped r = length (r .claims .list) ≡ claimLimit
+
+-- Make any calls from a register. Strike every claim that an accepted revocation named while it stood, with all drawn from it. The register
+-- at the end holds exactly what is left, in the order in which it came, over the same actors and resources. From the claims of the start
+-- that are left, the grants that are left, made again at their clock readings and without any other call, are each accepted; and that
+-- ends in the same register.
+pub record History (r : Register) (ks : List Call) : Type 0 where
+  pub actors : run r ks .actors ≡ r .actors
+  pub resources : run r ks .resources ≡ r .resources
+  pub holds : claimsOf (run r ks .claims) ≡ claims (left r ks)
+  pub again : accepts (holding r (olds (left r ks))) (grants (left r ks)) ≡ true
+  pub same : Same (run (holding r (olds (left r ks))) (grants (left r ks))) (run r ks)

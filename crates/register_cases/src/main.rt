@@ -1,0 +1,9 @@
+// The register's calls, run on registers built for the purpose: a line to a case.
+mod building;
+mod change_lines;
+mod soundness_lines;
+
+fn main() {
+    soundness_lines::all();
+    change_lines::all();
+}

@@ -1,0 +1,4 @@
+pub mod Going
+pub mod Passing
+pub mod Asking
+pub mod Answers
