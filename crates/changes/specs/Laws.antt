@@ -1,51 +1,66 @@
--- What ordered tests come to: the first that is not passed decides, and acceptance is every test passed. Assumes nothing.
+-- What the outcome of ordered tests says of the tests, and back. Assumes nothing.
 use mathlib.Core.Path.{_≡_, refl, sym, _∙_}
 use mathlib.Core.Bool.{true, false}
 use mathlib.Core.List.{List, [], _∷_, _++_}
 use Prim.Native.Nat.{ℕ}
 use native.Mathlib.Omega.{arith}
 use Rattle.lists.specs.Tests.{cases}
+use Rattle.lists.specs.Each.{All}
 use Rattle.changes.specs.Refusals.{Test, outcomeOf}
 use Rattle.changes.specs.declared.Refusal.{Refusal}
+use Rattle.changes.specs.declared.Outcome.{Outcome}
 use Rattle.changes.specs.declared.Outcome.the-variants.{Accepted, Refused}
 
--- where no test is left, the call is accepted
-pub outcome-none : outcomeOf [] ≡ Accepted
-unfolding outcomeOf
-outcome-none = refl
+-- an outcome taken apart, with its equation
+pub outcome-cases : {A : Type 0} (o : Outcome) → (o ≡ Accepted → A) → ((why : Refusal) → o ≡ Refused why → A) → A
+outcome-cases Accepted f g = f refl
+outcome-cases (Refused why) f g = g why refl
 
--- a test that is passed leaves the outcome to those behind it
+-- what is refused is not accepted
+pub outcome-clash : {A : Type 0} {why : Refusal} → Refused why ≡ Accepted → A
+outcome-clash e = let never : _≡_ {A = ℕ} 0 1 = cc in absurd (omega arith)
+
+-- no tests are passed; a test that is passed leaves the others; one that is not decides
+pub outcome-nil : outcomeOf [] ≡ Accepted
+unfolding outcomeOf
+outcome-nil = refl
+
 pub outcome-pass : (t : Test) (tests : List Test) → t .passed ≡ true → outcomeOf (t ∷ tests) ≡ outcomeOf tests
 unfolding outcomeOf
 outcome-pass t tests e = rw e
 
--- one that is not passed decides
 pub outcome-fail : (t : Test) (tests : List Test) → t .passed ≡ false → outcomeOf (t ∷ tests) ≡ Refused (t .refusal)
 unfolding outcomeOf
 outcome-fail t tests e = rw e
 
+-- acceptance is that each test is passed
+pub accepted-out : (tests : List Test) → outcomeOf tests ≡ Accepted → All (λ t. t .passed ≡ true) tests
+accepted-out [] h = tt
+accepted-out (t ∷ tests) h =
+    cases (t .passed) (λ e. (e, accepted-out tests (rw (outcome-pass t tests e) at h))) (λ e. outcome-clash (rw (outcome-fail t tests e) at h))
+
+pub accepted-in : (tests : List Test) → All (λ t. t .passed ≡ true) tests → outcomeOf tests ≡ Accepted
+accepted-in [] h = outcome-nil
+accepted-in (t ∷ tests) h = outcome-pass t tests (h .0) ∙ accepted-in tests (h .1)
+
+-- further tests are asked where the first are passed, and only there
+pub outcome-append : (tests more : List Test) → outcomeOf tests ≡ Accepted → outcomeOf (tests ++ more) ≡ outcomeOf more
+outcome-append [] more h = refl
+outcome-append (t ∷ tests) more h =
+    let told = accepted-out (t ∷ tests) h in outcome-pass t (tests ++ more) (told .0) ∙ outcome-append tests more (accepted-in tests (told .1))
+
+pub outcome-append-refused : (tests more : List Test) (why : Refusal) → outcomeOf tests ≡ Refused why → outcomeOf (tests ++ more) ≡ Refused why
+outcome-append-refused [] more why h = outcome-clash (sym h ∙ outcome-nil)
+outcome-append-refused (t ∷ tests) more why h =
+    cases (t .passed) (λ e. outcome-pass t (tests ++ more) e ∙ outcome-append-refused tests more why (sym (outcome-pass t tests e) ∙ h))
+    (λ e. outcome-fail t (tests ++ more) e ∙ sym (outcome-fail t tests e) ∙ h)
+
 -- where the tests come to acceptance, the first is passed, and those behind it come to acceptance
 pub outcome-first : (t : Test) (tests : List Test) → outcomeOf (t ∷ tests) ≡ Accepted → (t .passed ≡ true) × (outcomeOf tests ≡ Accepted)
-outcome-first t tests q =
+outcome-first t tests accepted =
     cases (t .passed)
-    (λ e. (e, sym (outcome-pass t tests e) ∙ q))
-    (λ e. let never : _≡_ {A = ℕ} 0 1 = cc (outcome-fail t tests e) in absurd (omega arith))
+    (λ passed. (passed, sym (outcome-pass t tests passed) ∙ accepted))
+    (λ failed. outcome-clash (sym (outcome-fail t tests failed) ∙ accepted))
 
--- tests behind tests that are all passed
-pub outcome-behind : (l m : List Test) → outcomeOf l ≡ Accepted → outcomeOf (l ++ m) ≡ outcomeOf m
-outcome-behind [] m q = refl
-outcome-behind (t ∷ l) m q =
-    let first = outcome-first t l q in outcome-pass t (l ++ m) (first .0) ∙ outcome-behind l m (first .1)
-
--- tests behind tests one of which is not passed
-pub outcome-before : (l m : List Test) (why : Refusal) → outcomeOf l ≡ Refused why → outcomeOf (l ++ m) ≡ Refused why
-unfolding outcomeOf
-outcome-before [] m why q = let never : _≡_ {A = ℕ} 0 1 = cc in absurd (omega arith)
-outcome-before (t ∷ l) m why q =
-    cases (t .passed)
-    (λ e. outcome-pass t (l ++ m) e ∙ outcome-before l m why (sym (outcome-pass t l e) ∙ q))
-    (λ e. outcome-fail t (l ++ m) e ∙ sym (outcome-fail t l e) ∙ q)
-
--- what is accepted passed the first test
 pub outcome-accepted : (t : Test) (tests : List Test) → outcomeOf (t ∷ tests) ≡ Accepted → t .passed ≡ true
-outcome-accepted t tests q = outcome-first t tests q .0
+outcome-accepted t tests accepted = outcome-first t tests accepted .0

@@ -14,7 +14,7 @@ use Rattle.register.specs.declared.Register.{Register}
 use Rattle.rules.specs.Sound.{World, sound, claimFits, namesStand, fresh, rootKept}
 use Rattle.changes.specs.Refusals.{outcomeOf}
 use Rattle.changes.specs.Changes.{worldIn, standing, worldTests, parentTests, grantTests, appended, granted}
-use Rattle.changes.specs.Laws.{outcome-first, outcome-behind, outcome-before}
+use Rattle.changes.specs.Laws.{outcome-first, outcome-append, outcome-append-refused}
 use Rattle.changes.specs.declared.Refusal.{Refusal}
 use Rattle.changes.specs.declared.Refusal.the-variants.{Unsound, OutOfRange, Unknown, IdStands, Full, NotKeeper, Ownerless, MachineBarred, ParentAbsent}
 use Rattle.changes.specs.declared.Refusal.the-variants.{ParentNotHeld, ParentDead, NoDelegate, RightLacking, WeightAbove, TooManyHops, Circle}
@@ -126,10 +126,10 @@ module _ (now : ℕ) (l : List Claim) (c : Claim) where
     in-parts = rw stands (ap outcomeOf (parent-tests now p higher c))
 
     pub not-drawn : {why : Refusal} → outcomeOf (drawnTests now p c) ≡ Refused why → outcomeOf (parentTests now l c) ≡ Refused why
-    not-drawn {why} e = in-parts ∙ outcome-before (drawnTests now p c) (chainTests l c) why e
+    not-drawn {why} e = in-parts ∙ outcome-append-refused (drawnTests now p c) (chainTests l c) why e
 
     pub chain-decides : {y : Outcome} → outcomeOf (drawnTests now p c) ≡ Accepted → y ≡ outcomeOf (chainTests l c) → outcomeOf (parentTests now l c) ≡ y
-    chain-decides e q = in-parts ∙ outcome-behind (drawnTests now p c) (chainTests l c) e ∙ sym q
+    chain-decides e q = in-parts ∙ outcome-append (drawnTests now p c) (chainTests l c) e ∙ sym q
 
 -- tests 1 to 16
 module _ (r : Register) (c : Claim) (now : ℕ) where
@@ -151,19 +151,19 @@ module _ (r : Register) (c : Claim) (now : ℕ) where
         pub world-refuses : {why : Refusal} → outcomeOf (worldTests (worldIn r) (standing r) (r .claims .count) c) ≡ Refused why
             → outcomeOf (grantTests r c now) ≡ Refused why
         unfolding grantTests outcomeOf
-        world-refuses {why} e = rw (whole, fit, timely) (outcome-before (worldTests (worldIn r) (standing r) (r .claims .count) c) _ why e)
+        world-refuses {why} e = rw (whole, fit, timely) (outcome-append-refused (worldTests (worldIn r) (standing r) (r .claims .count) c) _ why e)
 
         module _ (world : outcomeOf (worldTests (worldIn r) (standing r) (r .claims .count) c) ≡ Accepted) where
           pub root-granted : c .parent ≡ 0 → outcomeOf (grantTests r c now) ≡ Accepted
           unfolding grantTests outcomeOf
-          root-granted o = rw (whole, fit, timely, eq-eqb (c .parent) 0 o) (outcome-behind (worldTests (worldIn r) (standing r) (r .claims .count) c) [] world)
+          root-granted o = rw (whole, fit, timely, eq-eqb (c .parent) 0 o) (outcome-append (worldTests (worldIn r) (standing r) (r .claims .count) c) [] world)
 
           pub parent-decides : {y : Outcome} → (c .parent ≡ 0 → ⊥) → y ≡ outcomeOf (parentTests now (above (standing r) c) c)
               → outcomeOf (grantTests r c now) ≡ y
           unfolding grantTests outcomeOf
           parent-decides o q =
               rw (whole, fit, timely, ne-eqb (c .parent) 0 o)
-              (outcome-behind (worldTests (worldIn r) (standing r) (r .claims .count) c) (parentTests now (above (standing r) c) c) world ∙ sym q)
+              (outcome-append (worldTests (worldIn r) (standing r) (r .claims .count) c) (parentTests now (above (standing r) c) c) world ∙ sym q)
 
   -- an accepted claim finds room
   pub accepted-room : outcomeOf (grantTests r c now) ≡ Accepted → r .claims .count < claimLimit

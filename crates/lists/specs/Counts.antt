@@ -1,19 +1,55 @@
--- Numbers counted up one by one, and what some or every of them passing a test says of each. Assumes nothing.
-use mathlib.Core.Path.{_≡_, refl}
+-- Numbers counted up one by one, what some or every of them passing a test says of each, and lists read at counted places. Assumes nothing.
+use mathlib.Core.Path.{_≡_, refl, ap, _∙_}
 use mathlib.Core.Bool.{Bool, true}
-use mathlib.Core.List.{List, [], _∷_}
+use mathlib.Core.List.{List, [], _∷_, _++_, map}
 use Prim.Native.Nat.{ℕ, zero, suc, _+_, _≤_, _<_}
 use native.Mathlib.Nat.{le-refl}
 use native.Mathlib.Omega.{arith}
 use borrow.Author.Tests.{eqb-true, eqb-false}
 use lib.Dec.{eqb}
+use lib.ListN.{length, take, drop, getD, length-take}
+use lib.Seq.{drop-cons}
 use Rattle.lists.specs.Tests.{cases, and-left, and-right, and-both}
 use Rattle.lists.specs.Lists.{any, every}
+use Rattle.lists.specs.Each.{All, all-imp}
 
 -- the n numbers from i on
 abbrev pub counted : ℕ → ℕ → List ℕ
 counted i zero = []
 counted i (suc n) = i ∷ counted (suc i) n
+
+pub counted-length : (i n : ℕ) → length (counted i n) ≡ n
+counted-length i zero = refl
+counted-length i (suc n) = ap suc (counted-length (suc i) n)
+
+-- one number more is the last
+pub counted-last : (i n : ℕ) → counted i (suc n) ≡ counted i n ++ ((i + n) ∷ [])
+counted-last i zero = let first : i + 0 ≡ i = omega arith in rw first
+counted-last i (suc n) = let last : suc i + n ≡ i + suc n = omega arith in ap (λ l. i ∷ l) (counted-last (suc i) n ∙ rw last)
+
+-- each is below the end
+pub counted-below : (i n : ℕ) → All (λ j. j < i + n) (counted i n)
+counted-below i zero = tt
+counted-below i (suc n) =
+    (omega arith, all-imp (λ j. j < suc i + n) (λ j. j < i + suc n) (λ j h. omega arith) (counted (suc i) n) (counted-below (suc i) n))
+
+-- as many as the first n are the first n
+take-first : {A : Type 0} (n : ℕ) (l : List A) → take (length (take n l)) l ≡ take n l
+take-first zero l = refl
+take-first (suc n) [] = refl
+take-first (suc n) (a ∷ l) = ap (λ m. a ∷ m) (take-first n l)
+
+module _ {A : Type 0} (d : A) (l : List A) where
+  -- read at the n places from i on, a list gives its n elements from i on
+  pub counted-at : (n i : ℕ) → i + n ≤ length l → map (λ j. getD l j d) (counted i n) ≡ take n (drop i l)
+  counted-at zero i h = refl
+  counted-at (suc n) i h =
+      let inside : i < length l = omega arith in
+      rw (drop-cons l i d) (ap (λ m. getD l i d ∷ m) (counted-at n (suc i) (omega arith)))
+
+  -- read at as many places as the first n have, it gives the first n
+  pub counted-first : (n : ℕ) → map (λ j. getD l j d) (counted 0 (length (take n l))) ≡ take n l
+  counted-first n = counted-at (length (take n l)) 0 (omega (arith, length-take n l)) ∙ take-first n l
 
 module _ (p : ℕ → Bool) where
   -- every counted number passing, each passes

@@ -67,6 +67,13 @@ module _ {C : Type 0} where
       cases (p c) (λ e. rw (trim-hit (λ M c. p c) c (L ++ M) e, trim-hit (λ M c. p c) c L e) (sift-append p L M))
       (λ e. rw (trim-miss (λ M c. p c) c (L ++ M) e, trim-miss (λ M c. p c) c L e, sift-append p L M))
 
+  -- one element more: it is taken, or is the last of what is left
+  pub sift-taken : (p : C → Bool) (L : List C) (c : C) → p c ≡ true → sift p (L ++ (c ∷ [])) ≡ sift p L
+  sift-taken p L c e = sift-append p L (c ∷ []) ∙ rw (trim-hit (λ M c. p c) c [] e, trim-nil (λ M c. p c)) (append-nil (sift p L))
+
+  pub sift-left : (p : C → Bool) (L : List C) (c : C) → p c ≡ false → sift p (L ++ (c ∷ [])) ≡ sift p L ++ (c ∷ [])
+  sift-left p L c e = sift-append p L (c ∷ []) ∙ rw (trim-miss (λ M c. p c) c [] e, trim-nil (λ M c. p c))
+
   -- a test that looks at the element alone may be put to a list in either order
   pub sift-reverse : (p : C → Bool) (L : List C) → sift p (reverse L) ≡ reverse (sift p L)
   sift-reverse p [] = rw (trim-nil (λ M c. p c))

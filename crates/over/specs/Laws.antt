@@ -1,11 +1,10 @@
 -- What the judgement over columns is in 01's words: over the columns of a list of claims it is that over the claims. Assumes nothing.
 use mathlib.Core.Path.{_≡_, refl, sym, ap, _∙_}
-use mathlib.Core.Bool.{Bool, or-comm, or-false}
-use mathlib.Core.List.{List, [], _∷_, map, reverse, reverse-cons}
+use mathlib.Core.List.{List, [], _∷_, map}
 use Prim.Native.Nat.{ℕ}
 use lib.Dec.{eqb}
 use lib.ListN.{getD, take, length-map, List·getD-map}
-use Rattle.lists.specs.Lists.{any, any-append}
+use Rattle.lists.specs.Lists.{any, any-reverse}
 use Rattle.register.specs.Register.{noClaim}
 use Rattle.register.specs.Chain.{latest, above}
 use Rattle.register.specs.Laws.{circling-map}
@@ -51,21 +50,13 @@ claims-at : (cs : List Claim) (l : List ℕ) → map (claimAt (columnsOf cs)) l 
 claims-at cs [] = refl
 claims-at cs (j ∷ l) = rw (claim-at-natural cs j, claims-at cs l)
 
--- some element passes a test whichever way round the list is
-any-latest : {A : Type 0} (p : A → Bool) (l : List A) → any p (latest l) ≡ any p l
-any-latest p [] = refl
-any-latest p (a ∷ l) =
-    ap (any p) (reverse-cons a l)
-    ∙ any-append p (reverse l) (a ∷ [])
-    ∙ rw (any-latest p l, or-false (p a)) (or-comm (any p l) (p a))
-
 -- what a claim is asked over the first n of a list of claims by their columns is what 01 asks of it over those claims
 pub over-natural : (cs : List Claim) (n : ℕ) (c : Claim) → overIn (columnsOf cs) n c ≡ over (latest (take n cs)) c
 unfolding overIn over fresh drawn
 over-natural cs n c =
     let places : List ℕ = chainPlaces (map claimId cs) (map parentOf cs) n (c .parent) in
     let unused : any (eqb (c .id)) (take n (map claimId cs)) ≡ any (λ d. eqb (c .id) (d .id)) (latest (take n cs)) =
-    among-natural claimId (c .id) n cs ∙ sym (any-latest (λ d. eqb (c .id) (d .id)) (take n cs)) in
+    among-natural claimId (c .id) n cs ∙ sym (any-reverse (λ d. eqb (c .id) (d .id)) (take n cs)) in
     let chained : overChain (map (claimAt (columnsOf cs)) places) c ≡ overChain (above (latest (take n cs)) c) c =
     ap (λ l. overChain l c) (claims-at cs places)
     ∙ over-unexpiring (map (λ j. getD cs j noClaim) places) c

@@ -19,7 +19,7 @@ use Rattle.columns.specs.Laws.{among-natural, chain-natural, chain-places-nil, 
 use Rattle.rules.specs.Sound.{sound}
 use Rattle.changes.specs.Refusals.{outcomeOf}
 use Rattle.changes.specs.Changes.{worldIn, standing, revokeTests}
-use Rattle.changes.specs.Laws.{outcome-none, outcome-pass, outcome-fail, outcome-accepted}
+use Rattle.changes.specs.Laws.{outcome-nil, outcome-pass, outcome-fail, outcome-accepted}
 use Rattle.changes.specs.declared.Outcome.the-variants.{Accepted, Refused}
 use Rattle.changes.specs.declared.Refusal.the-variants.{Unsound, Unknown, ClaimAbsent, NoGrantor}
 
@@ -105,4 +105,4 @@ module _ (r : Register) (who x : ℕ) where
 
         pub accepted : any (λ c. eqb (c .grantor) who) (chain claimId parentOf (standing r) x) ≡ true → outcomeOf (revokeTests r who x) ≡ Accepted
         unfolding revokeTests
-        accepted t = outcome-pass _ _ whole ∙ outcome-pass _ _ known ∙ outcome-pass _ _ stands ∙ outcome-pass _ _ t ∙ outcome-none
+        accepted t = outcome-pass _ _ whole ∙ outcome-pass _ _ known ∙ outcome-pass _ _ stands ∙ outcome-pass _ _ t ∙ outcome-nil

@@ -1,0 +1,67 @@
+-- An action as it stands, its ranges, and the paper's number and value of each violation.
+use mathlib.Core.Bool.{Bool, _&&_}
+use mathlib.Core.List.{List, [], _∷_}
+use Prim.Native.Nat.{ℕ, _^_}
+use lib.Dec.{leb, ltb}
+use lib.ListN.{take}
+use Rattle.lists.specs.Tests.{ands}
+use Rattle.lists.specs.Lists.{every}
+use Rattle.rights.specs.Rights.{isRight}
+use Rattle.register.specs.Limits.{idLimit, momentEnd}
+use Rattle.actions.specs.declared.Usage.{Usage}
+use Rattle.actions.specs.declared.Action.{Action}
+use Rattle.actions.specs.declared.Violation.{Violation}
+use Rattle.actions.specs.declared.Violation.the-variants.{FlagSet, NoOwner, MachineGoverns, NotCovered, OwnerNotCovering, ParentGone}
+
+-- how many uses, governed entries and actions there are at most; how many flags there are; how many violations there can be
+abbrev pub useLimit : ℕ
+useLimit = 32
+
+abbrev pub governLimit : ℕ
+governLimit = 8
+
+abbrev pub actionLimit : ℕ
+actionLimit = 16
+
+abbrev pub flagCount : ℕ
+flagCount = 10
+
+abbrev pub violationLimit : ℕ
+violationLimit = 51
+
+-- entries past a count are ignored
+abbrev pub usesOf : Action → List Usage
+usesOf a = take (a .used) (a .uses)
+
+abbrev pub governsOf : Action → List ℕ
+governsOf a = take (a .governed) (a .governs)
+
+-- An action has an actor number 0 to 65,535, a moment, flags 0 to 1,023, up to 32 uses (a resource number 0 to 65,535 with a right 0 to 16)
+-- and up to 8 governed actor numbers 0 to 65,535.
+unfoldable pub actionFits : Action → Bool
+actionFits a = ands (
+    leb (a .actor) idLimit
+    ∷ ltb (a .now) momentEnd
+    ∷ ltb (a .flags) (2 ^ flagCount)
+    ∷ leb (a .used) useLimit
+    ∷ every (λ u. leb (u .resource) idLimit && isRight (u .right)) (usesOf a)
+    ∷ leb (a .governed) governLimit
+    ∷ every (λ g. leb g idLimit) (governsOf a)
+    ∷ [])
+
+-- the paper's number of a violation's kind, and the flag, actor or position that it is about
+abbrev pub kindOf : Violation → ℕ
+kindOf (FlagSet i) = 1
+kindOf (NoOwner id) = 2
+kindOf (MachineGoverns at) = 3
+kindOf (NotCovered at) = 4
+kindOf (OwnerNotCovering at) = 5
+kindOf (ParentGone at) = 6
+
+abbrev pub valueOf : Violation → ℕ
+valueOf (FlagSet i) = i
+valueOf (NoOwner id) = id
+valueOf (MachineGoverns at) = at
+valueOf (NotCovered at) = at
+valueOf (OwnerNotCovering at) = at
+valueOf (ParentGone at) = at

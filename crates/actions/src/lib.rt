@@ -1,0 +1,133 @@
+// What the gate is asked and what it answers. Every number of an action has a type that can say one out of range; entries past a count
+// are ignored. The structs that come in cross to C as they are; answers hold enums.
+ghost use mathlib.Core.Path.{_≡_};
+ghost use Rattle.actions.specs.Actions.{kindOf, valueOf};
+use changes::Outcome;
+use changes::Refusal;
+
+// A resource number with a right.
+#[repr(C)]
+pub struct Usage {
+    pub resource: u32,
+    pub right: u32,
+}
+
+#[repr(C)]
+pub struct Action {
+    pub actor: u32,
+    pub flags: u32,
+    pub now: u64,
+    pub uses: [Usage; Action::USES],
+    pub used: usize,
+    pub governs: [u32; Action::GOVERNED],
+    pub governed: usize,
+}
+
+impl Action {
+    pub const USES: usize = 32;
+
+    pub const GOVERNED: usize = 8;
+
+    pub const FLAGS: u32 = 10;
+}
+
+#[repr(C)]
+pub struct Plan {
+    pub actions: [Action; Plan::ACTIONS],
+    pub count: usize,
+}
+
+impl Plan {
+    pub const ACTIONS: usize = 16;
+}
+
+// Why an action is not permitted: the flag, actor or position that it is about.
+pub enum Violation {
+    // 1: a flag is set.
+    FlagSet(u32),
+    // 2: the actor is a machine without owner.
+    NoOwner(u32),
+    // 3: a machine governs.
+    MachineGoverns(u32),
+    // 4: the actor does not cover the use.
+    NotCovered(u32),
+    // 5: the machine's owner does not cover the use.
+    OwnerNotCovering(u32),
+    // 6: a claim relied on has a parent that does not stand.
+    ParentGone(u32),
+}
+
+pub struct Violated {
+    pub what: Violation,
+}
+
+pub struct Violations {
+    pub list: [Violated; Violations::MOST],
+    pub count: usize,
+}
+
+impl Violations {
+    // Ten flags, one owner, eight governed entries, thirty-two uses.
+    pub const MOST: usize = 51;
+}
+
+pub enum Decision {
+    Permitted,
+    Refused,
+    Stopped(Refusal),
+}
+
+// The answer of the gate: past the counts, flag 0 and hop count 0.
+pub struct Verdict {
+    pub decision: Decision,
+    pub violations: Violations,
+    pub hops: [usize; Action::USES],
+}
+
+// The verdict on an action of a plan.
+pub enum Judgement {
+    Permitted,
+    // With its number of violations.
+    Refused(usize),
+    Cancelled,
+}
+
+pub struct Judged {
+    pub what: Judgement,
+}
+
+// The answer for a plan: past the count, permitted. A stopped plan has no verdicts, and the position of the action that stopped it.
+pub struct PlanVerdict {
+    pub outcome: Outcome,
+    pub position: usize,
+    pub list: [Judged; Plan::ACTIONS],
+    pub count: usize,
+}
+
+// 01's number of a violation's kind.
+pub fn kind(v: Violation) -> u32
+    ensures { λ r. ⌜ r ≡ kindOf v ⌝ }
+{
+    match v {
+        Violation::FlagSet(_) => 1,
+        Violation::NoOwner(_) => 2,
+        Violation::MachineGoverns(_) => 3,
+        Violation::NotCovered(_) => 4,
+        Violation::OwnerNotCovering(_) => 5,
+        Violation::ParentGone(_) => 6,
+    }
+}
+
+// The flag, actor or position that a violation is about.
+pub fn value(v: Violation) -> u32
+    ensures { λ r. ⌜ r ≡ valueOf v ⌝ }
+{
+    match v {
+        Violation::FlagSet(i) => i,
+        Violation::NoOwner(id) => id,
+        Violation::MachineGoverns(at) => at,
+        Violation::NotCovered(at) => at,
+        Violation::OwnerNotCovering(at) => at,
+        Violation::ParentGone(at) => at,
+    }
+}

@@ -1,0 +1,81 @@
+-- `coverage::first_covering` meets its contract. The loop's invariant: what is answered is the first place that covers of those left
+-- (Loop). The measure is the number of places left. Assumes nothing.
+use mathlib.Core.Path.{refl, sym, _∙_}
+use Prim.Native.Nat.{_-_}
+use native.Mathlib.Omega.{arith}
+use borrow.Author.Needs.{needs}
+use lib.ListN.{take}
+use Rattle.lists.specs.Loops.{Loop, start, turn, next, done}
+use Rattle.coverage.specs.Coverage.{firstCovering}
+use Rattle.coverage.specs.Laws.{covering-nil, covering-hit, covering-miss}
+use Rattle.coverage.proofs.first_covering.Statement.{statement}
+use Rattle.coverage.proofs.first_covering.Tie as tie
+
+abbrev Inv-loop : tie.InvT-loop
+Inv-loop places count rights spots bytes lens right spot top i₀ i =
+    Loop (λ n l. firstCovering l rights spots bytes lens right spot) count places top i
+    (firstCovering (take count places) rights spots bytes lens right spot)
+
+abbrev μ-loop : tie.MeasureT-loop
+μ-loop places count rights spots bytes lens right spot top i₀ i = top - i
+
+least-requires : tie.Need-least-requires Inv-loop μ-loop
+least-requires c κs = search needs
+
+loop-holds : tie.Need-loop-holds Inv-loop μ-loop
+loop-holds c = start (c .least .ensures) refl
+
+mul-j : tie.Need-mul-j Inv-loop μ-loop
+mul-j c = search needs
+
+shared-slice-read-j : tie.Need-shared-slice-read-j Inv-loop μ-loop
+shared-slice-read-j c = omega (arith, c .before .before .before .least .ensures, c .before .loop-test .taken)
+
+reaches-requires : tie.Need-reaches-requires Inv-loop μ-loop
+reaches-requires c κs = search needs
+
+returns : tie.Need-returns Inv-loop μ-loop
+returns c =
+    let turning = c .before .before .before in
+    let a = turning .before .before .before .before .before .before .before .before .args in
+    sym
+    (turn (turning .before .loop .inv) 0 (turning .loop-test .taken)
+    ∙ covering-hit (a .rights .now) (a .spots .now) (a .bytes .now) (a .lens .now) (a .right) (a .spot) _ _
+    (sym (c .before .reaches .ensures) ∙ c .if1 .taken))
+
+add-i : tie.Need-add-i Inv-loop μ-loop
+add-i c = search needs
+
+loop-less : tie.Need-loop-less Inv-loop μ-loop
+loop-less c = search needs
+
+loop-again : tie.Need-loop-again Inv-loop μ-loop
+loop-again c =
+    let turning = c .before .before .before in
+    let a = turning .before .before .before .before .before .before .before .before .args in
+    next (turning .before .loop .inv) (turning .loop-test .taken)
+    (turn (turning .before .loop .inv) 0 (turning .loop-test .taken)
+    ∙ covering-miss (a .rights .now) (a .spots .now) (a .bytes .now) (a .lens .now) (a .right) (a .spot) _ _
+    (sym (c .before .reaches .ensures) ∙ c .if1 .left))
+
+returns-2 : tie.Need-returns-2 Inv-loop μ-loop
+returns-2 c =
+    let a = c .before .before .before .before .before .before .before .before .args in
+    sym (done (c .before .loop .inv) (c .loop-test .left) ∙ covering-nil (a .rights .now) (a .spots .now) (a .bytes .now) (a .lens .now) (a .right) (a .spot))
+
+pub first-covering-spec : {M : Type 1} → statement M
+first-covering-spec =
+    tie.close
+    (tie.spec
+    Inv-loop
+    μ-loop
+    least-requires
+    loop-holds
+    mul-j
+    shared-slice-read-j
+    reaches-requires
+    returns
+    add-i
+    loop-less
+    loop-again
+    returns-2)

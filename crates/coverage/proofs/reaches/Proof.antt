@@ -1,0 +1,87 @@
+-- `coverage::reaches` meets its contract. Each answer is `reaching` under the tests that led to it (Reaching). Assumes nothing.
+use mathlib.Core.Path.{sym, _∙_}
+use borrow.Author.Needs.{needs}
+use Rattle.coverage.proofs.Reaching.{right-missing, right-had, without-right, without-spot, claimed-past, used-past, by-paths}
+use Rattle.coverage.proofs.reaches.Statement.{statement}
+use Rattle.coverage.proofs.reaches.Tie as tie
+
+number-at-requires : tie.Need-number-at-requires
+number-at-requires c κs = search needs
+
+has-requires : tie.Need-has-requires
+has-requires c κs = search needs
+
+returns : tie.Need-returns
+returns c =
+    let a = c .before .before .before .before .before .before .before .args in
+    sym
+    (without-right (a .rights .now) (a .spots .now) (a .bytes .now) (a .lens .now) (a .right) (a .spot) (a .j)
+    (right-missing (a .right) (c .before .before .number-at .ensures) (c .before .has .ensures) (c .if1 .taken)))
+
+returns-2 : tie.Need-returns-2
+returns-2 c =
+    let a = c .before .before .before .before .before .before .before .before .args in
+    sym
+    (without-spot (a .rights .now) (a .spots .now) (a .bytes .now) (a .lens .now) (a .right) (a .spot) (a .j)
+    (right-had (a .right) (c .before .before .before .number-at .ensures) (c .before .before .has .ensures) (c .before .if1 .left))
+    (c .if2 .taken))
+
+mul-if3 : tie.Need-mul-if3
+mul-if3 c = search needs
+
+shared-slice-read-if3 : tie.Need-shared-slice-read-if3
+shared-slice-read-if3 c = search needs
+
+returns-3 : tie.Need-returns-3
+returns-3 c =
+    let tests = c .before .before in
+    let a = c .before .before .before .before .before .before .before .before .before .before .args in
+    sym
+    (claimed-past (a .rights .now) (a .spots .now) (a .bytes .now) (a .lens .now) (a .right) (a .spot) (a .j)
+    (right-had (a .right) (tests .before .before .before .number-at .ensures) (tests .before .before .has .ensures) (tests .before .if1 .left))
+    (tests .if2 .left) (c .if3 .taken))
+
+returns-4 : tie.Need-returns-4
+returns-4 c =
+    let tests = c .before .before .before in
+    let a = c .before .before .before .before .before .before .before .before .before .before .before .args in
+    sym
+    (used-past (a .rights .now) (a .spots .now) (a .bytes .now) (a .lens .now) (a .right) (a .spot) (a .j)
+    (right-had (a .right) (tests .before .before .before .number-at .ensures) (tests .before .before .has .ensures) (tests .before .if1 .left))
+    (tests .if2 .left) (c .before .if3 .left) (c .if4 .taken))
+
+mul-is-inside : tie.Need-mul-is-inside
+mul-is-inside c = search needs
+
+shared-slice-read-is-inside : tie.Need-shared-slice-read-is-inside
+shared-slice-read-is-inside c = search needs
+
+is-inside-requires : tie.Need-is-inside-requires
+is-inside-requires c κs = search needs
+
+returns-5 : tie.Need-returns-5
+returns-5 c =
+    let tests = c .before .before .before .before .before in
+    let a = c .before .before .before .before .before .before .before .before .before .before .before .before .before .args in
+    c .is-inside .ensures
+    ∙ sym
+    (by-paths (a .rights .now) (a .spots .now) (a .bytes .now) (a .lens .now) (a .right) (a .spot) (a .j)
+    (right-had (a .right) (tests .before .before .before .number-at .ensures) (tests .before .before .has .ensures) (tests .before .if1 .left))
+    (tests .if2 .left) (c .before .before .before .if3 .left) (c .before .before .if4 .left))
+
+pub reaches-spec : {M : Type 1} → statement M
+reaches-spec =
+    tie.close
+    (tie.spec
+    number-at-requires
+    has-requires
+    returns
+    returns-2
+    mul-if3
+    shared-slice-read-if3
+    returns-3
+    returns-4
+    mul-is-inside
+    shared-slice-read-is-inside
+    is-inside-requires
+    returns-5)

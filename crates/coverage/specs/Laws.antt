@@ -1,0 +1,130 @@
+-- What covering by columns says of the claims and the resources that they are the columns of, and which place is the first. Assumes nothing.
+use mathlib.Core.Path.{_≡_, refl, sym, ap, _∙_}
+use mathlib.Core.Bool.{Bool, true, false, not, _&&_, cond, and-false}
+use mathlib.Core.List.{List, [], _∷_, _++_, map}
+use Prim.Native.Nat.{ℕ, _≤_, _<_}
+use native.Mathlib.Omega.{arith}
+use borrow.Author.Tests.{lt-ltb, le-ltb}
+use lib.Dec.{ltb}
+use lib.ListN.{length, getD, List·getD-map}
+use Rattle.lists.specs.Tests.{cases}
+use Rattle.lists.specs.Each.{All}
+use Rattle.lists.specs.Trims.{sift, trim-nil, trim-hit, trim-miss}
+use Rattle.rights.specs.Rights.{hasRight}
+use Rattle.paths.specs.Containment.{contained}
+use Rattle.register.specs.Limits.{resourceLimit, pathLimit}
+use Rattle.register.specs.Register.{pathOf, noResource, noClaim}
+use Rattle.register.specs.declared.Claim.{Claim}
+use Rattle.register.specs.declared.Resources.{Resources}
+use Rattle.columns.specs.Columns.{rightsOf}
+use Rattle.columns.specs.declared.Place.{Place}
+use Rattle.columns.specs.declared.Place.the-variants.{At, Nowhere}
+use Rattle.flat_paths.specs.Laid.{laid}
+use Rattle.flat_paths.specs.Laws.{part-laid}
+use Rattle.coverage.specs.Coverage.{reaching, firstCovering}
+
+-- ---- a claim reaches by its rights and by the paths of two resources
+
+-- whether the path of the resource at place x contains that of the resource at place y
+abbrev pub containing : Resources → ℕ → ℕ → Bool
+containing k x y = contained (pathOf (getD (k .list) x noResource)) (pathOf (getD (k .list) y noResource))
+
+module _ (cs : List Claim) (spots : List ℕ) (k : Resources) (sized : All (λ o. length (o .path) ≡ pathLimit) (k .list)) (right spot j : ℕ) where
+  pub reaching-natural : reaching (map rightsOf cs) spots (laid k .bytes) (laid k .lens) right spot j
+      ≡ hasRight (getD cs j noClaim .rights) right
+      && (ltb j (length spots) && (ltb (getD spots j 0) resourceLimit && (ltb spot resourceLimit && containing k (getD spots j 0) spot)))
+  reaching-natural = rw (List·getD-map rightsOf cs j noClaim, part-laid k sized (getD spots j 0), part-laid k sized spot)
+
+  -- where both resources stand at a place
+  pub reaching-placed : j < length spots → getD spots j 0 < resourceLimit → spot < resourceLimit
+      → reaching (map rightsOf cs) spots (laid k .bytes) (laid k .lens) right spot j
+      ≡ hasRight (getD cs j noClaim .rights) right && containing k (getD spots j 0) spot
+  reaching-placed there claimed used =
+      reaching-natural ∙ rw (lt-ltb j (length spots) there, lt-ltb (getD spots j 0) resourceLimit claimed, lt-ltb spot resourceLimit used)
+
+  -- a claim whose resource stands at no place reaches nothing
+  pub reaching-unplaced : resourceLimit ≤ getD spots j 0 → reaching (map rightsOf cs) spots (laid k .bytes) (laid k .lens) right spot j ≡ false
+  reaching-unplaced past =
+      rw (le-ltb (getD spots j 0) resourceLimit past, and-false (ltb j (length spots))) (and-false (hasRight (getD (map rightsOf cs) j 0) right))
+
+-- ---- the first place of a list that passes a test
+abbrev pub firstOf : (ℕ → Bool) → List ℕ → Place
+firstOf p [] = Nowhere
+firstOf p (j ∷ l) = let more = firstOf p l in cond (p j) (At j) more
+
+module _ (p : ℕ → Bool) where
+  first-hit : (j : ℕ) (l : List ℕ) → p j ≡ true → firstOf p (j ∷ l) ≡ At j
+  first-hit j l e = rw e
+
+  first-miss : (j : ℕ) (l : List ℕ) → p j ≡ false → firstOf p (j ∷ l) ≡ firstOf p l
+  first-miss j l e = rw e
+
+  -- the first that passes is in the list, passes, and none before it does
+  pub first-at : (l : List ℕ) (j : ℕ) → firstOf p l ≡ At j
+      → (before : List ℕ) × (after : List ℕ) × (l ≡ before ++ (j ∷ after)) × (p j ≡ true) × All (λ i. p i ≡ false) before
+  first-at [] j q = let never : _≡_ {A = ℕ} 0 1 = cc in absurd (omega arith)
+  first-at (i ∷ l) j q =
+      cases (p i) (λ e. let same : i ≡ j = cc (first-hit i l e) in rw (← same) ([], l, refl, e, tt))
+      (λ e. let found = first-at l j (sym (first-miss i l e) ∙ q) in
+      (i ∷ found .0, found .1, ap (λ m. i ∷ m) (found .2), found .3, (e, found .4)))
+
+  pub first-nowhere : (l : List ℕ) → firstOf p l ≡ Nowhere → All (λ i. p i ≡ false) l
+  first-nowhere [] q = tt
+  first-nowhere (i ∷ l) q =
+      cases (p i) (λ e. let never : _≡_ {A = ℕ} 0 1 = cc (first-hit i l e) in absurd (omega arith))
+      (λ e. (e, first-nowhere l (sym (first-miss i l e) ∙ q)))
+
+  -- and back
+  pub at-first : (before : List ℕ) (j : ℕ) (after : List ℕ) → All (λ i. p i ≡ false) before → p j ≡ true → firstOf p (before ++ (j ∷ after)) ≡ At j
+  at-first [] j after h e = first-hit j after e
+  at-first (i ∷ before) j after h e = first-miss i (before ++ (j ∷ after)) (h .0) ∙ at-first before j after (h .1) e
+
+  pub nowhere-first : (l : List ℕ) → All (λ i. p i ≡ false) l → firstOf p l ≡ Nowhere
+  nowhere-first [] h = refl
+  nowhere-first (i ∷ l) h = first-miss i l (h .0) ∙ nowhere-first l (h .1)
+
+  -- of what a sieve leaves, the first that passes is the first that the sieve does not take and that passes
+  pub first-sifted : (s : ℕ → Bool) (l : List ℕ) → firstOf p (sift s l) ≡ firstOf (λ j. not (s j) && p j) l
+  first-sifted s [] = rw (trim-nil (λ m j. s j))
+  first-sifted s (i ∷ l) =
+      cases (s i) (λ e. rw (trim-hit (λ m j. s j) i l e, e) (first-sifted s l))
+      (λ e. rw (trim-miss (λ m j. s j) i l e, e, first-sifted s l))
+
+-- tests that agree on a list find the same
+pub first-same : (p q : ℕ → Bool) (l : List ℕ) → All (λ j. p j ≡ q j) l → firstOf p l ≡ firstOf q l
+first-same p q [] h = refl
+first-same p q (i ∷ l) h = rw (h .0, first-same p q l (h .1))
+
+-- ---- the first place that covers
+module _ (rights spots bytes lens : List ℕ) (right spot : ℕ) where
+  pub covering-nil : firstCovering [] rights spots bytes lens right spot ≡ Nowhere
+  unfolding firstCovering
+  covering-nil = refl
+
+  pub covering-hit : (j : ℕ) (l : List ℕ) → reaching rights spots bytes lens right spot j ≡ true → firstCovering (j ∷ l) rights spots bytes lens right spot ≡ At j
+  unfolding firstCovering
+  covering-hit j l e = rw e
+
+  pub covering-miss : (j : ℕ) (l : List ℕ) → reaching rights spots bytes lens right spot j ≡ false
+      → firstCovering (j ∷ l) rights spots bytes lens right spot ≡ firstCovering l rights spots bytes lens right spot
+  unfolding firstCovering
+  covering-miss j l e = rw e
+
+  -- it is the first place that reaches
+  pub covering-first : (l : List ℕ) → firstCovering l rights spots bytes lens right spot ≡ firstOf (reaching rights spots bytes lens right spot) l
+  unfolding firstCovering
+  covering-first [] = refl
+  covering-first (j ∷ l) = rw (covering-first l)
+
+  pub covering-at : (l : List ℕ) (j : ℕ) → firstCovering l rights spots bytes lens right spot ≡ At j
+      → (before : List ℕ) × (after : List ℕ) × (l ≡ before ++ (j ∷ after)) × (reaching rights spots bytes lens right spot j ≡ true)
+      × All (λ i. reaching rights spots bytes lens right spot i ≡ false) before
+  covering-at l j q = first-at (reaching rights spots bytes lens right spot) l j (sym (covering-first l) ∙ q)
+
+  pub covering-nowhere : (l : List ℕ) → firstCovering l rights spots bytes lens right spot ≡ Nowhere
+      → All (λ i. reaching rights spots bytes lens right spot i ≡ false) l
+  covering-nowhere l q = first-nowhere (reaching rights spots bytes lens right spot) l (sym (covering-first l) ∙ q)
+
+  pub covering-sifted : (s : ℕ → Bool) (l : List ℕ)
+      → firstCovering (sift s l) rights spots bytes lens right spot ≡ firstOf (λ j. not (s j) && reaching rights spots bytes lens right spot j) l
+  covering-sifted s l = covering-first (sift s l) ∙ first-sifted (reaching rights spots bytes lens right spot) s l

@@ -1,0 +1,155 @@
+-- The judgement of a use by columns is 01's: the violations and the hop count of the use. Assumes nothing.
+use mathlib.Core.Path.{_≡_, refl, sym, ap, _∙_}
+use mathlib.Core.Bool.{Bool, true, false, not, _&&_, cond, or-false, and-assoc}
+use mathlib.Core.List.{List, [], _∷_, map}
+use Prim.Native.Nat.{ℕ}
+use lib.Dec.{eqb}
+use lib.ListN.{getD, List·getD-map}
+use Rattle.lists.specs.Lists.{any}
+use Rattle.lists.specs.Each.{All, all-unmap, all-imp}
+use Rattle.register.specs.Limits.{machineKind}
+use Rattle.register.specs.Register.{actorsOf, claimsOf, noActor, noClaim}
+use Rattle.register.specs.Chain.{latest, above, hopsOf}
+use Rattle.register.specs.declared.Actor.{Actor}
+use Rattle.register.specs.declared.Claim.{Claim}
+use Rattle.register.specs.declared.Register.{Register}
+use Rattle.columns.specs.Columns.{actorId, ownerOf, claimId, parentOf, latestPlace}
+use Rattle.columns.specs.Laws.{among-natural, hop-count-natural, steps-within}
+use Rattle.columns.specs.declared.Place.{Place}
+use Rattle.columns.specs.declared.Place.the-variants.{At, Nowhere}
+use Rattle.rules.specs.Sound.{sound}
+use Rattle.rules.specs.Registers.{sound-out}
+use Rattle.actions.specs.declared.Usage.{Usage}
+use Rattle.actions.specs.declared.Violation.the-variants.{NotCovered as UseNotCovered, OwnerNotCovering as UseOwnerNotCovering, ParentGone as UseParentGone}
+use Rattle.verdicts.specs.Gate.{covers, isMachine, ownerLacks, parentless, parentGone, useViolation, hopsIn, hopsFor}
+use Rattle.verdicts.specs.Places.{Place as Stands, each-place}
+use Rattle.verdicts.specs.Trace.{place-hops-most}
+use Rattle.use_judging.specs.Uses.{publicOf, openTo, stepsOf, hopsFrom, parentlessAt, coveredBy, faultOf, reliedOn, useJudged}
+use Rattle.gathering.specs.Gathering.{coverPlaces}
+use Rattle.sights.specs.Sights.{Typed, ownerAt, ownerIn, sightOf, spotFor, faultAt}
+use Rattle.sights.specs.Distinct.{askedAt, asked-natural}
+use Rattle.sights.specs.Relying.{aloneAt, claimAt, claimPlaces, firstPlace, first-any, claims-read, relied-natural, place-natural, covers-natural}
+
+-- ---- the claim relied on: its parent and its hops
+module _ (r : Register) where
+  abbrev ids : List ℕ
+  ids = map claimId (r .claims .list)
+
+  abbrev parents : List ℕ
+  parents = map parentOf (r .claims .list)
+
+  parent-at : (j : ℕ) → getD parents j 0 ≡ claimAt r j .parent
+  parent-at j = List·getD-map parentOf (r .claims .list) j noClaim
+
+  -- the claim at a place has a parent that does not stand where the columns say so
+  parentless-at : (p : Place) → any (parentless r) (aloneAt (claimAt r) p) ≡ parentlessAt ids parents (r .claims .count) p
+  parentless-at Nowhere = refl
+  parentless-at (At j) =
+      or-false (parentless r (claimAt r j))
+      ∙ rw (parent-at j, among-natural claimId (claimAt r j .parent) (r .claims .count) (r .claims .list))
+
+  -- the claim relied on has a parent that does not stand where the columns say so of the first place
+  pub parent-natural : (now x : ℕ) (u : Usage) → parentGone r now x u ≡ parentlessAt ids parents (r .claims .count) (firstPlace r now x u)
+  unfolding parentGone
+  parent-natural now x u = ap (any (parentless r)) (relied-natural r now x u) ∙ parentless-at (firstPlace r now x u)
+
+  -- the claim at a place of the register has as many hops as its chain by columns has steps
+  hops-at : sound r ≡ true → (j : ℕ) → Stands (claimsOf (r .claims)) (claimAt r j)
+      → hopsIn r (aloneAt (claimAt r) (At j)) ≡ hopsFrom ids parents (r .claims .count) (At j)
+  hops-at h j at =
+      let higher : List Claim = above (latest (claimsOf (r .claims))) (claimAt r j) in
+      let steps = steps-within higher (hopsOf (latest (claimsOf (r .claims))) (claimAt r j)) refl (place-hops-most r h (claimAt r j) at) in
+      sym (rw (parent-at j) (ap stepsOf (hop-count-natural (r .claims .list) (r .claims .count) (claimAt r j .parent) ∙ steps)))
+
+  -- each place of the register's claims is that of a claim that stands
+  claims-stand : All (λ j. Stands (claimsOf (r .claims)) (claimAt r j)) (claimPlaces r)
+  claims-stand =
+      all-unmap (claimAt r) (λ c. Stands (claimsOf (r .claims)) c) (claimPlaces r)
+      (rw (claims-read r) (each-place (claimsOf (r .claims))))
+
+  -- the hop count of the claim relied on, by columns
+  pub hops-natural : sound r ≡ true → (now x : ℕ) (u : Usage) → hopsFor r now x u ≡ hopsFrom ids parents (r .claims .count) (firstPlace r now x u)
+  unfolding hopsFor
+  hops-natural h now x u =
+      ap (hopsIn r) (relied-natural r now x u)
+      ∙ first-any (λ p. hopsIn r (aloneAt (claimAt r) p) ≡ hopsFrom ids parents (r .claims .count) p) _ (claimPlaces r) refl
+      (all-imp (λ j. Stands (claimsOf (r .claims)) (claimAt r j))
+      (λ j. hopsIn r (aloneAt (claimAt r) (At j)) ≡ hopsFrom ids parents (r .claims .count) (At j)) (hops-at h) (claimPlaces r) claims-stand)
+
+-- ---- the actor: whether it is a machine, and its owner
+module _ (r : Register) (h : sound r ≡ true) (x : ℕ) where
+  -- where the actor numbered x stands
+  abbrev actorPlace : Place
+  actorPlace = latestPlace (map actorId (r .actors .list)) (r .actors .count) x
+
+  -- some actor has the number x and passes a test where the one at the place of x does
+  pub asked-actor : (q : Actor → Bool) → any (λ a. eqb x (a .id) && q a) (actorsOf (r .actors)) ≡ askedAt noActor (r .actors .list) q actorPlace
+  asked-actor q = asked-natural actorId noActor refl (r .actors .list) x q (r .actors .count) (sound-out r h .actors .apart)
+
+  -- what is asked of a machine and of its owner, place by place
+  owner-asked : (f : ℕ → Bool) (p : Place)
+      → askedAt noActor (r .actors .list) (λ a. eqb (a .kind) machineKind && (not (eqb (a .owner) 0) && not (f (a .owner)))) p
+      ≡ (askedAt noActor (r .actors .list) (λ a. eqb (a .kind) machineKind) p && not (eqb (ownerAt (map ownerOf (r .actors .list)) p) 0))
+      && not (f (ownerAt (map ownerOf (r .actors .list)) p))
+  owner-asked f Nowhere = refl
+  owner-asked f (At j) =
+      rw (List·getD-map ownerOf (r .actors .list) j noActor)
+      (sym (and-assoc (eqb (getD (r .actors .list) j noActor .kind) machineKind) (not (eqb (getD (r .actors .list) j noActor .owner) 0))
+      (not (f (getD (r .actors .list) j noActor .owner)))))
+
+  -- the owner lacks where x is a machine with an owner and the owner does not cover the use
+  pub owner-natural : (now : ℕ) (u : Usage)
+      → ownerLacks r now x u ≡ (isMachine r x && not (eqb (ownerIn r x) 0)) && not (covers r now (ownerIn r x) u)
+  unfolding ownerLacks isMachine
+  owner-natural now u =
+      asked-actor (λ a. eqb (a .kind) machineKind && (not (eqb (a .owner) 0) && not (covers r now (a .owner) u)))
+      ∙ owner-asked (λ y. covers r now y u) actorPlace
+      ∙ sym (ap (λ b. (b && not (eqb (ownerIn r x) 0)) && not (covers r now (ownerIn r x) u)) (asked-actor (λ a. eqb (a .kind) machineKind)))
+
+-- ---- the judgement
+
+-- the violations of a fault are chosen by the same tests
+fault-chosen : (n : ℕ) (covered lacking gone : Bool) → faultAt n (faultOf covered lacking gone)
+    ≡ cond covered (cond lacking (UseOwnerNotCovering n ∷ []) (cond gone (UseParentGone n ∷ []) [])) (UseNotCovered n ∷ [])
+fault-chosen n false lacking gone = refl
+fault-chosen n true true gone = refl
+fault-chosen n true false true = refl
+fault-chosen n true false false = refl
+
+module _ (r : Register) (typed : Typed r) (h : sound r ≡ true) (now x : ℕ) (u : Usage) where
+  -- the use is open
+  abbrev freely : Bool
+  freely = openTo (map publicOf (r .resources .list)) (spotFor r u) (u .right)
+
+  -- the place relied on by the gathered places of y
+  abbrev place : ℕ → Place
+  place y = reliedOn (sightOf r now x) (coverPlaces (r .claims) y now) (spotFor r u) (u .right)
+
+  covered-natural : (y : ℕ) → coveredBy freely (place y) ≡ covers r now y u
+  covered-natural y = ap (coveredBy freely) (place-natural r typed h now y u x) ∙ sym (covers-natural r typed h now y u)
+
+  lacking-natural : (isMachine r x && not (eqb (ownerIn r x) 0)) && not (coveredBy freely (place (ownerIn r x))) ≡ ownerLacks r now x u
+  lacking-natural =
+      ap (λ b. (isMachine r x && not (eqb (ownerIn r x) 0)) && not b) (covered-natural (ownerIn r x)) ∙ sym (owner-natural r h x now u)
+
+  gone-natural : parentlessAt (map claimId (r .claims .list)) (map parentOf (r .claims .list)) (r .claims .count) (place x) ≡ parentGone r now x u
+  gone-natural =
+      ap (parentlessAt (map claimId (r .claims .list)) (map parentOf (r .claims .list)) (r .claims .count)) (place-natural r typed h now x u x)
+      ∙ sym (parent-natural r now x u)
+
+  pub fault-natural : (n : ℕ) → faultAt n (useJudged (sightOf r now x) (spotFor r u) (u .right) .fault) ≡ useViolation r now x n u
+  unfolding useJudged useViolation
+  fault-natural n =
+      rw (covered-natural x, lacking-natural, gone-natural) (fault-chosen n (covers r now x u) (ownerLacks r now x u) (parentGone r now x u))
+
+  pub hop-natural : useJudged (sightOf r now x) (spotFor r u) (u .right) .hops ≡ hopsFor r now x u
+  unfolding useJudged
+  hop-natural =
+      ap (hopsFrom (map claimId (r .claims .list)) (map parentOf (r .claims .list)) (r .claims .count)) (place-natural r typed h now x u x)
+      ∙ sym (hops-natural r h now x u)
+
+-- a use judged by columns is the use as the gate judges it: its violations and its hop count
+pub use-natural : (r : Register) → Typed r → sound r ≡ true → (now x n : ℕ) (u : Usage)
+    → (faultAt n (useJudged (sightOf r now x) (spotFor r u) (u .right) .fault) ≡ useViolation r now x n u)
+    × (useJudged (sightOf r now x) (spotFor r u) (u .right) .hops ≡ hopsFor r now x u)
+use-natural r typed h now x n u = (fault-natural r typed h now x u n, hop-natural r typed h now x u)

@@ -1,0 +1,5 @@
+pub mod Sights
+pub mod Distinct
+pub mod Resources
+pub mod Relying
+pub mod Laws

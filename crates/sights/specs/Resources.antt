@@ -1,0 +1,73 @@
+-- What the gate asks of a register's resources by their ids, asked of what stands at their spots. Assumes nothing.
+use mathlib.Core.Path.{_≡_, refl, ap, _∙_}
+use mathlib.Core.Bool.{Bool, true, _&&_}
+use mathlib.Core.List.{List, map}
+use Prim.Native.Nat.{ℕ, _≤_, _<_}
+use native.Mathlib.Omega.{arith}
+use borrow.Author.Tests.{lt-ltb, ltb-false}
+use lib.Dec.{eqb, ltb}
+use lib.ListN.{length, getD, List·getD-map, List·getD-eq-default}
+use Rattle.lists.specs.Tests.{cases}
+use Rattle.lists.specs.Lists.{any}
+use Rattle.rights.specs.Rights.{reading}
+use Rattle.paths.specs.Containment.{contained}
+use Rattle.register.specs.Limits.{resourceLimit}
+use Rattle.register.specs.Register.{resourcesOf, pathOf, noResource}
+use Rattle.register.specs.declared.Resource.{Resource}
+use Rattle.register.specs.declared.Register.{Register}
+use Rattle.columns.specs.Columns.{resourceId, latestPlace}
+use Rattle.columns.specs.Laws.{place-found}
+use Rattle.columns.specs.declared.Place.{Place}
+use Rattle.columns.specs.declared.Place.the-variants.{At, Nowhere}
+use Rattle.rules.specs.Sound.{sound}
+use Rattle.rules.specs.Registers.{sound-out}
+use Rattle.actions.specs.declared.Usage.{Usage}
+use Rattle.verdicts.specs.Gate.{publicRead, contains}
+use Rattle.gathering.specs.Gathering.{spotOf, spotIn}
+use Rattle.coverage.specs.Laws.{containing}
+use Rattle.use_judging.specs.Uses.{publicOf, openTo}
+use Rattle.sights.specs.Sights.{Typed, spotFor}
+use Rattle.sights.specs.Distinct.{askedAt, asked-natural}
+
+-- what is asked at a place below the limit is asked at its spot
+asked-limited : {A : Type 0} (d : A) (l : List A) (q : A → Bool) (p : Place) → ((j : ℕ) → p ≡ At j → j < resourceLimit)
+    → askedAt d l q p ≡ ltb (spotOf p) resourceLimit && q (getD l (spotOf p) d)
+asked-limited d l q (At j) below = rw (lt-ltb j resourceLimit (below j refl))
+asked-limited d l q Nowhere below = refl
+
+-- the spot of the resource numbered x
+abbrev pub spotBy : Register → ℕ → ℕ
+spotBy r x = spotIn (map resourceId (r .resources .list)) (r .resources .count) x
+
+module _ (r : Register) (h : sound r ≡ true) where
+  -- some resource has the number x and passes a test where x has a spot and the resource there does
+  pub asked-spot : (x : ℕ) (q : Resource → Bool) → any (λ o. eqb x (o .id) && q o) (resourcesOf (r .resources))
+      ≡ ltb (spotBy r x) resourceLimit && q (getD (r .resources .list) (spotBy r x) noResource)
+  asked-spot x q =
+      let most : r .resources .count ≤ resourceLimit = sound-out r h .limits .resourceCount in
+      asked-natural resourceId noResource refl (r .resources .list) x q (r .resources .count) (sound-out r h .resources .apart)
+      ∙ asked-limited noResource (r .resources .list) q (latestPlace (map resourceId (r .resources .list)) (r .resources .count) x)
+      (λ j e. omega (arith, most, place-found (map resourceId (r .resources .list)) x (r .resources .count) j e .0))
+
+  -- the path of one resource contains that of another where both have a spot and the path at the one contains the path at the other
+  pub contains-natural : (x y : ℕ)
+      → contains r x y ≡ ltb (spotBy r x) resourceLimit && (ltb (spotBy r y) resourceLimit && containing (r .resources) (spotBy r x) (spotBy r y))
+  unfolding contains
+  contains-natural x y =
+      asked-spot x (λ o. any (λ i. eqb y (i .id) && contained (pathOf o) (pathOf i)) (resourcesOf (r .resources)))
+      ∙ ap (λ b. ltb (spotBy r x) resourceLimit && b)
+      (asked-spot y (λ i. contained (pathOf (getD (r .resources .list) (spotBy r x) noResource)) (pathOf i)))
+
+  -- past the spots nothing is public
+  public-spot : Typed r → (j : ℕ)
+      → ltb j resourceLimit && eqb (getD (r .resources .list) j noResource .public) 1 ≡ eqb (getD (map publicOf (r .resources .list)) j 0) 1
+  public-spot typed j =
+      cases (ltb j resourceLimit) (λ e. rw (e, List·getD-map publicOf (r .resources .list) j noResource))
+      (λ e. let past : length (r .resources .list) ≤ j = omega (arith, typed .resourcesLong, ltb-false j resourceLimit e) in
+      rw (e, List·getD-map publicOf (r .resources .list) j noResource, List·getD-eq-default (r .resources .list) noResource past))
+
+  -- a public resource read is one open at its spot
+  pub public-natural : Typed r → (u : Usage) → publicRead r u ≡ openTo (map publicOf (r .resources .list)) (spotFor r u) (u .right)
+  unfolding publicRead
+  public-natural typed u =
+      ap (λ b. eqb (u .right) reading && b) (asked-spot (u .resource) (λ o. eqb (o .public) 1) ∙ public-spot typed (spotFor r u))

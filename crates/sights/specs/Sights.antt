@@ -1,0 +1,65 @@
+-- What the gate sees of a register for an actor at a moment, by columns: what `use_judging` is handed.
+use mathlib.Core.Path.{_≡_}
+use mathlib.Core.Bool.{not, _&&_}
+use mathlib.Core.List.{List, [], _∷_, map}
+use Prim.Native.Nat.{ℕ}
+use lib.Dec.{eqb}
+use lib.ListN.{length, getD}
+use Rattle.lists.specs.Each.{All}
+use Rattle.register.specs.Limits.{actorLimit, resourceLimit, claimLimit, pathLimit}
+use Rattle.register.specs.declared.Register.{Register}
+use Rattle.columns.specs.Columns.{actorId, ownerOf, resourceId, claimId, parentOf, rightsOf, latestPlace}
+use Rattle.columns.specs.declared.Place.{Place}
+use Rattle.columns.specs.declared.Place.the-variants.{At, Nowhere}
+use Rattle.actions.specs.declared.Usage.{Usage}
+use Rattle.actions.specs.declared.Violation.{Violation}
+use Rattle.actions.specs.declared.Violation.the-variants.{NotCovered as UseNotCovered, OwnerNotCovering as UseOwnerNotCovering, ParentGone as UseParentGone}
+use Rattle.verdicts.specs.Gate.{isMachine}
+use Rattle.gathering.specs.Gathering.{spotIn, spotsIn, coverPlaces}
+use Rattle.flat_paths.specs.Laid.{laid}
+use Rattle.use_judging.specs.Uses.{publicOf, Sight}
+use Rattle.use_judging.specs.declared.Fault.{Fault}
+use Rattle.use_judging.specs.declared.Fault.the-variants.{Nothing, NotCovered, OwnerNotCovering, ParentGone}
+
+-- the arrays of a register have their lengths
+pub record Typed (r : Register) : Type 0 where
+  pub actorsLong : length (r .actors .list) ≡ actorLimit
+  pub resourcesLong : length (r .resources .list) ≡ resourceLimit
+  pub claimsLong : length (r .claims .list) ≡ claimLimit
+  pub pathsLong : All (λ o. length (o .path) ≡ pathLimit) (r .resources .list)
+
+-- the owner's number of the actor at a place, 0 for none
+abbrev pub ownerAt : List ℕ → Place → ℕ
+ownerAt owners (At j) = getD owners j 0
+ownerAt owners Nowhere = 0
+
+-- the owner's number of the actor numbered x
+abbrev pub ownerIn : Register → ℕ → ℕ
+ownerIn r x = ownerAt (map ownerOf (r .actors .list)) (latestPlace (map actorId (r .actors .list)) (r .actors .count) x)
+
+-- the columns of a register, with the gathered claims of the actor numbered x and of its owner
+abbrev pub sightOf : Register → ℕ → ℕ → Sight
+sightOf r now x = record {
+  own = coverPlaces (r .claims) x now;
+  theirs = coverPlaces (r .claims) (ownerIn r x) now;
+  owned = isMachine r x && not (eqb (ownerIn r x) 0);
+  rights = map rightsOf (r .claims .list);
+  spots = spotsIn (map resourceId (r .resources .list)) (r .resources .count) (r .claims .list);
+  bytes = laid (r .resources) .bytes;
+  lens = laid (r .resources) .lens;
+  publics = map publicOf (r .resources .list);
+  ids = map claimId (r .claims .list);
+  parents = map parentOf (r .claims .list);
+  count = r .claims .count;
+}
+
+-- the place of the used resource
+abbrev pub spotFor : Register → Usage → ℕ
+spotFor r u = spotIn (map resourceId (r .resources .list)) (r .resources .count) (u .resource)
+
+-- the violations that a fault of the use at position n is
+abbrev pub faultAt : ℕ → Fault → List Violation
+faultAt n Nothing = []
+faultAt n NotCovered = UseNotCovered n ∷ []
+faultAt n OwnerNotCovering = UseOwnerNotCovering n ∷ []
+faultAt n ParentGone = UseParentGone n ∷ []

@@ -1,0 +1,102 @@
+-- How many violations and hop counts an answer has at most. Assumes nothing.
+use mathlib.Core.Path.{_≡_, refl, ap, _∙_}
+use mathlib.Core.Bool.{Bool, true, false, cond}
+use mathlib.Core.List.{List, [], _∷_, _++_, map}
+use Prim.Native.Nat.{ℕ, suc, _-_, _≤_, _/_, _%_, _^_}
+use native.Mathlib.Omega.{arith}
+use lib.Dec.{eqb}
+use lib.ListN.{length, replicate, length-append, length-take, length-map, length-replicate}
+use Rattle.lists.specs.Tests.{cases}
+use Rattle.lists.specs.Lists.{any}
+use Rattle.lists.specs.Counts.{counted}
+use Rattle.lists.specs.Trims.{sift, trim-length}
+use Rattle.register.specs.Limits.{hopLimit}
+use Rattle.register.specs.Register.{claimsOf}
+use Rattle.register.specs.declared.Register.{Register}
+use Rattle.rules.specs.Sound.{sound}
+use Rattle.actions.specs.Actions.{useLimit, violationLimit, flagCount, usesOf, governsOf, actionFits}
+use Rattle.actions.specs.declared.Usage.{Usage}
+use Rattle.actions.specs.declared.Action.{Action}
+use Rattle.actions.specs.declared.Violation.{Violation}
+use Rattle.actions.specs.declared.Violated.{Violated}
+use Rattle.actions.specs.declared.Violation.the-variants.{FlagSet, NoOwner, NotCovered, OwnerNotCovering, ParentGone}
+use Rattle.verdicts.specs.Gate.{covering, covers, isMachine, isOwnerless, ownerLacks, parentGone, flagsSet, governed, useViolation, useViolations, violationsOf, hopsFor, hopCounts, listed, padded}
+use Rattle.verdicts.specs.Places.{first-none, first-found}
+use Rattle.verdicts.specs.Laws.{action-fits-out, use-violations-nil, use-violations-cons}
+use Rattle.verdicts.specs.Trace.{place-hops-most}
+
+flags-most : (flags : ℕ) → length (flagsSet flags) ≤ flagCount
+unfolding flagsSet
+flags-most flags =
+    omega (
+      arith,
+      length-map (sift (λ i. eqb (flags / 2 ^ i % 2) 0) (counted 0 flagCount)) (λ i. FlagSet i),
+      trim-length (λ M i. eqb (flags / 2 ^ i % 2) 0) (counted 0 flagCount),
+    )
+
+owner-most : (b : Bool) (v : Violation) → length (cond b (v ∷ []) []) ≤ 1
+owner-most true v = omega arith
+owner-most false v = omega arith
+
+governed-length : (n : ℕ) (entries : List ℕ) → length (governed n entries) ≡ length entries
+unfolding governed
+governed-length n [] = refl
+governed-length n (g ∷ entries) = ap suc (governed-length (suc n) entries)
+
+governed-most : (b : Bool) (entries : List ℕ) → length (cond b (governed 0 entries) []) ≤ length entries
+governed-most true entries = omega (arith, governed-length 0 entries)
+governed-most false entries = omega arith
+
+choice-most : (covered lacks gone : Bool) (f s t : Violation) → length (cond covered (cond lacks (s ∷ []) (cond gone (t ∷ []) [])) (f ∷ [])) ≤ 1
+choice-most true true gone f s t = omega arith
+choice-most true false gone f s t = owner-most gone t
+choice-most false lacks gone f s t = omega arith
+
+use-most : (r : Register) (now x n : ℕ) (u : Usage) → length (useViolation r now x n u) ≤ 1
+unfolding useViolation
+use-most r now x n u = choice-most (covers r now x u) (ownerLacks r now x u) (parentGone r now x u) (NotCovered n) (OwnerNotCovering n) (ParentGone n)
+
+uses-most : (r : Register) (now x n : ℕ) (us : List Usage) → length (useViolations r now x n us) ≤ length us
+uses-most r now x n [] = rw (use-violations-nil r now x n) (omega arith)
+uses-most r now x n (u ∷ us) =
+    rw (use-violations-cons r now x n u us)
+    (omega (arith, length-append (useViolation r now x n u) (useViolations r now x (suc n) us), use-most r now x n u, uses-most r now x (suc n) us))
+
+-- an action in range has at most 51 violations: ten flags, one owner, eight governed entries, thirty-two uses
+pub violations-most : (r : Register) (a : Action) → actionFits a ≡ true → length (violationsOf r a) ≤ violationLimit
+unfolding violationsOf
+violations-most r a h =
+    let flags = flagsSet (a .flags) in
+    let owners : List Violation = cond (isOwnerless r (a .actor)) (NoOwner (a .actor) ∷ []) [] in
+    let governing : List Violation = cond (isMachine r (a .actor)) (governed 0 (governsOf a)) [] in
+    let uses = useViolations r (a .now) (a .actor) 0 (usesOf a) in
+    four-most flags owners governing uses (flags-most (a .flags)) (owner-most (isOwnerless r (a .actor)) (NoOwner (a .actor)))
+    (omega (arith, governed-most (isMachine r (a .actor)) (governsOf a), length-take (a .governed) (a .governs), action-fits-out a h .governedMost))
+    (omega (arith, uses-most r (a .now) (a .actor) 0 (usesOf a), length-take (a .used) (a .uses), action-fits-out a h .usesMost))
+  where
+    four-most : (flags owners governing uses : List Violation) → length flags ≤ 10 → length owners ≤ 1 → length governing ≤ 8 → length uses ≤ 32
+        → length (flags ++ (owners ++ (governing ++ uses))) ≤ 51
+    four-most flags owners governing uses f o g u =
+        omega (arith, length-append flags (owners ++ (governing ++ uses)), length-append owners (governing ++ uses), length-append governing uses)
+
+-- so the answer holds them all, at their places, and is always as long
+pub listed-length : (vs : List Violation) → length vs ≤ violationLimit → length (listed vs .list) ≡ violationLimit
+listed-length vs h =
+    let entry : Violation → Violated = λ v. record { what = v } in
+    length-append (map entry vs) (replicate (violationLimit - length vs) (entry (FlagSet 0)))
+    ∙ omega (arith, length-map vs entry, length-replicate (violationLimit - length vs) (entry (FlagSet 0)))
+
+-- there are as many hop counts as uses, each at most 16 in a sound register
+pub hop-counts-length : (r : Register) (a : Action) → length (hopCounts r a) ≡ length (usesOf a)
+hop-counts-length r a = length-map (usesOf a) (λ u. hopsFor r (a .now) (a .actor) u)
+
+pub hops-most : (r : Register) → sound r ≡ true → (now x : ℕ) (u : Usage) → hopsFor r now x u ≤ hopLimit
+unfolding hopsFor
+hops-most r h now x u =
+    cases (any (covering r now x u) (claimsOf (r .claims)))
+    (λ e. let found = first-found (covering r now x u) (claimsOf (r .claims)) e in
+    rw (found .1 .alone) (place-hops-most r h (found .0) (found .1 .place)))
+    (λ e. rw (first-none (covering r now x u) (claimsOf (r .claims)) e) (omega arith))
+
+pub padded-length : (hs : List ℕ) → length hs ≤ useLimit → length (padded hs) ≡ useLimit
+padded-length hs h = length-append hs (replicate (useLimit - length hs) 0) ∙ omega (arith, length-replicate {A = ℕ} (useLimit - length hs) 0)

@@ -1,0 +1,122 @@
+-- Covering: what a covering claim is, a use that is not covered, and that a sound register never has kind 6.
+-- Assumes nothing.
+use mathlib.Core.Path.{_≡_, sym, _∙_}
+use mathlib.Core.Bool.{true, false, _&&_, cond, and-false}
+use mathlib.Core.List.{[], _∷_, _++_}
+use Prim.Native.Nat.{ℕ}
+use borrow.Author.Tests.{eqb-false}
+use lib.Dec.{eqb}
+use Rattle.lists.specs.Tests.{cases, clash, and-left, or-right}
+use Rattle.lists.specs.Lists.{any, any-append, any-reverse}
+use Rattle.lists.specs.Each.{ands-out, all-none, each-all}
+use Rattle.rights.specs.Rights.{reading, hasRight}
+use Rattle.paths.specs.Containment.{contained}
+use Rattle.register.specs.Register.{actorsOf, resourcesOf, claimsOf, pathOf}
+use Rattle.register.specs.Chain.{latest, live}
+use Rattle.register.specs.declared.Claim.{Claim}
+use Rattle.register.specs.declared.Register.{Register}
+use Rattle.rules.specs.Sound.{World, worldOf, soundClaims, sound}
+use Rattle.rules.specs.Registers.{sound-out}
+use Rattle.rules.specs.Places.{place-parent}
+use Rattle.actions.specs.declared.Usage.{Usage}
+use Rattle.actions.specs.declared.Violation.the-variants.{NotCovered, OwnerNotCovering}
+use Rattle.verdicts.specs.Places.{Place, none-weaken, latest-split, first-none, first-found}
+use Rattle.verdicts.specs.Gate.{publicRead, contains, covering, covers, ownerLacks, parentless, parentGone, useViolation, hopsFor}
+
+-- what a covering claim is
+pub record Covering (r : Register) (now x : ℕ) (u : Usage) (c : Claim) : Type 0 where
+  pub held : eqb (c .holder) x ≡ true
+  pub lives : live now c ≡ true
+  pub has : hasRight (c .rights) (u .right) ≡ true
+  pub containing : contains r (c .resource) (u .resource) ≡ true
+
+pub covering-out : (r : Register) (now x : ℕ) (u : Usage) (c : Claim) → covering r now x u c ≡ true → Covering r now x u c
+unfolding covering
+covering-out r now x u c h =
+    let told = ands-out (eqb (c .holder) x ∷ live now c ∷ hasRight (c .rights) (u .right) ∷ contains r (c .resource) (u .resource) ∷ []) h in
+    record { held = told .0; lives = told .1 .0; has = told .1 .1 .0; containing = told .1 .1 .1 .0 }
+
+pub covering-in : (r : Register) (now x : ℕ) (u : Usage) (c : Claim) → Covering r now x u c → covering r now x u c ≡ true
+unfolding covering
+covering-in r now x u c h = rw (h .held, h .lives, h .has, h .containing)
+
+-- who covers a use either reads what is public or holds a covering claim
+pub covers-cases : {A : Type 0} (r : Register) (now x : ℕ) (u : Usage) → covers r now x u ≡ true
+    → (publicRead r u ≡ true → A) → (any (covering r now x u) (claimsOf (r .claims)) ≡ true → A) → A
+unfolding covers
+covers-cases r now x u h f g = cases (publicRead r u) f (λ e. g (rw e at h))
+
+pub covers-none : (r : Register) (now x : ℕ) (u : Usage) → covers r now x u ≡ false → any (covering r now x u) (claimsOf (r .claims)) ≡ false
+unfolding covers
+covers-none r now x u h = or-right (publicRead r u) (any (covering r now x u) (claimsOf (r .claims))) h
+
+-- a use that is not covered has kind 4 with its position, and hop count 0
+pub not-covered-violation : (r : Register) (now x n : ℕ) (u : Usage) → covers r now x u ≡ false → useViolation r now x n u ≡ NotCovered n ∷ []
+unfolding useViolation
+not-covered-violation r now x n u h = rw h
+
+pub not-covered-hops : (r : Register) (now x : ℕ) (u : Usage) → covers r now x u ≡ false → hopsFor r now x u ≡ 0
+unfolding hopsFor
+not-covered-hops r now x u h = rw (first-none (covering r now x u) (claimsOf (r .claims)) (covers-none r now x u h))
+
+-- what does not stand is contained in nothing, and no one covers it
+absent-uncontained : (r : Register) (x y : ℕ) → any (λ o. eqb y (o .id)) (resourcesOf (r .resources)) ≡ false → contains r x y ≡ false
+unfolding contains
+absent-uncontained r x y h =
+    all-none (λ o. eqb x (o .id) && any (λ i. eqb y (i .id) && contained (pathOf o) (pathOf i)) (resourcesOf (r .resources)))
+    (resourcesOf (r .resources)) (each-all (λ M o. eqb x (o .id) && any (λ i. eqb y (i .id) && contained (pathOf o) (pathOf i)) (resourcesOf (r .resources)) ≡ false)
+    (λ M o. rw (none-weaken (λ i. eqb y (i .id) && contained (pathOf o) (pathOf i)) (λ i. eqb y (i .id))
+    (λ i. and-left (eqb y (i .id)) (contained (pathOf o) (pathOf i))) (resourcesOf (r .resources)) h)
+    (and-false (eqb x (o .id)))) (resourcesOf (r .resources)))
+
+absent-private : (r : Register) (u : Usage) → any (λ o. eqb (u .resource) (o .id)) (resourcesOf (r .resources)) ≡ false → publicRead r u ≡ false
+unfolding publicRead
+absent-private r u h =
+    rw (none-weaken (λ o. eqb (u .resource) (o .id) && eqb (o .public) 1) (λ o. eqb (u .resource) (o .id))
+    (λ o. and-left (eqb (u .resource) (o .id)) (eqb (o .public) 1)) (resourcesOf (r .resources)) h)
+    (and-false (eqb (u .right) reading))
+
+pub absent-not-covered : (r : Register) (now x : ℕ) (u : Usage) → any (λ o. eqb (u .resource) (o .id)) (resourcesOf (r .resources)) ≡ false
+    → covers r now x u ≡ false
+unfolding covers
+absent-not-covered r now x u h =
+    rw (absent-private r u h)
+    (all-none (covering r now x u) (claimsOf (r .claims)) (each-all (λ M c. covering r now x u c ≡ false) (λ M c. cases (covering r now x u c)
+    (λ e. clash (contains r (c .resource) (u .resource)) (covering-out r now x u c e .containing)
+    (absent-uncontained r (c .resource) (u .resource) h)) (λ e. e)) (claimsOf (r .claims))))
+
+-- so a use of what does not stand is answered as one of what is not held
+pub absent-as-not-held : (r : Register) (now x n : ℕ) (u v : Usage) → any (λ o. eqb (u .resource) (o .id)) (resourcesOf (r .resources)) ≡ false
+    → covers r now x v ≡ false → (useViolation r now x n u ≡ useViolation r now x n v) × (hopsFor r now x u ≡ hopsFor r now x v)
+absent-as-not-held r now x n u v absent lacks =
+    let none = absent-not-covered r now x u absent in
+    (not-covered-violation r now x n u none ∙ sym (not-covered-violation r now x n v lacks), not-covered-hops r now x u none ∙ sym (not-covered-hops r now x v lacks))
+
+-- the claims of a sound register are sound around each place
+pub sound-place : (r : Register) → sound r ≡ true → (c : Claim) (at : Place (claimsOf (r .claims)) c)
+    → soundClaims (worldOf (actorsOf (r .actors)) (resourcesOf (r .resources))) (latest (at .after) ++ c ∷ latest (at .before)) ≡ true
+sound-place r h c at =
+    rw (← latest-split (at .before) c (at .after)) (rw (at .split) at (sound-out r h .claims))
+
+-- the parent of a claim that stands in a sound register stands too
+pub parent-stands : (r : Register) → sound r ≡ true → (c : Claim) → Place (claimsOf (r .claims)) c → parentless r c ≡ false
+parent-stands r h c at =
+    let w : World = worldOf (actorsOf (r .actors)) (resourcesOf (r .resources)) in
+    cases (eqb (c .parent) 0) (λ e. rw e)
+    (λ e. let earlier = sym (any-reverse (λ d. eqb (c .parent) (d .id)) (at .before))
+    ∙ place-parent w (latest (at .after)) c (latest (at .before)) (sound-place r h c at) (eqb-false (c .parent) 0 e) in
+    rw (e, at .split, any-append (λ d. eqb (c .parent) (d .id)) (at .before) (c ∷ at .after), earlier))
+
+-- so in a sound register no use has kind 6
+pub parent-never-gone : (r : Register) → sound r ≡ true → (now x : ℕ) (u : Usage) → parentGone r now x u ≡ false
+unfolding parentGone
+parent-never-gone r h now x u =
+    cases (any (covering r now x u) (claimsOf (r .claims)))
+    (λ e. let found = first-found (covering r now x u) (claimsOf (r .claims)) e in
+    rw (found .1 .alone, parent-stands r h (found .0) (found .1 .place)))
+    (λ e. rw (first-none (covering r now x u) (claimsOf (r .claims)) e))
+
+pub use-violation-sound : (r : Register) → sound r ≡ true → (now x n : ℕ) (u : Usage)
+    → useViolation r now x n u ≡ cond (covers r now x u) (cond (ownerLacks r now x u) (OwnerNotCovering n ∷ []) []) (NotCovered n ∷ [])
+unfolding useViolation
+use-violation-sound r h now x n u = rw (parent-never-gone r h now x u)

@@ -1,0 +1,155 @@
+-- The gate for one action, in 01's words: covers, covering claim, owner, the violations in their order, hop counts.
+use mathlib.Core.Bool.{Bool, not, _&&_, _||_, cond}
+use mathlib.Core.List.{List, [], _∷_, _++_, map}
+use Prim.Native.Nat.{ℕ, suc, _-_, _/_, _%_, _^_}
+use lib.Dec.{eqb}
+use lib.ListN.{length, replicate}
+use Rattle.lists.specs.Tests.{ands}
+use Rattle.lists.specs.Lists.{any}
+use Rattle.lists.specs.Counts.{counted}
+use Rattle.lists.specs.Trims.{sift}
+use Rattle.rights.specs.Rights.{reading, hasRight}
+use Rattle.paths.specs.Containment.{contained}
+use Rattle.register.specs.Limits.{machineKind}
+use Rattle.register.specs.Register.{actorsOf, resourcesOf, claimsOf, pathOf}
+use Rattle.register.specs.Chain.{latest, hopsOf, live}
+use Rattle.register.specs.declared.Claim.{Claim}
+use Rattle.register.specs.declared.Register.{Register}
+use Rattle.rules.specs.Sound.{sound}
+use Rattle.changes.specs.Refusals.{Test, outcomeOf}
+use Rattle.changes.specs.declared.Outcome.{Outcome}
+use Rattle.changes.specs.declared.Outcome.the-variants.{Accepted, Refused as RefusedFor}
+use Rattle.changes.specs.declared.Refusal.the-variants.{Unsound, OutOfRange, Unknown}
+use Rattle.actions.specs.Actions.{useLimit, violationLimit, flagCount, usesOf, governsOf, actionFits}
+use Rattle.actions.specs.declared.Usage.{Usage}
+use Rattle.actions.specs.declared.Action.{Action}
+use Rattle.actions.specs.declared.Violation.{Violation}
+use Rattle.actions.specs.declared.Violation.the-variants.{FlagSet, NoOwner, MachineGoverns, NotCovered, OwnerNotCovering, ParentGone}
+use Rattle.actions.specs.declared.Violations.{Violations}
+use Rattle.actions.specs.declared.Decision.{Decision}
+use Rattle.actions.specs.declared.Decision.the-variants.{Permitted, Refused, Stopped}
+use Rattle.actions.specs.declared.Verdict.{Verdict}
+
+-- whether the resource numbered x is public, and the right is READ
+unfoldable pub publicRead : Register → Usage → Bool
+publicRead r u = eqb (u .right) reading && any (λ o. eqb (u .resource) (o .id) && eqb (o .public) 1) (resourcesOf (r .resources))
+
+-- whether the path of the resource numbered x contains that of the resource numbered y
+unfoldable pub contains : Register → ℕ → ℕ → Bool
+contains r x y =
+    any (λ o. eqb x (o .id) && any (λ i. eqb y (i .id) && contained (pathOf o) (pathOf i)) (resourcesOf (r .resources)))
+    (resourcesOf (r .resources))
+
+-- a covering claim of x: held by x, live, with that right, on a resource whose path contains the used resource's path
+unfoldable pub covering : Register → ℕ → ℕ → Usage → Claim → Bool
+covering r now x u c = ands (
+    eqb (c .holder) x
+    ∷ live now c
+    ∷ hasRight (c .rights) (u .right)
+    ∷ contains r (c .resource) (u .resource)
+    ∷ [])
+
+-- An actor covers a use when the resource stands and either it is public and the right is READ, or the actor holds a covering claim.
+unfoldable pub covers : Register → ℕ → ℕ → Usage → Bool
+covers r now x u = publicRead r u || any (covering r now x u) (claimsOf (r .claims))
+
+-- whether x is a machine; a machine without owner; a machine with an owner who does not cover the use
+unfoldable pub isMachine : Register → ℕ → Bool
+isMachine r x = any (λ a. eqb x (a .id) && eqb (a .kind) machineKind) (actorsOf (r .actors))
+
+unfoldable pub isOwnerless : Register → ℕ → Bool
+isOwnerless r x = any (λ a. eqb x (a .id) && (eqb (a .kind) machineKind && eqb (a .owner) 0)) (actorsOf (r .actors))
+
+unfoldable pub ownerLacks : Register → ℕ → ℕ → Usage → Bool
+ownerLacks r now x u =
+    any (λ a. eqb x (a .id) && (eqb (a .kind) machineKind && (not (eqb (a .owner) 0) && not (covers r now (a .owner) u)))) (actorsOf (r .actors))
+
+-- the first that passes a test, alone in a list, or none
+unfoldable pub firstOf : {A : Type 0} → (A → Bool) → List A → List A
+firstOf p [] = []
+firstOf p (c ∷ cs) = let more = firstOf p cs in cond (p c) (c ∷ []) more
+
+-- the claim relied on: the first covering claim of x in register order, or none
+abbrev pub relied : Register → ℕ → ℕ → Usage → List Claim
+relied r now x u = firstOf (covering r now x u) (claimsOf (r .claims))
+
+-- whether the claim relied on has a parent that does not stand
+abbrev pub parentless : Register → Claim → Bool
+parentless r c = not (eqb (c .parent) 0) && not (any (λ d. eqb (c .parent) (d .id)) (claimsOf (r .claims)))
+
+unfoldable pub parentGone : Register → ℕ → ℕ → Usage → Bool
+parentGone r now x u = any (parentless r) (relied r now x u)
+
+-- 1: one for each set flag, lowest first; flag i is bit i
+unfoldable pub flagsSet : ℕ → List Violation
+flagsSet flags = map (λ i. FlagSet i) (sift (λ i. eqb (flags / 2 ^ i % 2) 0) (counted 0 flagCount))
+
+-- 3: one for each governed entry, by its position from n
+unfoldable pub governed : ℕ → List ℕ → List Violation
+governed n [] = []
+governed n (g ∷ entries) = MachineGoverns n ∷ governed (suc n) entries
+
+-- 4, 5, 6: by use position from n, where the actor does not cover it; else where its owner does not; else where a claim relied on has a
+-- parent that does not stand
+unfoldable pub useViolation : Register → ℕ → ℕ → ℕ → Usage → List Violation
+useViolation r now x n u =
+    cond (covers r now x u)
+    (cond (ownerLacks r now x u) (OwnerNotCovering n ∷ []) (cond (parentGone r now x u) (ParentGone n ∷ []) []))
+    (NotCovered n ∷ [])
+
+unfoldable pub useViolations : Register → ℕ → ℕ → ℕ → List Usage → List Violation
+useViolations r now x n [] = []
+useViolations r now x n (u ∷ us) = useViolation r now x n u ++ useViolations r now x (suc n) us
+
+-- the violations of an action, in 01's order
+unfoldable pub violationsOf : Register → Action → List Violation
+violationsOf r a =
+    flagsSet (a .flags)
+    ++ (cond (isOwnerless r (a .actor)) (NoOwner (a .actor) ∷ []) []
+    ++ (cond (isMachine r (a .actor)) (governed 0 (governsOf a)) []
+    ++ useViolations r (a .now) (a .actor) 0 (usesOf a)))
+
+-- the hop count of the first covering claim of the actor in register order, 0 when there is none
+abbrev pub hopsIn : Register → List Claim → ℕ
+hopsIn r [] = 0
+hopsIn r (c ∷ cs) = hopsOf (latest (claimsOf (r .claims))) c
+
+unfoldable pub hopsFor : Register → ℕ → ℕ → Usage → ℕ
+hopsFor r now x u = hopsIn r (relied r now x u)
+
+abbrev pub hopCounts : Register → Action → List ℕ
+hopCounts r a = map (λ u. hopsFor r (a .now) (a .actor) u) (usesOf a)
+
+-- tests 2 and 3, of the action
+unfoldable pub actionTests : Register → Action → List Test
+actionTests r a =
+    record { passed = actionFits a; refusal = OutOfRange }
+    ∷ record { passed = any (λ b. eqb (a .actor) (b .id)) (actorsOf (r .actors)); refusal = Unknown }
+    ∷ []
+
+-- the tests of the gate: 1, 2 and 3
+unfoldable pub gateTests : Register → Action → List Test
+gateTests r a = record { passed = sound r; refusal = Unsound } ∷ actionTests r a
+
+-- violations as the answer holds them, and hop counts
+abbrev pub listed : List Violation → Violations
+listed vs = record {
+  list = map (λ v. record { what = v }) vs ++ replicate (violationLimit - length vs) (record { what = FlagSet 0 });
+  count = length vs;
+}
+
+abbrev pub padded : List ℕ → List ℕ
+padded hs = hs ++ replicate (useLimit - length hs) 0
+
+-- permitted means an empty list
+abbrev pub decided : List Violation → Decision
+decided [] = Permitted
+decided (v ∷ vs) = Refused
+
+abbrev pub verdictOn : Outcome → Register → Action → Verdict
+verdictOn Accepted r a = record { decision = decided (violationsOf r a); violations = listed (violationsOf r a); hops = padded (hopCounts r a) }
+verdictOn (RefusedFor why) r a = record { decision = Stopped why; violations = listed []; hops = padded [] }
+
+-- the answer of the gate
+unfoldable pub gated : Register → Action → Verdict
+gated r a = verdictOn (outcomeOf (gateTests r a)) r a

@@ -1,0 +1,14 @@
+pub mod Gate
+pub mod Plans
+pub mod Places
+pub mod Laws
+pub mod Flags
+pub mod Machines
+pub mod Coverage
+pub mod Kinds
+pub mod Trace
+pub mod Authority
+pub mod Permission
+pub mod Bounds
+pub mod Cancelling
+pub mod Sameness
