@@ -5,6 +5,7 @@ ghost use Prim.Native.Nat.{_+_, _≤_};
 ghost use lib.ListN.{length};
 ghost use lib.Seq.{paste};
 ghost use Rattle.register.specs.Limits.{pathLimit};
+ghost use Rattle.lists.specs.Each.{All};
 ghost use Rattle.paths.specs.Containment.{contained};
 ghost use Rattle.flat_paths.specs.Laid.{laid, partAt};
 use register::Register;
@@ -34,7 +35,8 @@ fn put_path(bytes: &mut [u8], at: usize, o: Resource)
 
 // Lays the paths of all places.
 pub fn lay(k: Resources) -> Paths
-    ensures { λ r. ⌜ r ≡ laid k ⌝ }
+    ensures laid { λ r. ⌜ r ≡ laid k ⌝ }
+    ensures sized { λ _. ⌜ All (λ o. length (o .path) ≡ pathLimit) (k .list) ⌝ }
 {
     let mut bytes = [0u8; Paths::BYTES];
     let mut lens = [0usize; Register::RESOURCES];

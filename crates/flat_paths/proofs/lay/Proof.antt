@@ -1,10 +1,13 @@
 -- `flat_paths::lay` meets its contract. The loop's invariant: the first `i` paths are laid, and the first `i` lengths stand (Laying). The
 -- measure is the number of places left. Assumes nothing.
-use mathlib.Core.Path.{refl}
+use mathlib.Core.Path.{_≡_, refl}
 use Prim.Native.Nat.{_-_}
+use lib.ListN.{length}
 use borrow.Author.Needs.{needs}
+use Rattle.lists.specs.Each.{All}
+use Rattle.flat_paths.proofs.Owned.{each-told}
 use Rattle.lists.specs.Loops.{length-mapped}
-use Rattle.register.specs.Limits.{resourceLimit}
+use Rattle.register.specs.Limits.{resourceLimit, pathLimit}
 use Rattle.flat_paths.proofs.Laying.{Laying, laying-start, laying-room, laying-next, laying-done}
 use Rattle.flat_paths.proofs.lay.Statement.{statement}
 use Rattle.flat_paths.proofs.lay.Tie as tie
@@ -51,8 +54,12 @@ loop-again c =
     let put = c .before .put-path in
     laying-next (turn .before .loop .inv) _ (turn .loop-test .taken) (put .ensures .0) (put .ensures .1)
 
+-- what owning the resources tells of each: its path has 64 bytes
+paths-told : (s : tie.Start Inv-loop μ-loop) → All (λ o. length (o .path) ≡ pathLimit) (s .args .t1 .list)
+paths-told s = each-told _ _ _ (λ o. length (o .path) ≡ pathLimit) (λ o u told. search (needs, told)) (s .args .t1 .list) _ (s .good .0 .1 .1 .0 .1 .1)
+
 returns : tie.Need-returns Inv-loop μ-loop
-returns c = laying-done _ (c .before .loop .inv) (c .loop-test .left)
+returns c = (laying-done _ (c .before .loop .inv) (c .loop-test .left), paths-told (c .before .before))
 
 pub lay-spec : {M : Type 1} → statement M
 lay-spec =

@@ -1,0 +1,4 @@
+pub mod Putting
+pub mod Testing
+pub mod Seeing
+pub mod Assembling

@@ -1,0 +1,90 @@
+-- `gate::gate` meets its contract: a test that is not passed stops it, and past them the uses are judged by the register's own columns
+-- (`Assembling`). Assumes nothing.
+use mathlib.Core.Path.{_≡_, sym, _∙_}
+use lib.ListN.{length}
+use borrow.Author.Tests.{not-true, not-false}
+use Rattle.lists.specs.Each.{All}
+use Rattle.lists.specs.Loops.{length-mapped}
+use Rattle.register.specs.Limits.{actorLimit, resourceLimit, claimLimit, pathLimit}
+use Rattle.sights.specs.Sights.{Typed}
+use Rattle.gate.proofs.Assembling.{gate-judged, gate-unsound, gate-stopped, acting-alone}
+use borrow.Author.Needs.{needs}
+use Rattle.gate.proofs.gate.Statement.{statement}
+use Rattle.gate.proofs.gate.Tie as tie
+
+-- the register's arrays have their lengths, by their types
+actors-long : (s : tie.Start) → length (s .args .r .actors .list) ≡ actorLimit
+actors-long s = search (needs, length-mapped)
+
+resources-long : (s : tie.Start) → length (s .args .r .resources .list) ≡ resourceLimit
+resources-long s = search (needs, length-mapped)
+
+claims-long : (s : tie.Start) → length (s .args .r .claims .list) ≡ claimLimit
+claims-long s = search (needs, length-mapped)
+
+typed : (s : tie.Start) → All (λ o. length (o .path) ≡ pathLimit) (s .args .r .resources .list) → Typed (s .args .r)
+typed s sized = record { actorsLong = actors-long s; resourcesLong = resources-long s; claimsLong = claims-long s; pathsLong = sized }
+
+is-sound-requires : tie.Need-is-sound-requires
+is-sound-requires c κs = search needs
+
+stopped-requires : tie.Need-stopped-requires
+stopped-requires c κs = search needs
+
+returns : tie.Need-returns
+returns c =
+    let a = c .before .before .before .args in
+    c .stopped .ensures ∙ gate-unsound (a .r) (a .a) (sym (c .before .before .is-sound .ensures) ∙ not-true (c .before .before .is-sound .result) (c .before .if1 .taken))
+
+action-outcome-requires : tie.Need-action-outcome-requires
+action-outcome-requires c κs = search needs
+
+enum-known-outcome : tie.Need-enum-known-outcome
+enum-known-outcome c = search needs
+
+stopped-requires-2 : tie.Need-stopped-requires-2
+stopped-requires-2 c κs = search needs
+
+enum-told : tie.Need-enum-told
+enum-told c = search needs
+
+judge-action-requires : tie.Need-judge-action-requires
+judge-action-requires c κs = search needs
+
+decided-requires : tie.Need-decided-requires
+decided-requires c κs = search needs
+
+returns-2 : tie.Need-returns-2
+returns-2 c =
+    let a = c .before .before .before .before .before .before .before .before .args in
+    let why = c .before .before .outcome .given .0 .0 in
+    c .stopped2 .ensures
+    ∙ gate-stopped (a .r) (a .a) why
+    (sym (c .before .before .before .before .before .before .before .is-sound .ensures) ∙ not-false (c .before .before .before .before .before .before .before .is-sound .result) (c .before .before .before .before .before .before .if1 .left))
+    (sym (acting-alone (a .r) (a .a)) ∙ sym (c .before .before .before .before .action-outcome .ensures) ∙ c .before .before .outcome .given .1)
+
+returns-3 : tie.Need-returns-3
+returns-3 c =
+    let s = c .before .before .before .before .before .before .before .before in
+    let a = s .args in
+    let h = sym (c .before .before .before .before .before .before .before .is-sound .ensures) ∙ not-false (c .before .before .before .before .before .before .before .is-sound .result) (c .before .before .before .before .before .before .if1 .left) in
+    c .decided .ensures
+    ∙ gate-judged (a .r) (typed s (c .before .judge-action .ensures .1)) h (a .a) (c .before .judge-action .result)
+    (sym (acting-alone (a .r) (a .a)) ∙ sym (c .before .before .before .before .action-outcome .ensures) ∙ c .before .before .enum-told .given .1)
+    (c .before .judge-action .ensures .0)
+
+pub gate-spec : {M : Type 1} → statement M
+gate-spec =
+    tie.close
+    (tie.spec
+    is-sound-requires
+    stopped-requires
+    returns
+    action-outcome-requires
+    enum-known-outcome
+    stopped-requires-2
+    enum-told
+    judge-action-requires
+    decided-requires
+    returns-2
+    returns-3)

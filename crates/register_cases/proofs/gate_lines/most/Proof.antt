@@ -1,0 +1,68 @@
+-- `register_cases::gate_lines::most` meets its contract: one turn for each use. Assumes nothing.
+use mathlib.Core.Path.{_≡_}
+use lib.ListN.{length}
+use Prim.Native.Nat.{_≤_, _-_}
+use borrow.Author.Needs.{needs}
+use Rattle.register_cases.proofs.gate_lines.most.Statement.{statement}
+use Rattle.register_cases.proofs.gate_lines.most.Tie as tie
+
+abbrev Inv-loop : tie.InvT-loop
+Inv-loop a₀ i₀ t3 a i = (i ≤ 32) × (length t3 ≡ 13)
+
+abbrev μ-loop : tie.MeasureT-loop
+μ-loop a₀ i₀ t3 a i = 32 - i
+
+action-requires : tie.Need-action-requires Inv-loop μ-loop
+action-requires c κs = search needs
+
+flagged-requires : tie.Need-flagged-requires Inv-loop μ-loop
+flagged-requires c κs = search needs
+
+governing-requires : tie.Need-governing-requires Inv-loop μ-loop
+governing-requires c κs = search needs
+
+loop-holds : tie.Need-loop-holds Inv-loop μ-loop
+loop-holds c = search needs
+
+using-requires : tie.Need-using-requires Inv-loop μ-loop
+using-requires c κs = search needs
+
+add-i : tie.Need-add-i Inv-loop μ-loop
+add-i c = search needs
+
+loop-less : tie.Need-loop-less Inv-loop μ-loop
+loop-less c = search needs
+
+loop-again : tie.Need-loop-again Inv-loop μ-loop
+loop-again c = search needs
+
+slice-aggregate-ask : tie.Need-slice-aggregate-ask Inv-loop μ-loop
+slice-aggregate-ask c = search needs
+
+base-requires : tie.Need-base-requires Inv-loop μ-loop
+base-requires c κs = search needs
+
+ask-requires : tie.Need-ask-requires Inv-loop μ-loop
+ask-requires c κs = search needs
+
+returns : tie.Need-returns Inv-loop μ-loop
+returns c = search needs
+
+pub most-spec : {M : Type 1} → statement M
+most-spec =
+    tie.close
+    (tie.spec
+    Inv-loop
+    μ-loop
+    action-requires
+    flagged-requires
+    governing-requires
+    loop-holds
+    using-requires
+    add-i
+    loop-less
+    loop-again
+    slice-aggregate-ask
+    base-requires
+    ask-requires
+    returns)
