@@ -1,4 +1,4 @@
--- Working definitions: a use judged by columns. What they are in 01's words is proved in Laws.
+-- Working definitions: a use judged by columns. What they are in 01's words is `use-natural` of sights/specs/Laws.
 use mathlib.Core.Bool.{Bool, true, false, not, _&&_, cond}
 use mathlib.Core.List.{List}
 use Prim.Native.Nat.{ℕ}
