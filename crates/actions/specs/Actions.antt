@@ -1,4 +1,4 @@
--- An action as it stands, its ranges, and the paper's number and value of each violation.
+-- An action as it stands, its ranges, the paper's number and value of each violation, and those of each verdict of a plan.
 use mathlib.Core.Bool.{Bool, _&&_}
 use mathlib.Core.List.{List, [], _∷_}
 use Prim.Native.Nat.{ℕ, _^_}
@@ -12,6 +12,8 @@ use Rattle.actions.specs.declared.Usage.{Usage}
 use Rattle.actions.specs.declared.Action.{Action}
 use Rattle.actions.specs.declared.Violation.{Violation}
 use Rattle.actions.specs.declared.Violation.the-variants.{FlagSet, NoOwner, MachineGoverns, NotCovered, OwnerNotCovering, ParentGone}
+use Rattle.actions.specs.declared.Judgement.{Judgement}
+use Rattle.actions.specs.declared.Judgement.the-variants.{Permitted, Refused, Cancelled}
 
 -- how many uses, governed entries and actions there are at most; how many flags there are; how many violations there can be
 abbrev pub useLimit : ℕ
@@ -65,3 +67,15 @@ valueOf (MachineGoverns at) = at
 valueOf (NotCovered at) = at
 valueOf (OwnerNotCovering at) = at
 valueOf (ParentGone at) = at
+
+-- the number of a plan's verdict on an action, in the order in which the paper names them, and its value: permitted, refused with its number of
+-- violations, or cancelled. 0 is no verdict's number, so that memory that was never written permits nothing.
+abbrev pub judgementNumber : Judgement → ℕ
+judgementNumber Permitted = 1
+judgementNumber (Refused violations) = 2
+judgementNumber Cancelled = 3
+
+abbrev pub judgementValue : Judgement → ℕ
+judgementValue Permitted = 0
+judgementValue (Refused violations) = violations
+judgementValue Cancelled = 0

@@ -1,7 +1,7 @@
 // What the gate is asked and what it answers. Every number of an action has a type that can say one out of range; entries past a count
 // are ignored. The structs that come in cross to C as they are; answers hold enums.
 ghost use mathlib.Core.Path.{_≡_};
-ghost use Rattle.actions.specs.Actions.{kindOf, valueOf};
+ghost use Rattle.actions.specs.Actions.{kindOf, valueOf, judgementNumber, judgementValue};
 use changes::Outcome;
 use changes::Refusal;
 
@@ -86,9 +86,11 @@ pub struct Verdict {
 
 // The verdict on an action of a plan.
 pub enum Judgement {
+    // 1: no violations.
     Permitted,
-    // With its number of violations.
+    // 2: with its number of violations.
     Refused(usize),
+    // 3: it stands after the first action with a flag set.
     Cancelled,
 }
 
@@ -129,5 +131,27 @@ pub fn value(v: Violation) -> u32
         Violation::NotCovered(at) => at,
         Violation::OwnerNotCovering(at) => at,
         Violation::ParentGone(at) => at,
+    }
+}
+
+// The number of a verdict of a plan.
+pub fn judgement_number(j: Judgement) -> u32
+    ensures { λ r. ⌜ r ≡ judgementNumber j ⌝ }
+{
+    match j {
+        Judgement::Permitted => 1,
+        Judgement::Refused(_) => 2,
+        Judgement::Cancelled => 3,
+    }
+}
+
+// The number of violations that a verdict of a plan names, 0 where it names none.
+pub fn judgement_value(j: Judgement) -> usize
+    ensures { λ r. ⌜ r ≡ judgementValue j ⌝ }
+{
+    match j {
+        Judgement::Permitted => 0,
+        Judgement::Refused(violations) => violations,
+        Judgement::Cancelled => 0,
     }
 }
