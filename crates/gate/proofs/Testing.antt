@@ -5,9 +5,8 @@ use mathlib.Core.List.{map}
 use lib.Dec.{eqb}
 use lib.ListN.{take}
 use Rattle.lists.specs.Lists.{any}
-use Rattle.register.specs.Register.{actorsOf, emptyRegister}
+use Rattle.register.specs.Register.{actorsOf}
 use Rattle.register.specs.declared.Actors.{Actors}
-use Rattle.register.specs.declared.Register.{Register}
 use Rattle.columns.specs.Columns.{actorId}
 use Rattle.columns.specs.Laws.{among-natural}
 use Rattle.changes.specs.Refusals.{outcomeOf}
@@ -17,10 +16,7 @@ use Rattle.changes.specs.declared.Refusal.the-variants.{OutOfRange, Unknown}
 use Rattle.actions.specs.Actions.{actionFits}
 use Rattle.actions.specs.declared.Action.{Action}
 use Rattle.verdicts.specs.Gate.{actionTests}
-
--- a register with these actors
-abbrev pub acting : Actors → Register
-acting k = record { actors = k; resources = emptyRegister .resources; claims = emptyRegister .claims }
+use Rattle.gate.specs.Judged.{acting}
 
 module _ (k : Actors) (a : Action) where
   pub range-decides : actionFits a ≡ false → outcomeOf (actionTests (acting k) a) ≡ Refused OutOfRange

@@ -7,7 +7,6 @@ ghost use lib.Dec.{eqb};
 ghost use lib.ListN.{length, take};
 ghost use Rattle.lists.specs.Each.{All};
 ghost use Rattle.register.specs.Limits.{machineKind, pathLimit};
-ghost use Rattle.register.specs.Register.{emptyRegister};
 ghost use Rattle.actions.specs.Actions.{governsOf};
 ghost use Rattle.columns.specs.Columns.{actorId, kindOf, ownerOf, resourceId, latestPlace, beside};
 ghost use Rattle.changes.specs.Refusals.{outcomeOf};
@@ -15,6 +14,7 @@ ghost use Rattle.verdicts.specs.Gate.{flagsSet, governed, listed, padded, isMac
 ghost use Rattle.violations.specs.Pushed.{pushedAll};
 ghost use Rattle.sights.specs.Sights.{ownerAt, ownerIn, sightOf};
 ghost use Rattle.uses_judging.specs.Judging.{usesJudged};
+ghost use Rattle.gate.specs.Judged.{acting, actionJudged};
 use actions::Action;
 use actions::Decision;
 use actions::Verdict;
@@ -109,7 +109,7 @@ fn judge(r: Register, a: Action, owner: u32, owned: bool, vs: Violations) -> Use
 
 // Tests 2 and 3, of the action.
 pub fn action_outcome(k: Actors, a: Action) -> Outcome
-    ensures { λ y. ⌜ y ≡ outcomeOf (actionTests (record { actors = k; resources = emptyRegister .resources; claims = emptyRegister .claims }) a) ⌝ }
+    ensures { λ y. ⌜ y ≡ outcomeOf (actionTests (acting k) a) ⌝ }
 {
     if !action_ranges::action_fits(a) {
         return Outcome::Refused(Refusal::OutOfRange);
@@ -154,9 +154,10 @@ fn decided(judged: UsesJudged) -> Verdict
     }
 }
 
-// An action whose tests are passed, judged.
-fn judge_action(r: Register, a: Action) -> UsesJudged
-    ensures judged { λ y. ⌜ y ≡ usesJudged (sightOf r (a .now) (a .actor)) (map resourceId (r .resources .list)) (r .resources .count) a (pushedAll (listed []) (flagsSet (a .flags) ++ (cond (isMachine r (a .actor) && eqb (ownerIn r (a .actor)) 0) (Violation.NoOwner (a .actor) ∷ []) [] ++ cond (isMachine r (a .actor)) (governed 0 (governsOf a)) []))) ⌝ }
+// An action judged: its violations in 01's order and the hop count of each use. Where the register is sound and the action in range these are
+// the gate's (`judged-natural` of specs/Laws); the tests are the caller's.
+pub fn judge_action(r: Register, a: Action) -> UsesJudged
+    ensures judged { λ y. ⌜ y ≡ actionJudged r a ⌝ }
     ensures sized { λ _. ⌜ All (λ o. length (o .path) ≡ pathLimit) (r .resources .list) ⌝ }
 {
     let actors = r.actors;

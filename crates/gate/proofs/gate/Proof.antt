@@ -7,7 +7,8 @@ use Rattle.lists.specs.Each.{All}
 use Rattle.lists.specs.Loops.{length-mapped}
 use Rattle.register.specs.Limits.{actorLimit, resourceLimit, claimLimit, pathLimit}
 use Rattle.sights.specs.Sights.{Typed}
-use Rattle.gate.proofs.Assembling.{gate-judged, gate-unsound, gate-stopped, acting-alone}
+use Rattle.gate.specs.Laws.{acting-alone}
+use Rattle.gate.proofs.Assembling.{gate-judged, gate-unsound, gate-stopped}
 use borrow.Author.Needs.{needs}
 use Rattle.gate.proofs.gate.Statement.{statement}
 use Rattle.gate.proofs.gate.Tie as tie
