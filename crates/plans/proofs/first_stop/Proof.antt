@@ -1,0 +1,73 @@
+-- `plans::first_stop` meets its contract. The loop's invariant: what stops the plan is what stops it from there on (Stopping). The measure is
+-- the number of actions left. Assumes nothing.
+use Prim.Native.Nat.{_-_}
+use Rattle.lists.specs.Loops.{length-mapped}
+use Rattle.plans.proofs.Stopping.{Stopping, stopping-start, stopping-here, stopping-next, stopping-done}
+use borrow.Author.Needs.{needs}
+use Rattle.plans.proofs.first_stop.Statement.{statement}
+use Rattle.plans.proofs.first_stop.Tie as tie
+
+abbrev Inv-loop : tie.InvT-loop
+Inv-loop k p top i₀ i = Stopping k p top i
+
+abbrev μ-loop : tie.MeasureT-loop
+μ-loop k p top i₀ i = top - i
+
+least-requires : tie.Need-least-requires Inv-loop μ-loop
+least-requires c κs = search needs
+
+loop-holds : tie.Need-loop-holds Inv-loop μ-loop
+loop-holds c = stopping-start (search (needs, length-mapped)) (c .least .ensures)
+
+mul-a : tie.Need-mul-a Inv-loop μ-loop
+mul-a c = search needs
+
+element-copy-out-a : tie.Need-element-copy-out-a Inv-loop μ-loop
+element-copy-out-a c = search needs
+
+action-outcome-requires : tie.Need-action-outcome-requires Inv-loop μ-loop
+action-outcome-requires c κs = search needs
+
+enum-known-outcome : tie.Need-enum-known-outcome Inv-loop μ-loop
+enum-known-outcome c = search needs
+
+returns : tie.Need-returns Inv-loop μ-loop
+returns c =
+    let turn = c .before .before .before .before .before in
+    stopping-here (turn .before .loop .inv) _ (turn .loop-test .taken) (c .before .before .before .action-outcome .ensures) (c .before .outcome .given .1)
+
+enum-told : tie.Need-enum-told Inv-loop μ-loop
+enum-told c = search needs
+
+add-i : tie.Need-add-i Inv-loop μ-loop
+add-i c = search needs
+
+loop-less : tie.Need-loop-less Inv-loop μ-loop
+loop-less c = search needs
+
+loop-again : tie.Need-loop-again Inv-loop μ-loop
+loop-again c =
+    let turn = c .before .before .before .before in
+    stopping-next (turn .before .loop .inv) _ (turn .loop-test .taken) (c .before .before .action-outcome .ensures) (c .enum-told .given .1)
+
+returns-2 : tie.Need-returns-2 Inv-loop μ-loop
+returns-2 c = stopping-done (c .before .loop .inv) (c .loop-test .left)
+
+pub first-stop-spec : {M : Type 1} → statement M
+first-stop-spec =
+    tie.close
+    (tie.spec
+    Inv-loop
+    μ-loop
+    least-requires
+    loop-holds
+    mul-a
+    element-copy-out-a
+    action-outcome-requires
+    enum-known-outcome
+    returns
+    enum-told
+    add-i
+    loop-less
+    loop-again
+    returns-2)
