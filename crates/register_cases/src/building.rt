@@ -1,4 +1,4 @@
-// What the cases are built from: actors, resources and claims, registers with one more of them, and two registers that are sound.
+// What the cases are built from: actors, resources and claims, registers with one more of them, and three registers that are sound.
 use register::Actor;
 use register::Claim;
 use register::Register;
@@ -22,6 +22,25 @@ pub fn resource(id: u32, public: u32, keeper: u32) -> Resource {
         public,
         keeper,
         len: 6,
+        path,
+    }
+}
+
+// A resource with a path of up to 64 bytes.
+pub fn resource_at(id: u32, public: u32, keeper: u32, bytes: &[u8]) -> Resource {
+    let mut path = [0u8; Register::PATH];
+    let mut i: usize = 0;
+    while i < Register::PATH {
+        if i < bytes.len() {
+            path[i] = bytes[i];
+        }
+        i += 1;
+    }
+    Resource {
+        id,
+        public,
+        keeper,
+        len: bytes.len(),
         path,
     }
 }
@@ -127,6 +146,15 @@ pub fn base() -> Register {
     let r = with_claim(r, 2, expiring(2000, weighing(600, claim(3, 2, 2, 3, 17))));
     let r = with_claim(r, 3, weighing(600, claim(4, 3, 3, 5, 1)));
     with_claim(r, 4, on(11, claim(5, 0, 3, 2, 17)))
+}
+
+// 01's case R: human 1, its machine 2, and report 10, on which 1 grants itself a root and passes READ on to 2 until 2000.
+pub fn case_r() -> Register {
+    let r = with_actor(Register::empty(), 0, actor(1, Actor::HUMAN, 0));
+    let r = with_actor(r, 1, actor(2, Actor::MACHINE, 1));
+    let r = with_resource(r, 0, resource(10, 0, 1));
+    let r = with_claim(r, 0, claim(1, 0, 1, 1, 19));
+    with_claim(r, 1, expiring(2000, weighing(600, claim(2, 1, 1, 2, 1))))
 }
 
 // Humans 1 to 20; the keeper 1 grants 2 a root, and each holder grants the next: `claims` claims, the last with one hop less.

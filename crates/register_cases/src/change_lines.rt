@@ -25,7 +25,8 @@ pub fn all() {
     used_again();
 }
 
-fn number(outcome: Outcome) -> u32 {
+// 01's number of the refusal, 0 for acceptance.
+pub fn number(outcome: Outcome) -> u32 {
     match outcome {
         Outcome::Accepted => 0,
         Outcome::Refused(why) => changes::number(why),

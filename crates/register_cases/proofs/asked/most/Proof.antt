@@ -1,16 +1,14 @@
--- `register_cases::gate_lines::most` meets its contract: one turn for each use. Assumes nothing.
-use mathlib.Core.Path.{_≡_}
-use lib.ListN.{length}
+-- `register_cases::asked::most` meets its contract: one turn for each use. Assumes nothing.
 use Prim.Native.Nat.{_≤_, _-_}
 use borrow.Author.Needs.{needs}
-use Rattle.register_cases.proofs.gate_lines.most.Statement.{statement}
-use Rattle.register_cases.proofs.gate_lines.most.Tie as tie
+use Rattle.register_cases.proofs.asked.most.Statement.{statement}
+use Rattle.register_cases.proofs.asked.most.Tie as tie
 
 abbrev Inv-loop : tie.InvT-loop
-Inv-loop a₀ i₀ t3 a i = (i ≤ 32) × (length t3 ≡ 13)
+Inv-loop a₀ i₀ a i = i ≤ 32
 
 abbrev μ-loop : tie.MeasureT-loop
-μ-loop a₀ i₀ t3 a i = 32 - i
+μ-loop a₀ i₀ a i = 32 - i
 
 action-requires : tie.Need-action-requires Inv-loop μ-loop
 action-requires c κs = search needs
@@ -36,15 +34,6 @@ loop-less c = search needs
 loop-again : tie.Need-loop-again Inv-loop μ-loop
 loop-again c = search needs
 
-slice-aggregate-ask : tie.Need-slice-aggregate-ask Inv-loop μ-loop
-slice-aggregate-ask c = search needs
-
-base-requires : tie.Need-base-requires Inv-loop μ-loop
-base-requires c κs = search needs
-
-ask-requires : tie.Need-ask-requires Inv-loop μ-loop
-ask-requires c κs = search needs
-
 returns : tie.Need-returns Inv-loop μ-loop
 returns c = search needs
 
@@ -62,7 +51,4 @@ most-spec =
     add-i
     loop-less
     loop-again
-    slice-aggregate-ask
-    base-requires
-    ask-requires
     returns)
