@@ -42,6 +42,12 @@ pub enum Refusal {
     ClaimAbsent,
     // 18: the revoker is no grantor on that claim's chain, the claim itself included.
     NoGrantor,
+    // 19: the text is not of the form.
+    BadForm,
+    // 20: a count line is above its limit.
+    CountAbove,
+    // 21: the buffer is too short for the text.
+    BufferShort,
 }
 
 pub enum Outcome {
@@ -85,5 +91,8 @@ pub fn number(why: Refusal) -> u32
         Refusal::Circle => 16,
         Refusal::ClaimAbsent => 17,
         Refusal::NoGrantor => 18,
+        Refusal::BadForm => 19,
+        Refusal::CountAbove => 20,
+        Refusal::BufferShort => 21,
     }
 }

@@ -2,12 +2,12 @@
 use mathlib.Core.Path.{_≡_, sym, ap, _∙_}
 use mathlib.Core.Bool.{Bool, true, false}
 use mathlib.Core.List.{List, [], _∷_, _++_}
-use Prim.Native.Nat.{ℕ, suc, _+_, _-_, _≤_, _<_}
+use Prim.Native.Nat.{ℕ, _+_, _-_, _≤_, _<_}
 use native.Mathlib.Nat.{sub-zero}
 use native.Mathlib.Numerals.{add-one}
 use native.Mathlib.Omega.{arith}
 use lib.ListN.{length, set, replicate, length-append}
-use lib.Seq.{append-snoc, set-at}
+use Rattle.lists.specs.Fills.{put-first}
 use Rattle.lists.specs.Counts.{counted, counted-length, counted-last}
 use Rattle.lists.specs.Trims.{sift, trim-nil, trim-length, sift-taken, sift-left}
 
@@ -24,13 +24,6 @@ pub record Collecting (p : ℕ → Bool) (n top i count : ℕ) (places : List �
 
 next-place : (i : ℕ) → counted 0 (i + 1) ≡ counted 0 i ++ (i ∷ [])
 next-place i = let here : 0 + i ≡ i = omega arith in rw (add-one, counted-last 0 i, here)
-
--- a number put where the zeros begin
-put-first : (found : List ℕ) (n count i : ℕ) → count ≡ length found → count < n
-    → set (found ++ replicate (n - count) 0) count i ≡ (found ++ (i ∷ [])) ++ replicate (n - (count + 1)) 0
-put-first found n count i e h =
-    let more : n - count ≡ suc (n - (count + 1)) = omega arith in
-    rw (more, set-at found 0 (replicate (n - (count + 1)) 0) i count (sym e)) (sym (append-snoc found i (replicate (n - (count + 1)) 0)))
 
 module _ {p : ℕ → Bool} {n top : ℕ} where
   pub collecting-start : {places : List ℕ} → top ≤ n → places ≡ replicate n 0 → Collecting p n top 0 0 places
@@ -50,7 +43,7 @@ module _ {p : ℕ → Bool} {n top : ℕ} where
           within = omega arith;
           fits = s .fits;
           many = rw one-more (ap (λ m. m + 1) (s .many) ∙ sym (length-append (leftBelow p i) (i ∷ [])));
-          held = rw (one-more, s .held) (put-first (leftBelow p i) n count i (s .many) room);
+          held = rw (one-more, s .held) (put-first (leftBelow p i) n count 0 i (sym (s .many)) room);
         }
 
     pub collecting-taken : i < top → p i ≡ true → Collecting p n top (i + 1) count places

@@ -4,3 +4,5 @@ pub mod Each
 pub mod Trims
 pub mod Loops
 pub mod Counts
+pub mod Splices
+pub mod Fills

@@ -7,7 +7,8 @@ use Prim.Native.Nat.{ℕ, suc, _+_, _-_, _≤_, _<_, min}
 use native.Mathlib.Omega.{arith}
 use lib.Dec.{eqb}
 use lib.ListN.{length, take, drop, getD, set, replicate, length-take, length-map, length-append, take-append-drop, drop-of-length-le}
-use lib.Seq.{set-at, append-snoc}
+use lib.Seq.{append-snoc}
+use Rattle.lists.specs.Fills.{put-first}
 use Rattle.lists.specs.Loops.{drop-at}
 use Rattle.register.specs.declared.Register.{Register}
 use Rattle.rules.specs.Sound.{sound}
@@ -65,14 +66,12 @@ pub record Judging (r : Register) (p : Plan) (top : ℕ) (list : List Judged) (c
   pub ahead : judgements r false (actionsOf p) ≡ passed ++ judgements r cancelled (drop i (actionsOf p))
 
 -- a verdict put where the free places begin
-put-first : (passed : List Judgement) (i : ℕ) (v : Judgement) → length passed ≡ i → i < actionLimit
+put-next : (passed : List Judgement) (i : ℕ) (v : Judgement) → length passed ≡ i → i < actionLimit
     → set (map wrapped passed ++ replicate (actionLimit - i) (wrapped Permitted)) i (wrapped v)
     ≡ map wrapped (passed ++ (v ∷ [])) ++ replicate (actionLimit - (i + 1)) (wrapped Permitted)
-put-first passed i v e h =
-    let more : actionLimit - i ≡ suc (actionLimit - (i + 1)) = omega arith in
+put-next passed i v e h =
     let long : length (map wrapped passed) ≡ i = length-map passed wrapped ∙ e in
-    rw (more, set-at (map wrapped passed) (wrapped Permitted) (replicate (actionLimit - (i + 1)) (wrapped Permitted)) (wrapped v) i long, map-append)
-    (sym (append-snoc (map wrapped passed) (wrapped v) (replicate (actionLimit - (i + 1)) (wrapped Permitted))))
+    rw map-append (put-first (map wrapped passed) actionLimit i (wrapped Permitted) (wrapped v) long h)
 
 -- verdicts that are held with as many actions
 held-same : (l : List Judged) (n : ℕ) (vs : List Judgement) → n ≡ length vs → l ≡ map wrapped vs ++ replicate (actionLimit - length vs) (wrapped Permitted)
@@ -117,7 +116,7 @@ module _ {r : Register} {p : Plan} {top : ℕ} where
             few = s .few;
             passed = s .passed ++ (v ∷ []);
             long = length-append (s .passed) (v ∷ []) ∙ ap (λ n. n + 1) (s .long);
-            put = rw (s .put) (put-first (s .passed) i v (s .long) (omega arith));
+            put = rw (s .put) (put-next (s .passed) i v (s .long) (omega arith));
             ahead = s .ahead
                 ∙ ap (λ l. s .passed ++ judgements r cancelled l) left
                 ∙ ap (λ l. s .passed ++ l) (judgements-cons r cancelled a rest ∙ ap (λ w. w ∷ judgements r later rest) (sym e))

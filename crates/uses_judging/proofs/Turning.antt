@@ -1,11 +1,12 @@
 -- A loop over the uses of an action that puts the violations of each and holds its hop count. Assumes nothing.
 use mathlib.Core.Path.{_≡_, refl, sym, ap, _∙_}
 use mathlib.Core.List.{List, [], _∷_, _++_, map, map-append}
-use Prim.Native.Nat.{ℕ, suc, _+_, _-_, _≤_, _<_, min}
+use Prim.Native.Nat.{ℕ, _+_, _-_, _≤_, _<_, min}
 use native.Mathlib.Numerals.{add-one}
 use native.Mathlib.Omega.{arith}
 use lib.ListN.{length, take, getD, set, replicate, length-take, length-map}
-use lib.Seq.{take-suc, take-all, getD-take, set-at, append-snoc, length-take-le}
+use lib.Seq.{take-suc, take-all, getD-take, length-take-le}
+use Rattle.lists.specs.Fills.{put-first}
 use Rattle.actions.specs.Actions.{useLimit, usesOf}
 use Rattle.actions.specs.declared.Action.{Action}
 use Rattle.actions.specs.declared.Usage.{Usage}
@@ -40,13 +41,6 @@ uses-next : (a : Action) (i : ℕ) (d : Usage) → i < length (usesOf a) → tak
 uses-next a i d h =
     let below : i < a .used = omega (arith, length-take (a .used) (a .uses)) in
     rw (add-one, take-suc (usesOf a) i d h, getD-take (a .used) (a .uses) i d below)
-
--- a number put where the zeros begin
-put-first : (found : List ℕ) (n count x : ℕ) → length found ≡ count → count < n
-    → set (found ++ replicate (n - count) 0) count x ≡ (found ++ (x ∷ [])) ++ replicate (n - (count + 1)) 0
-put-first found n count x e h =
-    let more : n - count ≡ suc (n - (count + 1)) = omega arith in
-    rw (more, set-at found 0 (replicate (n - (count + 1)) 0) x count e) (sym (append-snoc found x (replicate (n - (count + 1)) 0)))
 
 module _ {s : Sight} {reports : List ℕ} {m : ℕ} {a : Action} {first : Violations} {top : ℕ} where
   pub turning-start : length (a .uses) ≡ useLimit → top ≡ min (a .used) useLimit
@@ -84,7 +78,7 @@ module _ {s : Sight} {reports : List ℕ} {m : ℕ} {a : Action} {first : Violat
           put = r ∙ rw (uses-next a i d below, faults-last s reports m 0 passed u, at, answer, t .put)
               (sym (pushed-all-append first (faultsFrom s reports m 0 passed) (faultAt position (judgedIn s reports m u .fault))));
           held = rw (uses-next a i d below, map-append, answer, t .held)
-              (put-first (map (hopsOf s reports m) passed) useLimit i (hopsOf s reports m u) counted room);
+              (put-first (map (hopsOf s reports m) passed) useLimit i 0 (hopsOf s reports m u) counted room);
         }
 
     -- after the loop the uses are judged

@@ -1,0 +1,70 @@
+-- `action_reading::read_use` meets its contract: two lines one behind the other, and each number is within its range. Assumes nothing.
+use Prim.Native.Nat.{_-_}
+use borrow.Author.Needs.{needs}
+use native.Mathlib.Omega.{arith}
+use mathlib.Core.List.{[], _∷_}
+use mathlib.Core.Path.{sym}
+use Rattle.rights.specs.Rights.{rightCount}
+use Rattle.register.specs.Limits.{idLimit}
+use Rattle.lines.specs.Reading.{number, stateOf, formRefusal}
+use Rattle.texts.specs.Keys.{useKey, rightKey}
+use Rattle.reading.specs.Runs.{run-none, run-next, field-bound}
+use Rattle.action_reading.proofs.read_use.Statement.{statement}
+use Rattle.action_reading.proofs.read_use.Tie as tie
+
+slice-aggregate-read-number : tie.Need-slice-aggregate-read-number
+slice-aggregate-read-number c = search needs
+
+cast-read-number : tie.Need-cast-read-number
+cast-read-number c = search needs
+
+read-number-requires : tie.Need-read-number-requires
+read-number-requires c κs = search needs
+
+slice-aggregate-read-number-2 : tie.Need-slice-aggregate-read-number-2
+slice-aggregate-read-number-2 c = search needs
+
+cast-read-number-2 : tie.Need-cast-read-number-2
+cast-read-number-2 c = search needs
+
+read-number-requires-2 : tie.Need-read-number-requires-2
+read-number-requires-2 c κs = search needs
+
+cast-t14 : tie.Need-cast-t14
+cast-t14 c =
+    let args = c .before .before .before .before .before .before .args in
+    let resource = c .before .before .before .read-number in
+    omega (arith, field-bound (args .s .now) useKey 0 idLimit formRefusal (stateOf (args .s .now) (args .c)) (resource .result) (resource .ensures))
+
+cast-t15 : tie.Need-cast-t15
+cast-t15 c =
+    let s = c .before .before .before .before .before .before .before .args .s .now in
+    let resource = c .before .before .before .before .read-number in
+    let right = c .before .before .read-number2 in
+    omega (arith, field-bound s rightKey 0 (rightCount - 1) formRefusal (stateOf s (resource .result .cursor)) (right .result) (right .ensures))
+
+returns : tie.Need-returns
+returns c =
+    let args = c .before .before .before .before .before .before .before .before .args in
+    let s = args .s .now in
+    let resource = c .before .before .before .before .before .read-number in
+    let right = c .before .before .before .read-number2 in
+    let end = stateOf s (right .result .cursor) in
+    let run =
+    run-next s (number useKey 0 idLimit) _ (stateOf s (args .c)) (resource .result) _ end (resource .ensures)
+    (run-next s (number rightKey 0 (rightCount - 1)) [] (stateOf s (resource .result .cursor)) (right .result) [] end (right .ensures) (run-none s end)) in
+    record { got = rw (run .got); stands = sym (run .stands) }
+
+pub read-use-spec : {M : Type 1} → statement M
+read-use-spec =
+    tie.close
+    (tie.spec
+    slice-aggregate-read-number
+    cast-read-number
+    read-number-requires
+    slice-aggregate-read-number-2
+    cast-read-number-2
+    read-number-requires-2
+    cast-t14
+    cast-t15
+    returns)

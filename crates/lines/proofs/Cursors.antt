@@ -1,0 +1,101 @@
+-- Where a reading stands behind each of the code's answers: as it was, behind the line, or failed at it. Assumes nothing.
+use Prim.Native.Nat.{ℕ, _+_, _≤_, _<_}
+use mathlib.Core.Path.{_≡_, refl, _∙_}
+use mathlib.Core.List.{List, []}
+use mathlib.Core.Bool.{Bool, true, false, _&&_}
+use native.Mathlib.Omega.{arith}
+use lib.Dec.{eqb, leb}
+use lib.ListN.{length, drop, drop-of-length-le}
+use borrow.Author.Tests.{ne-eqb, le-leb, leb-true}
+use Rattle.lists.specs.Tests.{and-left, and-right, clash}
+use Rattle.decimals.specs.Walk.{drop-byte}
+use Rattle.lines.specs.Lines.{Line, line, over, fault, parseScope}
+use Rattle.lines.specs.Reading.{formRefusal, going, failed, Form, parseForm, aboveRefusal, readForm, readScope, closed, stateOf}
+use Rattle.lines.specs.Answers.{FieldSays, PathSays, ScopeSays, heldPath}
+use Rattle.lines.specs.declared.Cursor.{Cursor}
+use Rattle.lines.specs.declared.Scope.{Scope}
+use Rattle.lines.specs.declared.PathRead.{PathRead}
+
+-- whether a reading goes on
+abbrev pub goesOn : List ℕ → Cursor → Bool
+goesOn s c = eqb (c .refusal) 0 && (leb (c .at) (length s) && leb (c .line) (c .at))
+
+-- the cursor behind a line, and the one that fails at it
+abbrev pub behind : Cursor → ℕ → Cursor
+behind c next = record { at = next; line = c .line + 1; refusal = 0 }
+
+abbrev pub fails : Cursor → ℕ → Cursor
+fails c why = record { at = c .at; line = c .line + 1; refusal = why }
+
+module _ (s : List ℕ) (c : Cursor) where
+  pub on-within : goesOn s c ≡ true → c .at ≤ length s
+  on-within h = leb-true _ _ (and-left (leb (c .at) (length s)) (leb (c .line) (c .at)) (and-right (eqb (c .refusal) 0) _ h))
+
+  pub on-lines : goesOn s c ≡ true → c .line ≤ c .at
+  on-lines h = leb-true _ _ (and-right (leb (c .at) (length s)) (leb (c .line) (c .at)) (and-right (eqb (c .refusal) 0) _ h))
+
+  state-on : goesOn s c ≡ true → stateOf s c ≡ going (drop (c .at) s) (c .line + 1)
+  state-on h = rw h
+
+  state-off : goesOn s c ≡ false → stateOf s c ≡ failed (c .refusal) (c .line)
+  state-off h = rw h
+
+  -- behind a line the reading goes on
+  state-behind : (next : ℕ) → goesOn s c ≡ true → next ≤ length s → c .at < next → stateOf s (behind c next) ≡ going (drop next s) (c .line + 1 + 1)
+  state-behind next h k b = rw (le-leb next (length s) k, le-leb (c .line + 1) next (omega (arith, on-lines h)))
+
+  state-fails : (why : ℕ) → 0 < why → stateOf s (fails c why) ≡ failed why (c .line + 1)
+  state-fails why h = rw (ne-eqb why 0 (λ e. omega arith))
+
+  -- a reading that failed, or whose text ends here, is closed as it is; trailing bytes fail it
+  pub closed-off : goesOn s c ≡ false → stateOf s c ≡ closed (stateOf s c)
+  closed-off h = rw (state-off h)
+
+  pub closed-end : goesOn s c ≡ true → length s ≤ c .at → stateOf s c ≡ closed (stateOf s c)
+  closed-end h k = rw (state-on h, drop-of-length-le s k)
+
+  pub closed-trailing : (d : Cursor) → goesOn s c ≡ true → c .at < length s → d ≡ fails c formRefusal → stateOf s d ≡ closed (stateOf s c)
+  closed-trailing d h k e = rw (state-on h, drop-byte s (c .at) k, e) (state-fails formRefusal (omega arith))
+
+  -- a number's reading, by what the text at the cursor begins with
+  module _ (f : Form) where
+    pub field-off : goesOn s c ≡ false → FieldSays s (record { value = 0; cursor = c }) (readForm f (stateOf s c))
+    field-off h = rw (state-off h) (record { value = refl; state = state-off h })
+
+    module _ (h : goesOn s c ≡ true) where
+      pub field-behind : (n next : ℕ) → parseForm f (drop (c .at) s) ≡ line n (drop next s) → next ≤ length s → c .at < next →
+          FieldSays s (record { value = n; cursor = behind c next }) (readForm f (stateOf s c))
+      field-behind n next e k b = rw (state-on h, e) (record { value = refl; state = state-behind next h k b })
+
+      pub field-over : (d : Cursor) → parseForm f (drop (c .at) s) ≡ over → 0 < aboveRefusal f → d ≡ fails c (aboveRefusal f) →
+          FieldSays s (record { value = 0; cursor = d }) (readForm f (stateOf s c))
+      field-over d e k g = rw (state-on h, e, g) (record { value = refl; state = state-fails (aboveRefusal f) k })
+
+      pub field-fault : (d : Cursor) → parseForm f (drop (c .at) s) ≡ fault → d ≡ fails c formRefusal →
+          FieldSays s (record { value = 0; cursor = d }) (readForm f (stateOf s c))
+      field-fault d e g = rw (state-on h, e, g) (record { value = refl; state = state-fails formRefusal (omega arith) })
+
+  -- a path's reading, by the same
+  pub scope-off : (r : Scope) → goesOn s c ≡ false → r ≡ record { path = heldPath []; len = 0; cursor = c } → ScopeSays s r (readScope (stateOf s c))
+  scope-off r h e = rw (state-off h, e) (record { path = refl; len = refl; state = state-off h })
+
+  module _ (h : goesOn s c ≡ true) where
+    pub scope-fault : (r : Scope) (d : Cursor) → parseScope (drop (c .at) s) ≡ fault → d ≡ fails c formRefusal →
+        r ≡ record { path = heldPath []; len = 0; cursor = d } → ScopeSays s r (readScope (stateOf s c))
+    scope-fault r d e g k = rw (state-on h, e, k, g) (record { path = refl; len = refl; state = state-fails formRefusal (omega arith) })
+
+    pub scope-behind : (at : ℕ) (p : PathRead) (read : Line (List ℕ)) → parseScope (drop (c .at) s) ≡ read → PathSays s at p read → p .ok ≡ true →
+        c .at ≤ at → ScopeSays s (record { path = p .path; len = p .len; cursor = behind c (p .next) }) (readScope (stateOf s c))
+    unfolding PathSays
+    scope-behind at p (line q rest) e says ok b =
+        rw (state-on h, e)
+        (record { path = says .1; len = says .2; state = state-behind (p .next) h (says .4) (omega (arith, says .5)) ∙ rw (says .3) })
+    scope-behind at p over e says ok b = absurd says
+    scope-behind at p fault e says ok b = clash (p .ok) ok says
+
+-- a path that was not read is none
+pub path-unread : (s : List ℕ) (at : ℕ) (p : PathRead) (read : Line (List ℕ)) → PathSays s at p read → p .ok ≡ false → read ≡ fault
+unfolding PathSays
+path-unread s at p (line q rest) says unread = clash (p .ok) (says .0) unread
+path-unread s at p over says unread = absurd says
+path-unread s at p fault says unread = refl

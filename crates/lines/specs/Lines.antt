@@ -1,0 +1,87 @@
+-- A line of a text, `key=value` and LF: a decimal, an actor's kind, a path. What a text begins with, and the text of each. Assumes nothing.
+use Prim.Native.Nat.{ℕ}
+use mathlib.Core.List.{List, [], _∷_, _++_}
+use mathlib.Core.Bool.{Bool, true, false, cond}
+use lib.ListN.{length, drop}
+use lib.Dec.{eqb, ltb, leb}
+use Rattle.decimals.specs.Decimals.{digits, Parsed, got, large, bad, parse}
+use Rattle.register.specs.Limits.{humanKind, machineKind, pathLimit, pathByteLeast, pathByteGreatest}
+
+-- the byte that ends a line
+abbrev pub lineFeed : ℕ
+lineFeed = 10
+
+-- what a text begins with: a line of the value, with what follows it; a line whose number is above its limit; or no such line
+pub data Line (A : Type 0) : Type 0 where
+  line : A → List ℕ → Line A
+  over : Line A
+  fault : Line A
+
+-- whether a text begins with a key
+unfoldable pub begins : List ℕ → List ℕ → Bool
+begins [] t = true
+begins (k ∷ key) [] = false
+begins (k ∷ key) (b ∷ t) = let more = begins key t in cond (eqb k b) more false
+
+-- a number is the line's where LF follows it
+unfoldable pub ended : Parsed → Line ℕ
+ended (got n []) = fault
+ended (got n (b ∷ rest)) = cond (eqb b lineFeed) (line n rest) fault
+ended (large []) = fault
+ended (large (b ∷ rest)) = cond (eqb b lineFeed) over fault
+ended bad = fault
+
+-- the line of a key, '=' included, with a number up to the greatest
+unfoldable pub parseLimited : List ℕ → ℕ → List ℕ → Line ℕ
+parseLimited key greatest t = cond (begins key t) (ended (parse greatest (drop (length key) t))) fault
+
+-- a number below the least is no such line
+unfoldable pub atLeast : ℕ → Line ℕ → Line ℕ
+atLeast least (line n rest) = cond (leb least n) (line n rest) fault
+atLeast least over = over
+atLeast least fault = fault
+
+-- the line of a key with a number from the least to the greatest
+abbrev pub parseDecimal : List ℕ → ℕ → ℕ → List ℕ → Line ℕ
+parseDecimal key least greatest t = atLeast least (parseLimited key greatest t)
+
+-- its text
+unfoldable pub decimalLine : List ℕ → ℕ → List ℕ
+decimalLine key n = key ++ (digits n ++ (lineFeed ∷ []))
+
+-- "kind=human" and LF, "kind=machine" and LF
+abbrev pub humanLine : List ℕ
+humanLine = 107 ∷ 105 ∷ 110 ∷ 100 ∷ 61 ∷ 104 ∷ 117 ∷ 109 ∷ 97 ∷ 110 ∷ 10 ∷ []
+
+abbrev pub machineLine : List ℕ
+machineLine = 107 ∷ 105 ∷ 110 ∷ 100 ∷ 61 ∷ 109 ∷ 97 ∷ 99 ∷ 104 ∷ 105 ∷ 110 ∷ 101 ∷ 10 ∷ []
+
+-- an actor's kind
+unfoldable pub parseKind : List ℕ → Line ℕ
+parseKind t =
+    cond (begins humanLine t) (line humanKind (drop (length humanLine) t))
+    (cond (begins machineLine t) (line machineKind (drop (length machineLine) t)) fault)
+
+-- its text
+unfoldable pub kindLine : ℕ → List ℕ
+kindLine k = cond (eqb k humanKind) humanLine machineLine
+
+-- "scope="
+abbrev pub scopeKey : List ℕ
+scopeKey = 115 ∷ 99 ∷ 111 ∷ 112 ∷ 101 ∷ 61 ∷ []
+
+-- a path up to LF, behind the bytes of it so far: at most 64 bytes, each 0x21 to 0x7E
+unfoldable pub pathOn : List ℕ → List ℕ → Line (List ℕ)
+pathOn path [] = fault
+pathOn path (b ∷ t) =
+    let more = pathOn (path ++ (b ∷ [])) t in
+    cond (eqb b lineFeed) (line path t)
+    (cond (ltb b pathByteLeast) fault (cond (ltb pathByteGreatest b) fault (cond (ltb (length path) pathLimit) more fault)))
+
+-- the line of a path
+unfoldable pub parseScope : List ℕ → Line (List ℕ)
+parseScope t = cond (begins scopeKey t) (pathOn [] (drop (length scopeKey) t)) fault
+
+-- its text
+unfoldable pub scopeLine : List ℕ → List ℕ
+scopeLine path = scopeKey ++ (path ++ (lineFeed ∷ []))

@@ -1,0 +1,85 @@
+-- Reading a text line by line: the first failing line decides, and nothing is read behind it. Assumes nothing.
+use Prim.Native.Nat.{ℕ, _+_}
+use mathlib.Core.List.{List, [], _∷_}
+use mathlib.Core.Bool.{Bool, cond, _&&_, _||_}
+use lib.ListN.{drop, length}
+use lib.Dec.{eqb, leb}
+use Rattle.register.specs.Limits.{humanKind, machineKind, ranged}
+use Rattle.lines.specs.Lines.{Line, line, over, fault, parseDecimal, decimalLine, parseKind, kindLine, parseScope}
+use Rattle.lines.specs.declared.Cursor.{Cursor}
+
+-- the refusal of a text that is not of the form, and of a count line above its limit
+abbrev pub formRefusal : ℕ
+formRefusal = 19
+
+abbrev pub countRefusal : ℕ
+countRefusal = 20
+
+-- where a reading stands: before the rest of the text, at the line of that number; or failed, with a refusal at a line
+pub data State : Type 0 where
+  going : List ℕ → ℕ → State
+  failed : ℕ → ℕ → State
+
+-- what a reading gives and where it then stands
+pub record Read (A : Type 0) : Type 0 where
+  pub value : A
+  pub state : State
+
+-- the forms of a line that holds a number: a decimal, with its key, the least and the greatest number and the refusal of one above; an
+-- actor's kind
+pub data Form : Type 0 where
+  decimal : List ℕ → ℕ → ℕ → ℕ → Form
+  kind : Form
+
+-- a number outside its field's range is not of the form
+abbrev pub number : List ℕ → ℕ → ℕ → Form
+number key least greatest = decimal key least greatest formRefusal
+
+-- a count above its limit has its own refusal
+abbrev pub count : List ℕ → ℕ → Form
+count key limit = decimal key 0 limit countRefusal
+
+-- what a text begins with, by the form
+abbrev pub parseForm : Form → List ℕ → Line ℕ
+parseForm (decimal key least greatest above) t = parseDecimal key least greatest t
+parseForm kind t = parseKind t
+
+abbrev pub aboveRefusal : Form → ℕ
+aboveRefusal (decimal key least greatest above) = above
+aboveRefusal kind = formRefusal
+
+-- the text of a number by the form, and whether the number may stand there
+abbrev pub formLine : Form → ℕ → List ℕ
+formLine (decimal key least greatest above) n = decimalLine key n
+formLine kind n = kindLine n
+
+abbrev pub formFits : Form → ℕ → Bool
+formFits (decimal key least greatest above) n = ranged least greatest n
+formFits kind n = eqb n humanKind || eqb n machineKind
+
+-- a line read, with what stands for its value where it fails
+abbrev pub taken : {A : Type 0} → A → ℕ → ℕ → Line A → Read A
+taken none above l (line a rest) = record { value = a; state = going rest (l + 1) }
+taken none above l over = record { value = none; state = failed above l }
+taken none above l fault = record { value = none; state = failed formRefusal l }
+
+-- the next line, by the form
+abbrev pub readForm : Form → State → Read ℕ
+readForm f (going t l) = taken 0 (aboveRefusal f) l (parseForm f t)
+readForm f (failed why l) = record { value = 0; state = failed why l }
+
+-- the next line is a path
+abbrev pub readScope : State → Read (List ℕ)
+readScope (going t l) = taken [] formRefusal l (parseScope t)
+readScope (failed why l) = record { value = []; state = failed why l }
+
+-- trailing bytes fail as the next line
+abbrev pub closed : State → State
+closed (going [] l) = going [] l
+closed (going (b ∷ t) l) = failed formRefusal l
+closed (failed why l) = failed why l
+
+-- a reading by the code: it goes on where it has no refusal and stands within the text, with no more lines than bytes behind it
+abbrev pub stateOf : List ℕ → Cursor → State
+stateOf s c =
+    cond (eqb (c .refusal) 0 && (leb (c .at) (length s) && leb (c .line) (c .at))) (going (drop (c .at) s) (c .line + 1)) (failed (c .refusal) (c .line))

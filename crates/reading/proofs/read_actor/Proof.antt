@@ -1,0 +1,83 @@
+-- `reading::read_actor` meets its contract: three lines one behind the other, and each number is within its range. Assumes nothing.
+use borrow.Author.Needs.{needs}
+use native.Mathlib.Omega.{arith}
+use mathlib.Core.List.{[], _∷_}
+use mathlib.Core.Path.{ap, sym}
+use Rattle.register.specs.Limits.{idLimit}
+use Rattle.lines.specs.Reading.{number, kind, stateOf, formRefusal}
+use Rattle.texts.specs.Keys.{actorKey, ownerKey}
+use Rattle.texts.specs.Registers.{actorForms, actorFrom}
+use Rattle.reading.specs.Runs.{Run, run-none, run-next, field-bound, kind-field-bound}
+use Rattle.reading.proofs.read_actor.Statement.{statement}
+use Rattle.reading.proofs.read_actor.Tie as tie
+
+slice-aggregate-read-number : tie.Need-slice-aggregate-read-number
+slice-aggregate-read-number c = search needs
+
+cast-read-number : tie.Need-cast-read-number
+cast-read-number c = search needs
+
+read-number-requires : tie.Need-read-number-requires
+read-number-requires c κs = search needs
+
+read-kind-requires : tie.Need-read-kind-requires
+read-kind-requires c κs = search needs
+
+slice-aggregate-read-number-2 : tie.Need-slice-aggregate-read-number-2
+slice-aggregate-read-number-2 c = search needs
+
+cast-read-number-2 : tie.Need-cast-read-number-2
+cast-read-number-2 c = search needs
+
+read-number-requires-2 : tie.Need-read-number-requires-2
+read-number-requires-2 c κs = search needs
+
+cast-t15 : tie.Need-cast-t15
+cast-t15 c =
+    let args = c .before .before .before .before .before .before .before .args in
+    let id = c .before .before .before .before .read-number in
+    omega (arith, field-bound (args .s .now) actorKey 1 idLimit formRefusal (stateOf (args .s .now) (args .c)) (id .result) (id .ensures))
+
+cast-t16 : tie.Need-cast-t16
+cast-t16 c =
+    let args = c .before .before .before .before .before .before .before .before .args in
+    let id = c .before .before .before .before .before .read-number in
+    let sort = c .before .before .before .before .read-kind in
+    omega (arith, kind-field-bound (args .s .now) (stateOf (args .s .now) (id .result .cursor)) (sort .result) (sort .ensures))
+
+cast-t17 : tie.Need-cast-t17
+cast-t17 c =
+    let args = c .before .before .before .before .before .before .before .before .before .args in
+    let sort = c .before .before .before .before .before .read-kind in
+    let owner = c .before .before .before .read-number2 in
+    omega (arith, field-bound (args .s .now) ownerKey 0 idLimit formRefusal (stateOf (args .s .now) (sort .result .cursor)) (owner .result) (owner .ensures))
+
+returns : tie.Need-returns
+returns c =
+    let args = c .before .before .before .before .before .before .before .before .before .before .args in
+    let s = args .s .now in
+    let id = c .before .before .before .before .before .before .before .read-number in
+    let sort = c .before .before .before .before .before .before .read-kind in
+    let owner = c .before .before .before .before .read-number2 in
+    let end = stateOf s (owner .result .cursor) in
+    let run =
+    run-next s (number actorKey 1 idLimit) _ (stateOf s (args .c)) (id .result) _ end (id .ensures)
+    (run-next s kind _ (stateOf s (id .result .cursor)) (sort .result) _ end (sort .ensures)
+    (run-next s (number ownerKey 0 idLimit) [] (stateOf s (sort .result .cursor)) (owner .result) [] end (owner .ensures) (run-none s end))) in
+    record { got = rw (run .got); stands = sym (run .stands) }
+
+pub read-actor-spec : {M : Type 1} → statement M
+read-actor-spec =
+    tie.close
+    (tie.spec
+    slice-aggregate-read-number
+    cast-read-number
+    read-number-requires
+    read-kind-requires
+    slice-aggregate-read-number-2
+    cast-read-number-2
+    read-number-requires-2
+    cast-t15
+    cast-t16
+    cast-t17
+    returns)

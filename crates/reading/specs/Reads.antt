@@ -1,0 +1,11 @@
+-- What the code's answers say of a reading of s. Assumes nothing.
+use mathlib.Core.Path.{_≡_}
+use mathlib.Core.List.{List}
+use Prim.Native.Nat.{ℕ}
+use Rattle.lines.specs.Reading.{State, Read, stateOf}
+use Rattle.lines.specs.declared.Cursor.{Cursor}
+
+-- the value that was read, and where the reading then stands
+pub record Reads {A : Type 0} (s : List ℕ) (value : A) (cursor : Cursor) (read : Read A) : Type 0 where
+  pub got : value ≡ read .value
+  pub stands : stateOf s cursor ≡ read .state

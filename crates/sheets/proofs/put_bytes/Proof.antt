@@ -1,0 +1,39 @@
+-- `sheets::put_bytes` meets its contract: the test for room is the one of `put` and `behind`, and what fits is copied. Assumes nothing.
+use mathlib.Core.Path.{refl, sym, _∙_}
+use borrow.Author.Needs.{needs}
+use borrow.Author.Tests.{not-true, not-false, leb-true}
+use Rattle.sheets.specs.Laws.{put-fits}
+use Rattle.sheets.proofs.put_bytes.Statement.{statement}
+use Rattle.sheets.proofs.put_bytes.Tie as tie
+
+has-room-requires : tie.Need-has-room-requires
+has-room-requires c κs = search needs
+
+same-length : tie.Need-same-length
+same-length c = search needs
+
+-- no room
+returns : tie.Need-returns
+returns c =
+    let short = sym (c .before .has-room .ensures) ∙ not-true _ (c .if1 .taken) in
+    rw short (refl, refl)
+
+copy-requires : tie.Need-copy-requires
+copy-requires c κs = leb-true _ _ (sym (c .before .before .has-room .ensures) ∙ not-false _ (c .before .if1 .left))
+
+same-length-2 : tie.Need-same-length-2
+same-length-2 c = search needs
+
+returns-2 : tie.Need-returns-2
+returns-2 c =
+    let call = c .before .before .copy in
+    let test = c .before .before .before .before in
+    let a = test .before .before .before .before .before .args in
+    let room = leb-true _ _ (sym (test .before .has-room .ensures) ∙ not-false _ (test .if1 .left)) in
+    let fit = put-fits (a .at) (a .t .now) (a .buf .now) room in
+    (call .ensures .0 ∙ sym (fit .1), call .ensures .1 ∙ sym (fit .0))
+
+pub put-bytes-spec : {M : Type 1} → statement M
+put-bytes-spec =
+    tie.close
+    (tie.spec has-room-requires same-length returns copy-requires same-length-2 returns-2)

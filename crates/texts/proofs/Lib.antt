@@ -1,0 +1,11 @@
+pub mod Things
+pub mod Forms
+pub mod Entries
+pub mod Holding
+pub mod Answering
+pub mod RegisterLaws
+pub mod ActionLaws
+pub mod Sameness
+pub mod Naming
+pub mod Theorems
+pub mod Cases

@@ -1,0 +1,43 @@
+// What reading and writing a text answer. Here are the types; in specs/ the texts of a register and of an action, and the readings that
+// the calls are proved to equal.
+ghost use mathlib.Core.Path.{_≡_};
+ghost use Rattle.texts.specs.Registers.{textRefusal};
+use actions::Action;
+use changes::Outcome;
+use changes::Refusal;
+use lines::COUNT_REFUSAL;
+use register::Register;
+
+// No text of a sound register is longer.
+pub const REGISTER_TEXT: usize = 37741;
+
+// A register that was read. Refused: the empty register, and the failing line from 1, or 0 where the register is not sound. Accepted:
+// line 0.
+pub struct RegisterRead {
+    pub register: Register,
+    pub outcome: Outcome,
+    pub line: usize,
+}
+
+// An action that was read. Refused: the action of all zeros, and the failing line from 1. Accepted: line 0.
+pub struct ActionRead {
+    pub action: Action,
+    pub outcome: Outcome,
+    pub line: usize,
+}
+
+// What was written into a lent buffer: the length of the text. Refused: 0.
+pub struct Written {
+    pub outcome: Outcome,
+    pub length: usize,
+}
+
+// 01's refusal of the number that a failed reading has.
+pub fn refusal_of(why: u32) -> Refusal
+    ensures { λ r. ⌜ r ≡ textRefusal why ⌝ }
+{
+    if why == COUNT_REFUSAL {
+        return Refusal::CountAbove;
+    }
+    Refusal::BadForm
+}

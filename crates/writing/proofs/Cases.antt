@@ -1,0 +1,41 @@
+-- The empty register written: its text has 41 bytes, which a buffer of 41 takes and one of 40 does not. And a register that is not
+-- sound, before a buffer that is too short: 1 comes first. Computed. Assumes nothing.
+use mathlib.Core.Path.{_≡_, refl}
+use mathlib.Core.List.{[]}
+use lib.ListN.{replicate, drop}
+use Rattle.lists.specs.Splices.{splice}
+use Rattle.register.specs.Register.{emptyRegister}
+use Rattle.register.specs.declared.Register.{Register}
+use Rattle.rules.specs.Sound.{distinct, soundActors, soundResources, soundClaims, withinLimits, sound}
+use Rattle.changes.specs.declared.Outcome.the-variants.{Accepted}
+use Rattle.changes.specs.declared.Refusal.the-variants.{Unsound, BufferShort}
+use Rattle.decimals.specs.Decimals.{digits, digitsWith}
+use Rattle.lines.specs.Lines.{decimalLine}
+use Rattle.texts.specs.Records.{texts}
+use Rattle.texts.specs.Registers.{registerText}
+use Rattle.writing.specs.Writing.{unwritten, delivered, registerWritten, registerBuffer}
+
+empty-written : registerWritten emptyRegister (replicate 41 0) ≡ record { outcome = Accepted; length = 41 }
+unfolding registerWritten delivered sound withinLimits soundActors soundResources soundClaims distinct emptyRegister registerText decimalLine digits digitsWith texts
+empty-written = refl
+
+empty-short : registerWritten emptyRegister (replicate 40 0) ≡ unwritten BufferShort
+unfolding registerWritten delivered sound withinLimits soundActors soundResources soundClaims distinct emptyRegister registerText decimalLine digits digitsWith texts
+empty-short = refl
+
+-- behind the text the buffer keeps its bytes
+empty-kept : drop 41 (registerBuffer emptyRegister (replicate 43 7)) ≡ replicate 2 7
+unfolding registerBuffer splice sound withinLimits soundActors soundResources soundClaims distinct emptyRegister registerText decimalLine digits digitsWith texts
+empty-kept = refl
+
+-- 65 actors
+abbrev crowded : Register
+crowded = record { actors = record { list = []; count = 65 }; resources = record { list = []; count = 0 }; claims = record { list = []; count = 0 } }
+
+crowded-unsound : registerWritten crowded [] ≡ unwritten Unsound
+unfolding registerWritten sound withinLimits
+crowded-unsound = refl
+
+crowded-kept : registerBuffer crowded (replicate 3 7) ≡ replicate 3 7
+unfolding registerBuffer sound withinLimits
+crowded-kept = refl

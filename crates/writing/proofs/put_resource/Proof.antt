@@ -1,0 +1,92 @@
+-- `writing::put_resource` meets its contract: the lines of its numbers are put one behind the other, then that of its path. Assumes
+-- nothing.
+use Prim.Native.Nat.{_+_, _≤_}
+use native.Mathlib.Omega.{arith}
+use borrow.Author.Needs.{needs}
+use lib.ListN.{length, length-append}
+use Rattle.lines.specs.Lines.{scopeLine}
+use Rattle.register.specs.Register.{pathOf}
+use Rattle.texts.specs.Records.{linesText}
+use Rattle.texts.specs.Registers.{resourceForms, resourceNumbers, resourceText}
+use Rattle.sheets.specs.Laws.{Writing, writing-start, writing-next, writing-left, writing-last}
+use Rattle.writing.proofs.Lining.{lining-start, lining-next, lining-done}
+use Rattle.writing.proofs.put_resource.Statement.{statement}
+use Rattle.writing.proofs.put_resource.Tie as tie
+
+-- behind the lines of the numbers, that of the path is left
+numbered : (c : tie.After-put-line3) →
+    let a = c .before .before .before .before .before .before .before .before .before .before .before .before .before .before .before .before .before .args in
+    Writing (a .at) (resourceText (a .o)) (a .buf .now) (scopeLine (pathOf (a .o))) (c .put-line3 .result) (c .put-line3 .last .0)
+numbered c =
+    let shown = c .before .before .before .before .before .before in
+    let named = shown .before .before .before .before .before .before in
+    let st = named .before .before .before .before .before in
+    let a = st .args in
+    let lines = linesText resourceForms (resourceNumbers (a .o)) in
+    let scope = scopeLine (pathOf (a .o)) in
+    let room : a .at + length lines ≤ length (a .buf .now) = omega (arith, st .pre .0, length-append lines scope) in
+    let start = lining-start resourceForms (resourceNumbers (a .o)) (a .at) (a .buf .now) in
+    let first = lining-next room start (named .put-line .ensures .0) (named .put-line .ensures .1) in
+    let second = lining-next room first (shown .put-line2 .ensures .0) (shown .put-line2 .ensures .1) in
+    let all = lining-done (lining-next room second (c .put-line3 .ensures .0) (c .put-line3 .ensures .1)) in
+    writing-next lines scope (st .pre .0) (writing-start (a .at) (resourceText (a .o)) (a .buf .now)) (all .0) (all .1)
+
+slice-aggregate-put-line : tie.Need-slice-aggregate-put-line
+slice-aggregate-put-line c = search needs
+
+cast-put-line : tie.Need-cast-put-line
+cast-put-line c = search needs
+
+put-line-requires : tie.Need-put-line-requires
+put-line-requires c κs = search needs
+
+slice-aggregate-put-line-2 : tie.Need-slice-aggregate-put-line-2
+slice-aggregate-put-line-2 c = search needs
+
+cast-put-line-2 : tie.Need-cast-put-line-2
+cast-put-line-2 c = search needs
+
+put-line-requires-2 : tie.Need-put-line-requires-2
+put-line-requires-2 c κs = search needs
+
+slice-aggregate-put-line-3 : tie.Need-slice-aggregate-put-line-3
+slice-aggregate-put-line-3 c = search needs
+
+cast-put-line-3 : tie.Need-cast-put-line-3
+cast-put-line-3 c = search needs
+
+put-line-requires-3 : tie.Need-put-line-requires-3
+put-line-requires-3 c κs = search needs
+
+put-scope-requires : tie.Need-put-scope-requires
+put-scope-requires c κs =
+    let kept = c .before .before .before in
+    let st = kept .before .before .before .before .before .before .before .before .before .before .before .before .before .before .before .before .before in
+    (writing-left (st .pre .0) (numbered kept), st .pre .1)
+
+same-length : tie.Need-same-length
+same-length c = search needs
+
+returns : tie.Need-returns
+returns c =
+    let call = c .before .before .put-scope in
+    let kept = c .before .before .before .before .before .before in
+    let st = kept .before .before .before .before .before .before .before .before .before .before .before .before .before .before .before .before .before in
+    writing-last (st .pre .0) (numbered kept) (call .ensures .0) (call .ensures .1)
+
+pub put-resource-spec : {M : Type 1} → statement M
+put-resource-spec =
+    tie.close
+    (tie.spec
+    slice-aggregate-put-line
+    cast-put-line
+    put-line-requires
+    slice-aggregate-put-line-2
+    cast-put-line-2
+    put-line-requires-2
+    slice-aggregate-put-line-3
+    cast-put-line-3
+    put-line-requires-3
+    put-scope-requires
+    same-length
+    returns)

@@ -1,0 +1,82 @@
+-- `writing::write` meets its contract: a register that is not sound is refused; of a sound one the sheet's front is the text, which is
+-- delivered. Assumes nothing.
+use Prim.Native.Nat.{ℕ, _≤_}
+use mathlib.Core.Path.{_≡_, sym, ap, _∙_}
+use mathlib.Core.List.{List}
+use native.Mathlib.Omega.{arith}
+use borrow.Author.Needs.{needs}
+use borrow.Author.Tests.{not-true, not-false}
+use lib.ListN.{length, take, replicate, length-replicate}
+use lib.Seq.{length-take-le}
+use Rattle.sheets.specs.Sheets.{put}
+use Rattle.sheets.specs.Laws.{splice-front}
+use Rattle.texts.specs.Registers.{registerText, textLimit}
+use Rattle.texts.specs.Lengths.{text-length}
+use Rattle.writing.specs.Writing.{delivered}
+use Rattle.writing.specs.Laws.{register-unsound, register-sound}
+use Rattle.writing.proofs.write.Statement.{statement}
+use Rattle.writing.proofs.write.Tie as tie
+
+-- a blank sheet is as long as it was made
+blank-room : (n : ℕ) → n ≤ length {A = ℕ} (replicate n 0)
+blank-room n = omega (arith, length-replicate {A = ℕ} n 0)
+
+is-sound-requires : tie.Need-is-sound-requires
+is-sound-requires c κs = search needs
+
+returns : tie.Need-returns
+returns c =
+    let a = c .before .before .before .args in
+    register-unsound (a .r) (a .buf .now) (sym (c .before .is-sound .ensures) ∙ not-true _ (c .if1 .taken))
+
+slice-aggregate-compose : tie.Need-slice-aggregate-compose
+slice-aggregate-compose c = search needs
+
+compose-requires : tie.Need-compose-requires
+compose-requires c κs = (sym (c .before .before .is-sound .ensures) ∙ not-false _ (c .before .if1 .left), blank-room 37741)
+
+slice-aggregate-text : tie.Need-slice-aggregate-text
+slice-aggregate-text c = search needs
+
+-- the sheet's front is the text
+front : (c : tie.After-compose) → take (c .compose .result) (c .compose .last .0) ≡ registerText (c .before .before .before .before .before .args .r)
+front c = rw (c .compose .ensures .0, c .compose .ensures .1) (splice-front _ _)
+
+slice-aggregate-deliver : tie.Need-slice-aggregate-deliver
+slice-aggregate-deliver c =
+    let composed = c .before .before .before .before in
+    let r = composed .before .before .before .before .before .args .r in
+    let sound = sym (composed .before .before .before .is-sound .ensures) ∙ not-false _ (composed .before .before .if1 .left) in
+    let full : length (composed .compose .last .0) ≡ textLimit = composed .compose .kept .0 ∙ length-replicate {A = ℕ} 37741 0 in
+    sym (length-take-le _ (composed .compose .last .0) (omega (arith, full, composed .compose .ensures .0, text-length r sound)))
+
+deliver-requires : tie.Need-deliver-requires
+deliver-requires c κs = search needs
+
+same-length : tie.Need-same-length
+same-length c = search needs
+
+returns-2 : tie.Need-returns-2
+returns-2 c =
+    let call = c .before .before .deliver in
+    let composed = c .before .before .before .before .before .before .before in
+    let st = composed .before .before .before .before .before in
+    let told = register-sound (st .args .r) (st .args .buf .now) (sym (composed .before .before .before .is-sound .ensures) ∙ not-false _ (composed .before .before .if1 .left)) in
+    let text = front composed in (
+      call .ensures .0 ∙ ap (λ (t : List ℕ). delivered t (st .args .buf .now)) text ∙ sym (told .0),
+      call .ensures .1 ∙ ap (λ (t : List ℕ). put 0 t (st .args .buf .now)) text ∙ sym (told .1),
+    )
+
+pub write-spec : {M : Type 1} → statement M
+write-spec =
+    tie.close
+    (tie.spec
+    is-sound-requires
+    returns
+    slice-aggregate-compose
+    compose-requires
+    slice-aggregate-text
+    slice-aggregate-deliver
+    deliver-requires
+    same-length
+    returns-2)
