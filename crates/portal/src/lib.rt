@@ -1,13 +1,185 @@
 // The calls that the portal links: `rt staticlib portal` exports them, and include/guvrendik.h declares them. Nothing is decided
-// here: each call hands its arguments on, and gives the inner answer as a struct of numbers.
+// here: each call hands its arguments on, and gives the inner answer as a struct of numbers. No call asks anything of its caller,
+// and no answer whose numbers are all zero is a yes.
 ghost use mathlib.Core.Path.{_≡_};
 ghost use Rattle.paths.specs.Containment.{contained};
-ghost use Rattle.portal.specs.Answers.{containment};
+ghost use Rattle.rules.specs.Sound.{sound};
+ghost use Rattle.changes.specs.Changes.{granted, revoked};
+ghost use Rattle.verdicts.specs.Gate.{gated};
+ghost use Rattle.verdicts.specs.Plans.{planned};
+ghost use Rattle.portal.specs.Answers.{containment, soundness, acceptedNumber, refusalNumber, grantAnswer, revokeAnswer};
+ghost use Rattle.portal.specs.Answers.{decisionNumber, stopNumber, violationNumbers, violationList, gateAnswer};
+ghost use Rattle.portal.specs.Answers.{judgementNumbers, judgementList, planAnswer};
+use actions::Action;
+use actions::Decision;
+use actions::Judgement;
+use actions::Plan;
+use actions::PlanVerdict;
+use actions::Violation;
+use actions::Violations;
+use changes::Outcome;
+use register::Claim;
+use register::Register;
 
-// The answer of a containment.
+// The answer of a containment: 1 for a yes, 0 for a no.
 #[repr(C)]
 pub struct Containment {
     pub contained: u32,
+}
+
+// Whether a register is sound: 1 for a yes, 0 for a no.
+#[repr(C)]
+pub struct Soundness {
+    pub sound: u32,
+}
+
+// The answer of a grant: accepted is 1, with the claim in the register. Else it is 0, with 01's number and the register as it came.
+#[repr(C)]
+pub struct GrantAnswer {
+    pub state: Register,
+    pub accepted: u32,
+    pub refusal: u32,
+}
+
+// The answer of a revocation: accepted is 1, with how many claims went. Else it is 0, with 01's number and the register as it came.
+#[repr(C)]
+pub struct RevokeAnswer {
+    pub state: Register,
+    pub accepted: u32,
+    pub refusal: u32,
+    pub removed: usize,
+}
+
+// 01's number of a violation's kind, and the flag, actor or position that it is about.
+#[repr(C)]
+pub struct ViolationNumbers {
+    pub kind: u32,
+    pub value: u32,
+}
+
+// The answer of the gate: permitted is 1, refused is 2 with the violations, stopped is 3 with 01's number. Past the counts, zeros.
+#[repr(C)]
+pub struct GateAnswer {
+    pub decision: u32,
+    pub refusal: u32,
+    pub violations: [ViolationNumbers; Violations::MOST],
+    pub count: usize,
+    pub hops: [usize; Action::USES],
+}
+
+// The verdict on an action of a plan: permitted is 1, refused is 2 with its number of violations, cancelled is 3.
+#[repr(C)]
+pub struct JudgementNumbers {
+    pub decision: u32,
+    pub violations: usize,
+}
+
+// The answer for a plan: accepted is 1, with a verdict to each action. Else it is 0, with 01's number and the position of the action that
+// stopped the plan. Past the count, zeros.
+#[repr(C)]
+pub struct PlanAnswer {
+    pub accepted: u32,
+    pub refusal: u32,
+    pub position: usize,
+    pub list: [JudgementNumbers; Plan::ACTIONS],
+    pub count: usize,
+}
+
+// Accepted is 1 and refused is 0.
+fn accepted(o: Outcome) -> u32
+    ensures { λ y. ⌜ y ≡ acceptedNumber o ⌝ }
+{
+    match o {
+        Outcome::Accepted => 1,
+        Outcome::Refused(_) => 0,
+    }
+}
+
+// 01's number of the refusal, 0 where there is none.
+fn refusal(o: Outcome) -> u32
+    ensures { λ y. ⌜ y ≡ refusalNumber o ⌝ }
+{
+    match o {
+        Outcome::Accepted => 0,
+        Outcome::Refused(why) => changes::number(why),
+    }
+}
+
+// Permitted is 1, refused is 2 and stopped is 3.
+fn decision(d: Decision) -> u32
+    ensures { λ y. ⌜ y ≡ decisionNumber d ⌝ }
+{
+    match d {
+        Decision::Permitted => 1,
+        Decision::Refused => 2,
+        Decision::Stopped(_) => 3,
+    }
+}
+
+// 01's number of the refusal that stopped a call, 0 where none did.
+fn stop(d: Decision) -> u32
+    ensures { λ y. ⌜ y ≡ stopNumber d ⌝ }
+{
+    match d {
+        Decision::Permitted => 0,
+        Decision::Refused => 0,
+        Decision::Stopped(why) => changes::number(why),
+    }
+}
+
+fn violation(v: Violation) -> ViolationNumbers
+    ensures { λ y. ⌜ y ≡ violationNumbers v ⌝ }
+{
+    ViolationNumbers {
+        kind: actions::kind(v),
+        value: actions::value(v),
+    }
+}
+
+// The violations below the count, and zeros past them.
+fn violations(vs: Violations) -> [ViolationNumbers; Violations::MOST]
+    ensures { λ y. ⌜ y ≡ violationList vs ⌝ }
+{
+    let top = columns::least(vs.count, Violations::MOST);
+    let none = ViolationNumbers { kind: 0, value: 0 };
+    let mut list = [none; Violations::MOST];
+    let mut i: usize = 0;
+    while i < top {
+        let v = vs.list[i];
+        let what = v.what;
+        list[i] = violation(what);
+        i += 1;
+    }
+    list
+}
+
+fn judgement(j: Judgement) -> JudgementNumbers
+    ensures { λ y. ⌜ y ≡ judgementNumbers j ⌝ }
+{
+    JudgementNumbers {
+        decision: actions::judgement_number(j),
+        violations: actions::judgement_value(j),
+    }
+}
+
+// The verdicts below the count, and zeros past them.
+fn judgements(v: PlanVerdict) -> [JudgementNumbers; Plan::ACTIONS]
+    ensures { λ y. ⌜ y ≡ judgementList v ⌝ }
+{
+    let top = columns::least(v.count, Plan::ACTIONS);
+    let none = JudgementNumbers {
+        decision: 0,
+        violations: 0,
+    };
+    let mut list = [none; Plan::ACTIONS];
+    let mut i: usize = 0;
+    while i < top {
+        let j = v.list[i];
+        let what = j.what;
+        list[i] = judgement(what);
+        i += 1;
+    }
+    list
 }
 
 // Whether the outer path contains the inner one.
@@ -19,5 +191,82 @@ pub extern "C" fn guvrendik_contains(outer: &[u8], inner: &[u8]) -> Containment
         Containment { contained: 1 }
     } else {
         Containment { contained: 0 }
+    }
+}
+
+// Whether the register is sound.
+#[no_mangle]
+pub extern "C" fn guvrendik_sound(r: Register) -> Soundness
+    ensures { λ y. ⌜ y ≡ soundness (sound r) ⌝ }
+{
+    if soundness::is_sound(r) {
+        Soundness { sound: 1 }
+    } else {
+        Soundness { sound: 0 }
+    }
+}
+
+// Grants a claim at the moment.
+#[no_mangle]
+pub extern "C" fn guvrendik_grant(r: Register, c: Claim, now: u64) -> GrantAnswer
+    ensures { λ y. ⌜ y ≡ grantAnswer (granted r c now) ⌝ }
+{
+    let g = granting::grant(r, c, now);
+    let state = g.register;
+    let outcome = g.outcome;
+    GrantAnswer {
+        state,
+        accepted: accepted(outcome),
+        refusal: refusal(outcome),
+    }
+}
+
+// Revokes a claim with all that is drawn from it.
+#[no_mangle]
+pub extern "C" fn guvrendik_revoke(r: Register, revoker: u32, claim: u32) -> RevokeAnswer
+    ensures { λ y. ⌜ y ≡ revokeAnswer (revoked r revoker claim) ⌝ }
+{
+    let g = revoking::revoke(r, revoker, claim);
+    let state = g.register;
+    let outcome = g.outcome;
+    RevokeAnswer {
+        state,
+        accepted: accepted(outcome),
+        refusal: refusal(outcome),
+        removed: g.removed,
+    }
+}
+
+// The gate for an action.
+#[no_mangle]
+pub extern "C" fn guvrendik_gate(r: Register, a: Action) -> GateAnswer
+    ensures { λ y. ⌜ y ≡ gateAnswer (gated r a) ⌝ }
+{
+    let verdict = gate::gate(r, a);
+    let decided = verdict.decision;
+    let violated = verdict.violations;
+    let hops = verdict.hops;
+    GateAnswer {
+        decision: decision(decided),
+        refusal: stop(decided),
+        violations: violations(violated),
+        count: violated.count,
+        hops,
+    }
+}
+
+// The gate for a plan.
+#[no_mangle]
+pub extern "C" fn guvrendik_judge_plan(r: Register, p: Plan) -> PlanAnswer
+    ensures { λ y. ⌜ y ≡ planAnswer (planned r p) ⌝ }
+{
+    let verdict = plans::plan(r, p);
+    let outcome = verdict.outcome;
+    PlanAnswer {
+        accepted: accepted(outcome),
+        refusal: refusal(outcome),
+        position: verdict.position,
+        list: judgements(verdict),
+        count: verdict.count,
     }
 }

@@ -1,0 +1,34 @@
+-- An answer put together from numbers that are each the inner answer's is the answer that the inner one is told by. Assumes nothing.
+use mathlib.Core.Path.{_≡_, sym}
+use mathlib.Core.List.{List}
+use Prim.Native.Nat.{ℕ}
+use Rattle.changes.specs.declared.Granted.{Granted}
+use Rattle.changes.specs.declared.Revoked.{Revoked}
+use Rattle.actions.specs.declared.Verdict.{Verdict}
+use Rattle.actions.specs.declared.PlanVerdict.{PlanVerdict}
+use Rattle.portal.specs.declared.GrantAnswer.{GrantAnswer}
+use Rattle.portal.specs.declared.RevokeAnswer.{RevokeAnswer}
+use Rattle.portal.specs.declared.ViolationNumbers.{ViolationNumbers}
+use Rattle.portal.specs.declared.GateAnswer.{GateAnswer}
+use Rattle.portal.specs.declared.JudgementNumbers.{JudgementNumbers}
+use Rattle.portal.specs.declared.PlanAnswer.{PlanAnswer}
+use Rattle.portal.specs.Answers.{acceptedNumber, refusalNumber, grantAnswer, revokeAnswer}
+use Rattle.portal.specs.Answers.{decisionNumber, stopNumber, violationList, gateAnswer, judgementList, planAnswer}
+
+pub grant-told : {g h : Granted} {a n : ℕ} → g ≡ h → a ≡ acceptedNumber (g .outcome) → n ≡ refusalNumber (g .outcome)
+    → _≡_ {A = GrantAnswer} (record { state = g .register; accepted = a; refusal = n }) (grantAnswer h)
+grant-told same accepted refused = rw (sym same, accepted, refused)
+
+pub revoke-told : {g h : Revoked} {a n : ℕ} → g ≡ h → a ≡ acceptedNumber (g .outcome) → n ≡ refusalNumber (g .outcome)
+    → _≡_ {A = RevokeAnswer} (record { state = g .register; accepted = a; refusal = n; removed = g .removed }) (revokeAnswer h)
+revoke-told same accepted refused = rw (sym same, accepted, refused)
+
+pub gate-told : {v w : Verdict} {d n : ℕ} {l : List ViolationNumbers} → v ≡ w → d ≡ decisionNumber (v .decision) → n ≡ stopNumber (v .decision)
+    → l ≡ violationList (v .violations)
+    → _≡_ {A = GateAnswer} (record { decision = d; refusal = n; violations = l; count = v .violations .count; hops = v .hops }) (gateAnswer w)
+gate-told same decided stopped violated = rw (sym same, decided, stopped, violated)
+
+pub plan-told : {v w : PlanVerdict} {a n : ℕ} {l : List JudgementNumbers} → v ≡ w → a ≡ acceptedNumber (v .outcome) → n ≡ refusalNumber (v .outcome)
+    → l ≡ judgementList v
+    → _≡_ {A = PlanAnswer} (record { accepted = a; refusal = n; position = v .position; list = l; count = v .count }) (planAnswer w)
+plan-told same accepted refused judged = rw (sym same, accepted, refused, judged)
