@@ -6,14 +6,18 @@ use Rattle.changes.specs.declared.Granted.{Granted}
 use Rattle.changes.specs.declared.Revoked.{Revoked}
 use Rattle.actions.specs.declared.Verdict.{Verdict}
 use Rattle.actions.specs.declared.PlanVerdict.{PlanVerdict}
+use Rattle.texts.specs.declared.RegisterRead.{RegisterRead}
+use Rattle.texts.specs.declared.ActionRead.{ActionRead}
 use Rattle.portal.specs.declared.GrantAnswer.{GrantAnswer}
 use Rattle.portal.specs.declared.RevokeAnswer.{RevokeAnswer}
 use Rattle.portal.specs.declared.ViolationNumbers.{ViolationNumbers}
 use Rattle.portal.specs.declared.GateAnswer.{GateAnswer}
 use Rattle.portal.specs.declared.JudgementNumbers.{JudgementNumbers}
 use Rattle.portal.specs.declared.PlanAnswer.{PlanAnswer}
+use Rattle.portal.specs.declared.RegisterAnswer.{RegisterAnswer}
+use Rattle.portal.specs.declared.ActionAnswer.{ActionAnswer}
 use Rattle.portal.specs.Answers.{acceptedNumber, refusalNumber, grantAnswer, revokeAnswer}
-use Rattle.portal.specs.Answers.{decisionNumber, stopNumber, violationList, gateAnswer, judgementList, planAnswer}
+use Rattle.portal.specs.Answers.{decisionNumber, stopNumber, violationList, gateAnswer, judgementList, planAnswer, registerAnswer, actionAnswer}
 
 pub grant-told : {g h : Granted} {a n : ℕ} → g ≡ h → a ≡ acceptedNumber (g .outcome) → n ≡ refusalNumber (g .outcome)
     → _≡_ {A = GrantAnswer} (record { state = g .register; accepted = a; refusal = n }) (grantAnswer h)
@@ -32,3 +36,11 @@ pub plan-told : {v w : PlanVerdict} {a n : ℕ} {l : List JudgementNumbers} → 
     → l ≡ judgementList v
     → _≡_ {A = PlanAnswer} (record { accepted = a; refusal = n; position = v .position; list = l; count = v .count }) (planAnswer w)
 plan-told same accepted refused judged = rw (sym same, accepted, refused, judged)
+
+pub register-told : {g h : RegisterRead} {a n : ℕ} → g ≡ h → a ≡ acceptedNumber (g .outcome) → n ≡ refusalNumber (g .outcome)
+    → _≡_ {A = RegisterAnswer} (record { state = g .register; accepted = a; refusal = n; line = g .line }) (registerAnswer h)
+register-told same accepted refused = rw (sym same, accepted, refused)
+
+pub action-told : {g h : ActionRead} {a n : ℕ} → g ≡ h → a ≡ acceptedNumber (g .outcome) → n ≡ refusalNumber (g .outcome)
+    → _≡_ {A = ActionAnswer} (record { action = g .action; accepted = a; refusal = n; line = g .line }) (actionAnswer h)
+action-told same accepted refused = rw (sym same, accepted, refused)

@@ -17,6 +17,9 @@ use Rattle.actions.specs.declared.Decision.the-variants.{Permitted, Refused, St
 use Rattle.actions.specs.declared.Verdict.{Verdict}
 use Rattle.actions.specs.declared.Judgement.{Judgement}
 use Rattle.actions.specs.declared.PlanVerdict.{PlanVerdict}
+use Rattle.texts.specs.declared.RegisterRead.{RegisterRead}
+use Rattle.texts.specs.declared.ActionRead.{ActionRead}
+use Rattle.texts.specs.declared.Written.{Written}
 use Rattle.portal.specs.declared.Containment.{Containment}
 use Rattle.portal.specs.declared.Soundness.{Soundness}
 use Rattle.portal.specs.declared.GrantAnswer.{GrantAnswer}
@@ -25,6 +28,9 @@ use Rattle.portal.specs.declared.ViolationNumbers.{ViolationNumbers}
 use Rattle.portal.specs.declared.GateAnswer.{GateAnswer}
 use Rattle.portal.specs.declared.JudgementNumbers.{JudgementNumbers}
 use Rattle.portal.specs.declared.PlanAnswer.{PlanAnswer}
+use Rattle.portal.specs.declared.RegisterAnswer.{RegisterAnswer}
+use Rattle.portal.specs.declared.ActionAnswer.{ActionAnswer}
+use Rattle.portal.specs.declared.WrittenAnswer.{WrittenAnswer}
 
 -- a yes is 1 and a no is 0
 abbrev pub yesNumber : Bool → ℕ
@@ -113,4 +119,29 @@ planAnswer v = record {
   position = v .position;
   list = judgementList v;
   count = v .count;
+}
+
+-- a reading: the register or the action, beside its outcome and the line
+abbrev pub registerAnswer : RegisterRead → RegisterAnswer
+registerAnswer r = record {
+  state = r .register;
+  accepted = acceptedNumber (r .outcome);
+  refusal = refusalNumber (r .outcome);
+  line = r .line;
+}
+
+abbrev pub actionAnswer : ActionRead → ActionAnswer
+actionAnswer r = record {
+  action = r .action;
+  accepted = acceptedNumber (r .outcome);
+  refusal = refusalNumber (r .outcome);
+  line = r .line;
+}
+
+-- a writing: its outcome and the length of the text
+abbrev pub writtenAnswer : Written → WrittenAnswer
+writtenAnswer w = record {
+  accepted = acceptedNumber (w .outcome);
+  refusal = refusalNumber (w .outcome);
+  length = w .length;
 }

@@ -7,9 +7,13 @@ ghost use Rattle.rules.specs.Sound.{sound};
 ghost use Rattle.changes.specs.Changes.{granted, revoked};
 ghost use Rattle.verdicts.specs.Gate.{gated};
 ghost use Rattle.verdicts.specs.Plans.{planned};
+ghost use Rattle.texts.specs.Registers.{registerRead};
+ghost use Rattle.texts.specs.Actions.{actionRead};
+ghost use Rattle.writing.specs.Writing.{registerWritten, registerBuffer};
 ghost use Rattle.portal.specs.Answers.{containment, soundness, acceptedNumber, refusalNumber, grantAnswer, revokeAnswer};
 ghost use Rattle.portal.specs.Answers.{decisionNumber, stopNumber, violationNumbers, violationList, gateAnswer};
 ghost use Rattle.portal.specs.Answers.{judgementNumbers, judgementList, planAnswer};
+ghost use Rattle.portal.specs.Answers.{registerAnswer, actionAnswer, writtenAnswer};
 use actions::Action;
 use actions::Decision;
 use actions::Judgement;
@@ -20,6 +24,7 @@ use actions::Violations;
 use changes::Outcome;
 use register::Claim;
 use register::Register;
+use texts::Written;
 
 // The answer of a containment: 1 for a yes, 0 for a no.
 #[repr(C)]
@@ -83,6 +88,34 @@ pub struct PlanAnswer {
     pub position: usize,
     pub list: [JudgementNumbers; Plan::ACTIONS],
     pub count: usize,
+}
+
+// The answer of a reading of a register's text: accepted is 1, with the register and line 0. Else it is 0, with 01's number, the empty
+// register, and the failing line from 1, or 0 where the register is not sound.
+#[repr(C)]
+pub struct RegisterAnswer {
+    pub state: Register,
+    pub accepted: u32,
+    pub refusal: u32,
+    pub line: usize,
+}
+
+// The answer of a reading of an action's text: accepted is 1, with the action and line 0. Else it is 0, with 01's number, the action of all
+// zeros and the failing line from 1.
+#[repr(C)]
+pub struct ActionAnswer {
+    pub action: Action,
+    pub accepted: u32,
+    pub refusal: u32,
+    pub line: usize,
+}
+
+// The answer of a writing: accepted is 1, with the length of the text. Else it is 0, with 01's number and length 0.
+#[repr(C)]
+pub struct WrittenAnswer {
+    pub accepted: u32,
+    pub refusal: u32,
+    pub length: usize,
 }
 
 // Accepted is 1 and refused is 0.
@@ -269,4 +302,56 @@ pub extern "C" fn guvrendik_judge_plan(r: Register, p: Plan) -> PlanAnswer
         list: judgements(verdict),
         count: verdict.count,
     }
+}
+
+// Reads a text as a register.
+#[no_mangle]
+pub extern "C" fn guvrendik_read_register(text: &[u8]) -> RegisterAnswer
+    ensures { λ y. ⌜ y ≡ registerAnswer (registerRead (now (text .entry))) ⌝ }
+{
+    let read = reading::read_register(text);
+    let state = read.register;
+    let outcome = read.outcome;
+    RegisterAnswer {
+        state,
+        accepted: accepted(outcome),
+        refusal: refusal(outcome),
+        line: read.line,
+    }
+}
+
+// Reads a text as an action.
+#[no_mangle]
+pub extern "C" fn guvrendik_read_action(text: &[u8]) -> ActionAnswer
+    ensures { λ y. ⌜ y ≡ actionAnswer (actionRead (now (text .entry))) ⌝ }
+{
+    let read = action_reading::read_action(text);
+    let action = read.action;
+    let outcome = read.outcome;
+    ActionAnswer {
+        action,
+        accepted: accepted(outcome),
+        refusal: refusal(outcome),
+        line: read.line,
+    }
+}
+
+fn written(w: Written) -> WrittenAnswer
+    ensures { λ y. ⌜ y ≡ writtenAnswer w ⌝ }
+{
+    let outcome = w.outcome;
+    WrittenAnswer {
+        accepted: accepted(outcome),
+        refusal: refusal(outcome),
+        length: w.length,
+    }
+}
+
+// Writes the text of the register into the buffer.
+#[no_mangle]
+pub extern "C" fn guvrendik_write_register(r: Register, buffer: &mut [u8]) -> WrittenAnswer
+    ensures answer { λ y. ⌜ y ≡ writtenAnswer (registerWritten r (now (buffer .entry))) ⌝ }
+    ensures buffer { λ _. ⌜ now (buffer .exit) ≡ registerBuffer r (now (buffer .entry)) ⌝ }
+{
+    written(writing::write(r, buffer))
 }
