@@ -1,1 +1,6 @@
+mod case;
+mod driver;
+mod generate;
+mod saved;
+
 fn main() {}
