@@ -26,7 +26,7 @@
 #undef SIZE
 #undef FIELD
 
-/* The same numbers as in src/driver.rs. */
+/* The same numbers as in src/case.rs. */
 enum {
     LOAD = 1,
     SOUND,
@@ -710,7 +710,7 @@ static void do_boundary(payload *p) {
 
 /* ---- Threads ---- */
 
-enum { THREAD_COUNT = 8, ACTION_TEXT = 1024 };
+enum { THREAD_COUNT = 8, ACTION_TEXT = 4096 };
 
 /* What all ten calls are asked about. */
 typedef struct {
@@ -755,23 +755,56 @@ static void take_input(payload *p, input *in) {
     take(p, in->action_text, in->action_len);
 }
 
-static void call_all(const input *in, answers *out) {
-    memset(out, 0, sizeof *out);
+enum { CALLS = 10 };
+
+/* Where each call leaves its answer: a struct, and a text where it writes one. */
+static const struct {
+    size_t at, size, text_at, text_size;
+} parts[CALLS] = {
+#define PART(field) offsetof(answers, field), sizeof(((answers *)0)->field)
+    {PART(sound), 0, 0},        {PART(contained), 0, 0},
+    {PART(granted), 0, 0},      {PART(revoked), 0, 0},
+    {PART(verdict), 0, 0},      {PART(judged), 0, 0},
+    {PART(written), PART(text)}, {PART(read), 0, 0},
+    {PART(action), 0, 0},       {PART(printed), PART(lines)},
+#undef PART
+};
+
+/* Makes one call. The register's text is the one that `known` has. */
+static void make_call(size_t call, const input *in, const answers *known, answers *out) {
     const guvrendik_resource *one = &in->r.resources.list[0], *two = &in->r.resources.list[1];
-    out->sound = guvrendik_sound(in->r);
-    out->contained = guvrendik_contains(one->path, one->len, two->path, two->len);
-    out->granted = guvrendik_grant(in->r, in->c, in->now);
-    settle(&out->granted.state);
-    out->revoked = guvrendik_revoke(in->r, in->revoker, in->claim);
-    settle(&out->revoked.state);
-    out->verdict = guvrendik_gate(in->r, in->a);
-    out->judged = guvrendik_judge_plan(in->r, in->p);
-    out->written = guvrendik_write_register(in->r, out->text, sizeof out->text);
-    out->read = guvrendik_read_register(out->text, out->written.length);
-    settle(&out->read.state);
-    out->action = guvrendik_read_action((const uint8_t *)in->action_text, in->action_len);
-    out->printed = guvrendik_verdict_text(out->text, out->written.length, (const uint8_t *)in->action_text, in->action_len,
-                                          out->lines, sizeof out->lines);
+    const uint8_t *action_text = (const uint8_t *)in->action_text;
+    memset((uint8_t *)out + parts[call].text_at, 0, parts[call].text_size);
+    switch (call) {
+    case 0: out->sound = guvrendik_sound(in->r); break;
+    case 1: out->contained = guvrendik_contains(one->path, one->len, two->path, two->len); break;
+    case 2:
+        out->granted = guvrendik_grant(in->r, in->c, in->now);
+        settle(&out->granted.state);
+        break;
+    case 3:
+        out->revoked = guvrendik_revoke(in->r, in->revoker, in->claim);
+        settle(&out->revoked.state);
+        break;
+    case 4: out->verdict = guvrendik_gate(in->r, in->a); break;
+    case 5: out->judged = guvrendik_judge_plan(in->r, in->p); break;
+    case 6: out->written = guvrendik_write_register(in->r, out->text, sizeof out->text); break;
+    case 7:
+        out->read = guvrendik_read_register(known->text, known->written.length);
+        settle(&out->read.state);
+        break;
+    case 8: out->action = guvrendik_read_action(action_text, in->action_len); break;
+    case 9:
+        out->printed = guvrendik_verdict_text(known->text, known->written.length, action_text, in->action_len, out->lines,
+                                              sizeof out->lines);
+        break;
+    }
+}
+
+static bool same_answer(size_t call, const answers *one, const answers *two) {
+    const uint8_t *first = (const uint8_t *)one, *second = (const uint8_t *)two;
+    return memcmp(first + parts[call].at, second + parts[call].at, parts[call].size) == 0 &&
+           memcmp(first + parts[call].text_at, second + parts[call].text_at, parts[call].text_size) == 0;
 }
 
 static const input *thread_inputs;
@@ -784,22 +817,24 @@ typedef struct {
     uint32_t number, passed, failed;
 } worker;
 
-/* In even rounds all threads are at the same input at once, in odd ones each is at another. */
+/* Call by call, all threads at once: in even rounds all begin at the same input, in odd ones each at another. */
 static void *work(void *given) {
     worker *w = given;
-    answers *got = malloc(sizeof *got);
+    answers *got = calloc(1, sizeof *got);
     if (got == NULL) {
         fail("answers");
     }
-    for (uint32_t round = 0; round < thread_rounds; round++) {
-        for (uint32_t i = 0; i < thread_input_count; i++) {
-            uint32_t at = (i + (round % 2 == 0 ? 0 : w->number)) % thread_input_count;
+    for (size_t call = 0; call < CALLS; call++) {
+        for (uint32_t round = 0; round < thread_rounds; round++) {
             pthread_barrier_wait(&thread_barrier);
-            call_all(&thread_inputs[at], got);
-            if (memcmp(got, &thread_expected[at], sizeof *got) == 0) {
-                w->passed++;
-            } else {
-                w->failed++;
+            for (uint32_t i = 0; i < thread_input_count; i++) {
+                uint32_t at = (i + (round % 2 == 0 ? 0 : w->number)) % thread_input_count;
+                make_call(call, &thread_inputs[at], &thread_expected[at], got);
+                if (same_answer(call, got, &thread_expected[at])) {
+                    w->passed++;
+                } else {
+                    w->failed++;
+                }
             }
         }
     }
@@ -817,7 +852,9 @@ static void do_threads(payload *p) {
     }
     for (uint32_t i = 0; i < thread_input_count; i++) {
         take_input(p, &inputs[i]);
-        call_all(&inputs[i], &expected[i]);
+        for (size_t call = 0; call < CALLS; call++) {
+            make_call(call, &inputs[i], &expected[i], &expected[i]);
+        }
     }
     thread_inputs = inputs;
     thread_expected = expected;
@@ -898,15 +935,15 @@ static uint64_t stack_of(void (*body)(void)) {
     return STACK_SIZE - untouched;
 }
 
-/* The stack of each call, in the order of src/driver.rs. The register is written before it is read. */
+/* The stack of each call, in the order of src/compare.rs. The register is written before it is read. */
 static void do_stack(payload *p) {
-    static void (*const bodies[])(void) = {
+    static void (*const bodies[CALLS])(void) = {
         stack_sound,    stack_grant,          stack_revoke,        stack_gate,        stack_judge_plan,
         stack_contains, stack_write_register, stack_read_register, stack_read_action, stack_verdict_text,
     };
     take_input(p, &stack_input);
-    uint64_t idle = stack_of(no_call), used[sizeof bodies / sizeof *bodies];
-    for (size_t i = 0; i < sizeof bodies / sizeof *bodies; i++) {
+    uint64_t idle = stack_of(no_call), used[CALLS];
+    for (size_t i = 0; i < CALLS; i++) {
         used[i] = stack_of(bodies[i]) - idle;
     }
     answer_marked(0, used, sizeof used);

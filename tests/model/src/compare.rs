@@ -182,26 +182,30 @@ impl<'c> Comparison<'c> {
         answer
     }
 
-    /// The finding made small: the one call on the register it was made on, where that differs too, then shrunk.
+    /// The finding made small: the one call on the register it was made on, where that differs too, then shrunk. As it was where
+    /// the difference does not show again.
     pub fn reduce(&mut self, finding: Finding) -> io::Result<Finding> {
         let tally = std::mem::take(&mut self.tally);
-        let Finding { session, difference } = finding;
-        let alone = self.alone(&session, difference.call);
-        let start = if self.ask(&alone)?.is_some() { alone } else { session };
+        let alone = self.alone(&finding.session, finding.difference.call);
+        let start = if self.ask(&alone)?.is_some() { alone } else { finding.session.clone() };
         let mut broken = None;
-        let small = shrink::shrink(start, |smaller| match self.ask(smaller) {
+        let session = shrink::shrink(start, |smaller| match self.ask(smaller) {
             Ok(difference) => difference.is_some(),
             Err(error) => {
                 broken = Some(error);
                 false
             }
         });
-        if let Some(error) = broken {
-            return Err(error);
-        }
-        let again = self.ask(&small)?.unwrap_or(difference);
+        let again = self.ask(&session)?;
         self.tally = tally;
-        Ok(Finding { session: small, difference: again })
+        match (broken, again) {
+            (Some(error), _) => Err(error),
+            (None, Some(difference)) => Ok(Finding { session, difference }),
+            (None, None) => {
+                println!("a difference that did not show again:");
+                Ok(finding)
+            }
+        }
     }
 
     /// One call of a session with the register that it is made on.
@@ -319,8 +323,9 @@ impl<'c> Comparison<'c> {
     /// Eight threads at once, on the same and on different inputs.
     pub fn threads(&mut self, random: &mut Random) -> io::Result<()> {
         const INPUTS: u32 = 10;
+        const ROUNDS: u32 = 8;
         self.counted("eight threads", Request::Threads, |out| {
-            [4, INPUTS].put(out);
+            [ROUNDS, INPUTS].put(out);
             for input in 0..INPUTS {
                 let shape = if input == 0 { registers::FULL } else { registers::MEDIUM };
                 put_input(random, shape, out);

@@ -27,9 +27,12 @@ pub fn grant(random: &mut Random, register: &Register, keep: bool) -> Call {
         claim.holder = random.pick(actors).id;
     }
     if random.chance(75) && !parents.is_empty() {
-        // The later ones are often deeper.
-        let at = if random.chance(50) { parents[parents.len() - 1 - random.below(parents.len().min(8))] } else { *random.pick(&parents) };
-        let parent = &claims[at];
+        let parent = match random.below(10) {
+            0..=1 => deepest(claims, &parents),
+            // The later ones are often deeper.
+            2..=5 => &claims[parents[parents.len() - 1 - random.below(parents.len().min(8))]],
+            _ => &claims[*random.pick(&parents)],
+        };
         claim.parent = parent.id;
         claim.grantor = parent.holder;
         claim.resource = parent.resource;
@@ -58,6 +61,23 @@ pub fn grant(random: &mut Random, register: &Register, keep: bool) -> Call {
         twist(random, register, &mut claim, &mut now);
     }
     Call::Grant { claim, now, keep }
+}
+
+/// The one with the longest chain above it: at its end the hops run out.
+fn deepest<'c>(claims: &'c [Claim], parents: &[usize]) -> &'c Claim {
+    let hops = |at: &usize| {
+        let mut claim = &claims[*at];
+        (0..HOPS)
+            .take_while(|_| match claims.iter().find(|above| above.id == claim.parent) {
+                Some(above) => {
+                    claim = above;
+                    true
+                }
+                None => false,
+            })
+            .count()
+    };
+    &claims[*parents.iter().max_by_key(|at| hops(at)).expect("there are parents")]
 }
 
 /// Ids are often small, so that freed ones come again.

@@ -62,7 +62,9 @@ impl Generator {
             0 => FULL,
             13 => registers::within(random, FULL),
             26 => EMPTY,
-            7 => Shape { claims: CLAIMS - 4, actors: 20, resources: 4 },
+            7 => Shape { actors: 20, resources: 4, claims: CLAIMS - 4 },
+            // Actors enough for the longest chain, and little else.
+            10 | 22 | 34 => Shape { actors: 22, resources: 2, claims: HOPS + 8 },
             at if at % 4 == 1 => MEDIUM,
             at if at % 4 == 3 => registers::within(random, MEDIUM),
             at if at % 4 == 2 => registers::within(random, SMALL),

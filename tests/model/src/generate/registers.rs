@@ -253,7 +253,8 @@ fn child_of(random: &mut Random, register: &Register, parent: usize, id: u32, de
         holder,
         resource: parent.resource,
         rights,
-        weight: weight(random, parent.weight),
+        // A long chain is to stay alive.
+        weight: if delegates && random.chance(90) { parent.weight } else { weight(random, parent.weight) },
         expiry: expiry(random),
     })
 }
