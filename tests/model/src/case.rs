@@ -11,16 +11,35 @@ use std::mem::size_of;
 pub enum Call {
     Sound,
     /// With `keep`, the answer's register is the session's from then on.
-    Grant { claim: Claim, now: u64, keep: bool },
-    Revoke { revoker: u32, claim: u32, keep: bool },
+    Grant {
+        claim: Claim,
+        now: u64,
+        keep: bool,
+    },
+    Revoke {
+        revoker: u32,
+        claim: u32,
+        keep: bool,
+    },
     Gate(Box<Action>),
     Plan(Box<Plan>),
-    Contains { outer: Vec<u8>, inner: Vec<u8> },
+    Contains {
+        outer: Vec<u8>,
+        inner: Vec<u8>,
+    },
     ReadRegister(Vec<u8>),
     /// Into a buffer of `room` bytes, each `fill`.
-    WriteRegister { room: usize, fill: u8 },
+    WriteRegister {
+        room: usize,
+        fill: u8,
+    },
     ReadAction(Vec<u8>),
-    VerdictText { register: Vec<u8>, action: Vec<u8>, room: usize, fill: u8 },
+    VerdictText {
+        register: Vec<u8>,
+        action: Vec<u8>,
+        room: usize,
+        fill: u8,
+    },
 }
 
 /// Calls in order, on a register where one is given.
@@ -66,8 +85,8 @@ pub fn outcome_name(outcome: Outcome) -> String {
     match outcome {
         YES => "yes".to_owned(),
         NO => "no".to_owned(),
-        ..=98 => format!("refusal {outcome}"),
-        ..=199 => format!("violation {}", outcome - 100),
+        1..=98 => format!("refusal {outcome}"),
+        100..=199 => format!("violation {}", outcome - 100),
         _ => format!("judgement {}", outcome - 200),
     }
 }
@@ -254,7 +273,9 @@ impl Call {
                 result.err().map_or(0, |unread| unread.line).put(out);
                 outcome(result.map_err(|unread| unread.refusal))
             }
-            Call::WriteRegister { room, fill } => put_text(*room, *fill, out, |buffer| model.write_register(state, buffer)),
+            Call::WriteRegister { room, fill } => {
+                put_text(*room, *fill, out, |buffer| model.write_register(state, buffer))
+            }
             Call::VerdictText { register, action, room, fill } => {
                 put_text(*room, *fill, out, |buffer| model.verdict_text(register, action, buffer))
             }
@@ -332,10 +353,7 @@ fn fields(value: &impl std::fmt::Debug) -> Vec<(String, String)> {
         }
         let (name, content) = line.split_once(": ").unwrap_or(("", line));
         if content.ends_with(['{', '[']) {
-            way.push((name.to_owned(), content.ends_with('[').then_some(usize::MAX)));
-            if let Some((_, Some(index))) = way.last_mut() {
-                *index = 0;
-            }
+            way.push((name.to_owned(), content.ends_with('[').then_some(0)));
             continue;
         }
         let mut path = String::new();

@@ -347,7 +347,8 @@ impl<'c> Comparison<'c> {
             "read_action",
             "verdict_text",
         ];
-        let answer = self.special(Request::Stack, CALLS * size_of::<u64>(), |out| put_input(random, registers::MEDIUM, out))?;
+        let answer =
+            self.special(Request::Stack, CALLS * size_of::<u64>(), |out| put_input(random, registers::MEDIUM, out))?;
         let used = <[u64; CALLS]>::take(&mut &answer[..]);
         for (name, used) in ORDER.iter().zip(used) {
             println!("stack of guvrendik_{name}: {used} bytes");

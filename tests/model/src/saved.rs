@@ -283,9 +283,7 @@ fn call(name: &str, parts: &Parts) -> Result<Call, String> {
     Ok(match name {
         "sound" => Call::Sound,
         "grant" => Call::Grant { claim: claim(parts)?, now: number(parts, "now")?, keep: keep()? },
-        "revoke" => {
-            Call::Revoke { revoker: number(parts, "revoker")?, claim: number(parts, "claim")?, keep: keep()? }
-        }
+        "revoke" => Call::Revoke { revoker: number(parts, "revoker")?, claim: number(parts, "claim")?, keep: keep()? },
         "gate" => Call::Gate(Box::new(Action::ZERO)),
         "judge_plan" => Call::Plan(Box::new(Plan { count: number(parts, "count")?, ..Plan::EMPTY })),
         "contains" => {
@@ -321,7 +319,9 @@ mod tests {
 
     #[test]
     fn what_is_not_of_the_form_is_told() {
-        for text in ["call dance", "actor at=0 id=1 kind=1 owner=0", "call contains outer=\"a inner=\"\"", "call revoke"] {
+        for text in
+            ["call dance", "actor at=0 id=1 kind=1 owner=0", "call contains outer=\"a inner=\"\"", "call revoke"]
+        {
             assert!(super::read(text).is_err(), "{text}");
         }
     }

@@ -62,7 +62,11 @@ fn nth_step(session: &Session, mut step: usize) -> Option<Session> {
 
 fn register_steps(register: &Register) -> usize {
     // The claims first, from the last: others hang from the earlier ones. The last step clears what stands past the counts.
-    counted(&register.claims) + counted(&register.resources) + counted(&register.actors) + counted(&register.resources) + 1
+    counted(&register.claims)
+        + counted(&register.resources)
+        + counted(&register.actors)
+        + counted(&register.resources)
+        + 1
 }
 
 fn counted<T: Zero, const LIMIT: usize>(list: &List<T, LIMIT>) -> usize {

@@ -102,8 +102,7 @@ pub struct Claim {
 }
 
 impl Zero for Claim {
-    const ZERO: Self =
-        Claim { id: 0, parent: 0, grantor: 0, holder: 0, resource: 0, rights: 0, weight: 0, expiry: 0 };
+    const ZERO: Self = Claim { id: 0, parent: 0, grantor: 0, holder: 0, resource: 0, rights: 0, weight: 0, expiry: 0 };
 }
 
 pub type Actors = List<Actor, ACTORS>;

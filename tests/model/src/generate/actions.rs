@@ -32,7 +32,9 @@ pub fn action(random: &mut Random, register: &Register) -> Box<Action> {
     let claims = standing(&register.claims);
     let actor = match random.below(20) {
         0 => None,
-        1..=7 if !claims.is_empty() => actors.iter().find(|actor| actor.id == claims[random.below(claims.len())].holder),
+        1..=7 if !claims.is_empty() => {
+            actors.iter().find(|actor| actor.id == claims[random.below(claims.len())].holder)
+        }
         _ if actors.is_empty() => None,
         _ => Some(random.pick(actors)),
     };
@@ -81,7 +83,9 @@ fn usage(random: &mut Random, register: &Register, held: &[&Claim]) -> Usage {
     let resource = match random.below(20) {
         0 => *random.pick(&[0, ID_MAX, stranger]),
         1..=11 if claim.is_some() => claim.map_or(0, |claim| claim.resource),
-        12..=16 if claim.is_some() && !resources.is_empty() => nearby(random, resources, claim.map_or(0, |claim| claim.resource)),
+        12..=16 if claim.is_some() && !resources.is_empty() => {
+            nearby(random, resources, claim.map_or(0, |claim| claim.resource))
+        }
         _ if resources.is_empty() => 1,
         _ => random.pick(resources).id,
     };

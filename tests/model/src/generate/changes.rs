@@ -83,7 +83,9 @@ fn deepest<'c>(claims: &'c [Claim], parents: &[usize]) -> &'c Claim {
 /// Ids are often small, so that freed ones come again.
 fn fresh_id(random: &mut Random, claims: &[Claim]) -> u32 {
     for _ in 0..8 {
-        let id = if random.chance(70) { random.between(1, claims.len() + 3) } else { random.between(1, ID_MAX as usize) } as u32;
+        let id =
+            if random.chance(70) { random.between(1, claims.len() + 3) } else { random.between(1, ID_MAX as usize) }
+                as u32;
         if claims.iter().all(|claim| claim.id != id) {
             return id;
         }
@@ -156,7 +158,9 @@ pub fn revoke(random: &mut Random, register: &Register, keep: bool) -> Call {
         return Call::Revoke { revoker, claim, keep };
     }
     // Later claims take less with them, so that sequences keep something to go on.
-    let at = claims.len() - 1 - if random.chance(70) { random.below(claims.len().min(12)) } else { random.below(claims.len()) };
+    let at = claims.len()
+        - 1
+        - if random.chance(70) { random.below(claims.len().min(12)) } else { random.below(claims.len()) };
     let claim = &claims[at];
     let mut grantor = claim;
     for _ in 0..random.below(HOPS) {

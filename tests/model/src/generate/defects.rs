@@ -54,7 +54,11 @@ fn byte(register: &mut Register, random: &mut Random, byte: u8) -> bool {
 }
 
 /// Gives one entry the id of another.
-fn double<T: Zero, const LIMIT: usize>(list: &mut List<T, LIMIT>, random: &mut Random, id: fn(&mut T) -> &mut u32) -> bool {
+fn double<T: Zero, const LIMIT: usize>(
+    list: &mut List<T, LIMIT>,
+    random: &mut Random,
+    id: fn(&mut T) -> &mut u32,
+) -> bool {
     if list.count < 2 {
         return false;
     }
@@ -116,8 +120,13 @@ fn is_leaf(register: &Register, at: usize) -> bool {
 }
 
 /// Puts another holder on a claim that nothing hangs from.
-fn leaf_held_by(register: &mut Register, random: &mut Random, holder: impl Fn(&Register, &[usize], &mut Random) -> u32) -> bool {
-    let leaves: Vec<usize> = pairs(register, |_, _| true).into_iter().map(|(at, _)| at).filter(|&at| is_leaf(register, at)).collect();
+fn leaf_held_by(
+    register: &mut Register,
+    random: &mut Random,
+    holder: impl Fn(&Register, &[usize], &mut Random) -> u32,
+) -> bool {
+    let leaves: Vec<usize> =
+        pairs(register, |_, _| true).into_iter().map(|(at, _)| at).filter(|&at| is_leaf(register, at)).collect();
     if leaves.is_empty() {
         return false;
     }
@@ -128,7 +137,12 @@ fn leaf_held_by(register: &mut Register, random: &mut Random, holder: impl Fn(&R
 }
 
 /// Appends a claim under an existing one, otherwise right, that nothing but the change spoils.
-fn append_child(register: &mut Register, random: &mut Random, fits: impl Fn(&Register, usize) -> bool, change: impl FnOnce(&mut Claim)) -> bool {
+fn append_child(
+    register: &mut Register,
+    random: &mut Random,
+    fits: impl Fn(&Register, usize) -> bool,
+    change: impl FnOnce(&mut Claim),
+) -> bool {
     if register.claims.count >= CLAIMS {
         return false;
     }
@@ -150,8 +164,7 @@ fn append_child(register: &mut Register, random: &mut Random, fits: impl Fn(&Reg
         return false;
     };
     let id = absent(register, random);
-    let mut claim =
-        Claim { id, parent: parent.id, grantor: parent.holder, holder, rights: 1 << DELEGATE, ..parent };
+    let mut claim = Claim { id, parent: parent.id, grantor: parent.holder, holder, rights: 1 << DELEGATE, ..parent };
     change(&mut claim);
     register.claims.push(claim);
     true
@@ -189,24 +202,43 @@ pub const DEFECTS: &[(&str, Defect)] = &[
     ("actor kind 0", |register, random| actor(register, random, |actor| actor.kind = 0)),
     ("actor kind 3", |register, random| actor(register, random, |actor| actor.kind = 3)),
     ("actor kind wraps", |register, random| actor(register, random, |actor| actor.kind += 256)),
-    ("human with itself as owner", |register, random| actor_of(register, random, HUMAN, |actor| actor.owner = actor.id)),
+    ("human with itself as owner", |register, random| {
+        actor_of(register, random, HUMAN, |actor| actor.owner = actor.id)
+    }),
     ("human with an owner", |register, random| {
-        let humans: Vec<u32> = standing(&register.actors).iter().filter(|actor| actor.kind == HUMAN).map(|actor| actor.id).collect();
+        let humans: Vec<u32> =
+            standing(&register.actors).iter().filter(|actor| actor.kind == HUMAN).map(|actor| actor.id).collect();
         !humans.is_empty()
-            && one(&mut register.actors, random, |actor| actor.kind == HUMAN, |actor, random| actor.owner = *random.pick(&humans))
+            && one(
+                &mut register.actors,
+                random,
+                |actor| actor.kind == HUMAN,
+                |actor, random| actor.owner = *random.pick(&humans),
+            )
     }),
     ("machine owned by itself", |register, random| actor_of(register, random, MACHINE, |actor| actor.owner = actor.id)),
     ("machine owned by a machine", |register, random| {
-        let machines: Vec<u32> = standing(&register.actors).iter().filter(|actor| actor.kind == MACHINE).map(|actor| actor.id).collect();
+        let machines: Vec<u32> =
+            standing(&register.actors).iter().filter(|actor| actor.kind == MACHINE).map(|actor| actor.id).collect();
         !machines.is_empty()
-            && one(&mut register.actors, random, |actor| actor.kind == MACHINE, |actor, random| actor.owner = *random.pick(&machines))
+            && one(
+                &mut register.actors,
+                random,
+                |actor| actor.kind == MACHINE,
+                |actor, random| actor.owner = *random.pick(&machines),
+            )
     }),
     ("machine owned by nobody known", |register, random| {
         let owner = absent(register, random);
         one(&mut register.actors, random, |actor| actor.kind == MACHINE, |actor, _| actor.owner = owner)
     }),
     ("owner wraps to a human", |register, random| {
-        one(&mut register.actors, random, |actor| actor.kind == MACHINE && actor.owner != 0, |actor, _| actor.owner += 65_536)
+        one(
+            &mut register.actors,
+            random,
+            |actor| actor.kind == MACHINE && actor.owner != 0,
+            |actor, _| actor.owner += 65_536,
+        )
     }),
     ("owner 65536 for none", |register, random| {
         one(&mut register.actors, random, |actor| actor.owner == 0, |actor, _| actor.owner = 65_536)
@@ -223,7 +255,8 @@ pub const DEFECTS: &[(&str, Defect)] = &[
         one(&mut register.resources, random, |_| true, |resource, _| resource.keeper = keeper)
     }),
     ("keeper a machine", |register, random| {
-        let Some(machine) = standing(&register.actors).iter().find(|actor| actor.kind == MACHINE).map(|actor| actor.id) else {
+        let Some(machine) = standing(&register.actors).iter().find(|actor| actor.kind == MACHINE).map(|actor| actor.id)
+        else {
             return false;
         };
         one(&mut register.resources, random, |_| true, |resource, _| resource.keeper = machine)
@@ -284,7 +317,8 @@ pub const DEFECTS: &[(&str, Defect)] = &[
     ("expiry 2^32", |register, random| claim(register, random, |claim| claim.expiry = 1 << 32)),
     ("expiry wraps", |register, random| claim(register, random, |claim| claim.expiry += 1 << 32)),
     ("root not granted by the keeper", |register, random| {
-        let others: Vec<u32> = standing(&register.actors).iter().filter(|actor| actor.kind == HUMAN).map(|actor| actor.id).collect();
+        let others: Vec<u32> =
+            standing(&register.actors).iter().filter(|actor| actor.kind == HUMAN).map(|actor| actor.id).collect();
         let roots: Vec<usize> = (0..register.claims.count).filter(|&at| register.claims.list[at].parent == 0).collect();
         if roots.is_empty() || others.len() < 2 {
             return false;
@@ -295,7 +329,8 @@ pub const DEFECTS: &[(&str, Defect)] = &[
     }),
     ("parent held by another", |register, random| {
         let pairs = pairs(register, |claim, _| claim.grantor != 0);
-        let humans: Vec<u32> = standing(&register.actors).iter().filter(|actor| actor.kind == HUMAN).map(|actor| actor.id).collect();
+        let humans: Vec<u32> =
+            standing(&register.actors).iter().filter(|actor| actor.kind == HUMAN).map(|actor| actor.id).collect();
         if pairs.is_empty() {
             return false;
         }
@@ -405,7 +440,9 @@ fn machine_grants(register: &mut Register, random: &mut Random, right: u32) -> b
         .map(|(at, _)| at)
         .filter(|&at| is_machine(register, register.claims.list[at].grantor))
         // Above it only humans grant, so that the right can come down to it.
-        .filter(|&at| above(register, at).iter().all(|&higher| !is_machine(register, register.claims.list[higher].grantor)))
+        .filter(|&at| {
+            above(register, at).iter().all(|&higher| !is_machine(register, register.claims.list[higher].grantor))
+        })
         .collect();
     if granted.is_empty() {
         return false;
@@ -429,7 +466,8 @@ mod tests {
         for (name, defect) in DEFECTS {
             let mut fitted = 0;
             for round in 0..60 {
-                let shape = [SMALL, MEDIUM, registers::FULL, registers::Shape { claims: 200, ..registers::FULL }][round % 4];
+                let shape =
+                    [SMALL, MEDIUM, registers::FULL, registers::Shape { claims: 200, ..registers::FULL }][round % 4];
                 let mut register = registers::sound(&mut random, shape, round % 2 == 0);
                 let before = register.clone();
                 if defect(&mut register, &mut random) {

@@ -57,7 +57,8 @@ pub fn long() -> Session {
     Session { register: None, calls }
 }
 
-const PARTS: [&[u8]; 14] = [b"a", b"b", b"ab", b"/", b"/", b"/", b"//", b".", b"..", b"/..", b"../", b"a..b", b"x", b"\0"];
+const PARTS: [&[u8]; 14] =
+    [b"a", b"b", b"ab", b"/", b"/", b"/", b"//", b".", b"..", b"/..", b"../", b"a..b", b"x", b"\0"];
 
 fn some(random: &mut Random) -> Vec<u8> {
     if random.chance(5) {

@@ -86,7 +86,8 @@ pub fn ids(random: &mut Random, count: usize) -> Vec<u32> {
 fn add_actors(random: &mut Random, register: &mut Register, count: usize) {
     let ids = ids(random, count);
     // Decided first: an owner may stand later in the list. The first id is a human's, wherever it lands.
-    let humans: Vec<u32> = ids.iter().enumerate().filter(|(at, _)| *at == 0 || random.chance(45)).map(|(_, id)| *id).collect();
+    let humans: Vec<u32> =
+        ids.iter().enumerate().filter(|(at, _)| *at == 0 || random.chance(45)).map(|(_, id)| *id).collect();
     let mut order = ids;
     shuffle(random, &mut order);
     for id in order {
@@ -106,7 +107,8 @@ pub fn shuffle<T>(random: &mut Random, list: &mut [T]) {
 }
 
 fn add_resources(random: &mut Random, register: &mut Register, count: usize) {
-    let keepers: Vec<u32> = standing(&register.actors).iter().filter(|actor| actor.kind == HUMAN).map(|actor| actor.id).collect();
+    let keepers: Vec<u32> =
+        standing(&register.actors).iter().filter(|actor| actor.kind == HUMAN).map(|actor| actor.id).collect();
     if keepers.is_empty() {
         return;
     }
@@ -179,7 +181,6 @@ fn add_claims(random: &mut Random, register: &mut Register, count: usize) {
             Some(random.below(at.max(1))).filter(|_| at > 0)
         };
         let child = parent.and_then(|parent| {
-            let parent = parent.min(register.claims.count.checked_sub(1)?);
             if hops[parent] == HOPS {
                 return None;
             }
@@ -204,7 +205,16 @@ fn root(random: &mut Random, register: &Register, id: u32, delegates: bool) -> C
         rights |= 1 << DELEGATE;
     }
     let weight = if delegates { WEIGHT_MAX } else { weight(random, WEIGHT_MAX) };
-    Claim { id, parent: 0, grantor: resource.keeper, holder, resource: resource.id, rights, weight, expiry: expiry(random) }
+    Claim {
+        id,
+        parent: 0,
+        grantor: resource.keeper,
+        holder,
+        resource: resource.id,
+        rights,
+        weight,
+        expiry: expiry(random),
+    }
 }
 
 /// A claim under another, or `None` where the rules allow none or luck finds none.

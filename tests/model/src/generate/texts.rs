@@ -76,8 +76,31 @@ fn line_starts(text: &[u8]) -> Vec<usize> {
 }
 
 const NUMBERS: [&str; 26] = [
-    "0", "1", "2", "8", "9", "16", "17", "32", "33", "64", "65", "256", "257", "1000", "1001", "1023", "1024", "65535",
-    "65536", "131071", "131072", "4294967295", "4294967296", "18446744073709551615", "18446744073709551616",
+    "0",
+    "1",
+    "2",
+    "8",
+    "9",
+    "16",
+    "17",
+    "32",
+    "33",
+    "64",
+    "65",
+    "256",
+    "257",
+    "1000",
+    "1001",
+    "1023",
+    "1024",
+    "65535",
+    "65536",
+    "131071",
+    "131072",
+    "4294967295",
+    "4294967296",
+    "18446744073709551615",
+    "18446744073709551616",
     "99999999999999999999",
 ];
 
@@ -150,10 +173,20 @@ pub fn spoil(random: &mut Random, text: &mut Vec<u8>) {
         9 => {
             text.pop();
         }
-        10 => text.extend(*random.pick(&[&b"\n"[..], b"x", b"claims=999\n", b"governs=9\n", b"\0", b"=", b"register=1\n"])),
+        10 => text.extend(*random.pick(&[
+            &b"\n"[..],
+            b"x",
+            b"claims=999\n",
+            b"governs=9\n",
+            b"\0",
+            b"=",
+            b"register=1\n",
+        ])),
         11 => revalue(random, text, |value, _| [b"0", value].concat()),
         12 => revalue(random, text, |value, _| [value, b"0"].concat()),
-        13 => revalue(random, text, |value, random| [value, *random.pick(&[&b"\r"[..], b" ", b"x", b".0", b"="])].concat()),
+        13 => revalue(random, text, |value, random| {
+            [value, *random.pick(&[&b"\r"[..], b" ", b"x", b".0", b"="])].concat()
+        }),
         14 => revalue(random, text, |value, random| [*random.pick(&[&b"+"[..], b"-", b" ", b"0x"]), value].concat()),
         15 | 16 => revalue(random, text, |_, random| random.pick(&NUMBERS).bytes().collect()),
         17 => revalue(random, text, |_, _| Vec::new()),
@@ -162,7 +195,9 @@ pub fn spoil(random: &mut Random, text: &mut Vec<u8>) {
             let number: u128 = std::str::from_utf8(value).ok().and_then(|digits| digits.parse().ok()).unwrap_or(0);
             (number + random.pick(&[1u128 << 16, 1 << 32, 1 << 64])).to_string().into_bytes()
         }),
-        19 => revalue(random, text, |_, random| random.pick(&["human", "machine", "Human", "2", "mach"]).bytes().collect()),
+        19 => revalue(random, text, |_, random| {
+            random.pick(&["human", "machine", "Human", "2", "mach"]).bytes().collect()
+        }),
         20 => {
             let number = *random.pick(&NUMBERS);
             recount(random, text, number.as_bytes());
@@ -205,7 +240,8 @@ pub fn neighbours(text: &[u8], call: fn(Vec<u8>) -> Call) -> Session {
         }
     }
     for line in line_starts(text).windows(3) {
-        let (before, one, two, after) = (&text[..line[0]], &text[line[0]..line[1]], &text[line[1]..line[2]], &text[line[2]..]);
+        let (before, one, two, after) =
+            (&text[..line[0]], &text[line[0]..line[1]], &text[line[1]..line[2]], &text[line[2]..]);
         calls.push(call([before, two, after].concat()));
         calls.push(call([before, one, one, two, after].concat()));
         calls.push(call([before, two, one, after].concat()));
@@ -216,10 +252,14 @@ pub fn neighbours(text: &[u8], call: fn(Vec<u8>) -> Call) -> Session {
 /// Counts of any length, on a line and at the end of the text.
 pub fn counts() -> Session {
     let mut calls = Vec::new();
-    let register_starts: [&[u8]; 3] = [b"register=1\nactors=", b"register=1\nactors=0\nresources=", b"register=1\nactors=0\nresources=0\nclaims="];
+    let register_starts: [&[u8]; 3] =
+        [b"register=1\nactors=", b"register=1\nactors=0\nresources=", b"register=1\nactors=0\nresources=0\nclaims="];
     let action_starts: [&[u8]; 2] = [b"now=0\nactor=0\nflags=0\nuses=", b"now=0\nactor=0\nflags=0\nuses=0\ngoverns="];
-    let mut values: Vec<Vec<u8>> =
-        NUMBERS.iter().map(|number| number.bytes().collect()).chain([vec![], b"00".to_vec(), b"065".to_vec()]).collect();
+    let mut values: Vec<Vec<u8>> = NUMBERS
+        .iter()
+        .map(|number| number.bytes().collect())
+        .chain([vec![], b"00".to_vec(), b"065".to_vec()])
+        .collect();
     values.extend([10, 19, 20, 21, 39, 1_000, 60_000, 65_517, 70_000].map(|length| vec![b'9'; length]));
     values.extend([20, 60_000].map(|length| [&vec![b'9'; length][..], b"x"].concat()));
     values.push([&b"1"[..], &vec![b'0'; 60_000]].concat());
@@ -245,7 +285,8 @@ pub fn some_register(random: &mut Random, base: &[u8]) -> Vec<u8> {
 /// The call that prints a verdict, into a buffer of about the right size.
 pub fn verdict_text(random: &mut Random, register: Vec<u8>, action: Vec<u8>) -> Call {
     let mut exact = [0; 1_024];
-    let length = guvrendik_model::model::Model::default().verdict_text(&register, &action, &mut exact).unwrap_or(exact.len());
+    let length =
+        guvrendik_model::model::Model::default().verdict_text(&register, &action, &mut exact).unwrap_or(exact.len());
     let room = room(random, length, exact.len());
     Call::VerdictText { register, action, room, fill: random.word() as u8 }
 }

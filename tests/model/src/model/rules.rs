@@ -55,9 +55,7 @@ impl Model {
     /// This looks at the claim alone.
     pub fn live(&self, claim: &Claim, now: u64) -> bool {
         claim.weight > 0
-            && (claim.expiry == 0
-                || claim.expiry > now
-                || claim.expiry == now && self.has(Fault::ExpiryEqualLive))
+            && (claim.expiry == 0 || claim.expiry > now || claim.expiry == now && self.has(Fault::ExpiryEqualLive))
     }
 }
 

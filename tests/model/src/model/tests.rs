@@ -102,7 +102,10 @@ fn case_r_prints_its_four_lines() {
     assert_eq!(verdict.violations[..2], [Violation { kind: 4, value: 1 }, Violation { kind: 0, value: 0 }]);
     let reading = lines("now=1999 actor=2 flags=0 uses=1 use=10 right=0 governs=0");
     assert_eq!(printed(&lines(CASE_R), &reading), "verdict=permitted\nviolations=0\n");
-    assert_eq!(printed(&lines(CASE_R), &reading.replace("1999", "2000")), "verdict=refused\nviolations=1\nviolation=4\nat=0\n");
+    assert_eq!(
+        printed(&lines(CASE_R), &reading.replace("1999", "2000")),
+        "verdict=refused\nviolations=1\nviolation=4\nat=0\n"
+    );
     assert_eq!(printed("", &reading), "verdict=stopped\nrefusal=19\n");
     assert_eq!(printed(&lines(CASE_R), &reading.replace("actor=2", "actor=0")), "verdict=stopped\nrefusal=3\n");
 }

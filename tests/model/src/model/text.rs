@@ -50,7 +50,9 @@ impl<'t> Lines<'t> {
         if !is_decimal {
             return self.fail(Refusal::Form);
         }
-        Ok(digits.iter().fold(0, |number: u64, digit| number.saturating_mul(10).saturating_add(u64::from(digit - b'0'))))
+        Ok(digits
+            .iter()
+            .fold(0, |number: u64, digit| number.saturating_mul(10).saturating_add(u64::from(digit - b'0'))))
     }
 
     fn number(&mut self, key: &str, range: RangeInclusive<u64>) -> Result<u64, Unread> {
