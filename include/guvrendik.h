@@ -1,6 +1,18 @@
 /* Guvrendik: a proved authority gate. Link target/staticlib/libportal.a, which `rt staticlib portal` makes for x86-64.
  *
- * No call allocates, keeps a pointer, writes a global or touches errno: any number of threads may call at once. */
+ * No call allocates, keeps a pointer, writes a global or touches errno: any number of threads may call at once, also on the same
+ * register. Structs pass by value; a register is 16,664 bytes. What a call lends with a pointer and a length belongs to the
+ * caller, is used during the call only, and may be NULL where the length is 0.
+ *
+ * Every input is answered: a number out of range, a count above its limit and a register that is not sound are refused, by the
+ * numbers below. Entries past a count are ignored, and so are the bytes of a path past its length. An answer is determined whole,
+ * also past its counts. An answer that was never written, all zeros, reads as a no.
+ *
+ * Stack: each call says how many bytes of stack it needs, the caller's copies of the structs included.
+ *
+ * Proved, of every call: it equals a definition in the rule book's words, for all inputs (docs/CONTRACTS.md names each one); it
+ * never reads or writes out of range, overflows or runs on for ever. Not proved: that the caller's pointers and lengths are good,
+ * and how C and the library pass structs to each other; the second is tested. */
 #ifndef GUVRENDIK_H
 #define GUVRENDIK_H
 
@@ -10,6 +22,275 @@
 #ifdef __cplusplus
 extern "C" {
 #endif
+
+/* Limits. */
+#define GUVRENDIK_ACTORS 64
+#define GUVRENDIK_RESOURCES 64
+#define GUVRENDIK_CLAIMS 256
+#define GUVRENDIK_HOPS 16 /* steps from a claim up to its root */
+#define GUVRENDIK_PATH 64 /* bytes of a path */
+#define GUVRENDIK_USES 32
+#define GUVRENDIK_GOVERNS 8
+#define GUVRENDIK_ACTIONS 16
+#define GUVRENDIK_VIOLATIONS 51
+#define GUVRENDIK_REGISTER_TEXT 37741 /* no register's text is longer */
+#define GUVRENDIK_VERDICT_TEXT 923    /* no verdict's text is longer */
+
+/* The largest numbers of the fields. */
+#define GUVRENDIK_ID_MAX UINT32_C(65535)
+#define GUVRENDIK_RIGHTS_MAX UINT32_C(131071)
+#define GUVRENDIK_WEIGHT_MAX UINT32_C(1000)
+#define GUVRENDIK_MOMENT_MAX UINT64_C(4294967295)
+#define GUVRENDIK_FLAGS_MAX UINT32_C(1023)
+
+/* Kinds of actor. */
+#define GUVRENDIK_HUMAN UINT32_C(1)
+#define GUVRENDIK_MACHINE UINT32_C(2)
+
+/* The seventeen rights. Right b is worth 2^b in a rights number: GUVRENDIK_WORTH(b). */
+#define GUVRENDIK_READ 0
+#define GUVRENDIK_WRITE 1
+#define GUVRENDIK_EXECUTE 2
+#define GUVRENDIK_DELETE 3
+#define GUVRENDIK_DELEGATE 4
+#define GUVRENDIK_NETWORK_EGRESS 5
+#define GUVRENDIK_NETWORK_INGRESS 6
+#define GUVRENDIK_FILE_SYSTEM 7
+#define GUVRENDIK_PROCESS_SPAWN 8
+#define GUVRENDIK_MEMORY_WRITE 9
+#define GUVRENDIK_CREDENTIAL_READ 10
+#define GUVRENDIK_CREDENTIAL_WRITE 11
+#define GUVRENDIK_AUDIT_READ 12
+#define GUVRENDIK_AUDIT_WRITE 13 /* not granted by a machine */
+#define GUVRENDIK_POLICY_READ 14
+#define GUVRENDIK_REGISTRY_MODIFY 15 /* not granted by a machine */
+#define GUVRENDIK_POLICY_MODIFY 16   /* not granted by a machine */
+#define GUVRENDIK_RIGHTS 17
+#define GUVRENDIK_WORTH(right) (UINT32_C(1) << (right))
+
+/* The ten flags of an action. Flag i is bit i of its flags: GUVRENDIK_WORTH(i). */
+#define GUVRENDIK_INCREASES_SOVEREIGNTY 0
+#define GUVRENDIK_RESISTS_CORRECTION 1
+#define GUVRENDIK_BYPASSES_VERIFIER 2
+#define GUVRENDIK_WEAKENS_VERIFIER 3
+#define GUVRENDIK_DISABLES_CORRIGIBILITY 4
+#define GUVRENDIK_COALITION_DOMINION 5
+#define GUVRENDIK_COERCES 6
+#define GUVRENDIK_DECEIVES 7
+#define GUVRENDIK_SELF_MODIFICATION 8
+#define GUVRENDIK_COALITION_REDUCES_FREEDOM 9
+#define GUVRENDIK_FLAGS 10
+
+/* The numbers that a call refuses with. */
+#define GUVRENDIK_UNSOUND 1         /* register not sound */
+#define GUVRENDIK_RANGE 2           /* field or count of the call out of range */
+#define GUVRENDIK_ABSENT 3          /* grantor, holder, granted resource, revoker or acting actor not in the register */
+#define GUVRENDIK_STANDS 4          /* claim id already stands */
+#define GUVRENDIK_FULL 5            /* 256 claims stand */
+#define GUVRENDIK_NOT_KEEPER 6      /* root grant by anyone but the keeper */
+#define GUVRENDIK_OWNERLESS 7       /* grantor is a machine without owner */
+#define GUVRENDIK_NOT_BY_MACHINE 8  /* grantor is a machine and right 13, 15 or 16 is asked */
+#define GUVRENDIK_NO_PARENT 9       /* parent does not stand */
+#define GUVRENDIK_NOT_HELD 10       /* parent not held by the grantor, or on another resource */
+#define GUVRENDIK_NOT_LIVE 11       /* parent not live at the moment */
+#define GUVRENDIK_NO_DELEGATE 12    /* parent lacks DELEGATE */
+#define GUVRENDIK_RIGHT_LACKING 13  /* a right the parent lacks */
+#define GUVRENDIK_WEIGHT_ABOVE 14   /* weight above the parent's */
+#define GUVRENDIK_TOO_MANY_HOPS 15  /* more than 16 hops */
+#define GUVRENDIK_CIRCLE 16         /* the holder holds a claim higher on the chain, or granted its root */
+#define GUVRENDIK_NO_CLAIM 17       /* claim to revoke does not stand */
+#define GUVRENDIK_NO_GRANTOR 18     /* revoker is no grantor on that claim's chain, the claim itself included */
+#define GUVRENDIK_FORM 19           /* text not of the form */
+#define GUVRENDIK_COUNT 20          /* a count line above its limit */
+#define GUVRENDIK_BUFFER 21         /* buffer too short for the text */
+
+/* ---- The register ---- */
+
+typedef struct guvrendik_actor {
+    uint32_t id;    /* 1 to 65,535, distinct among the actors */
+    uint32_t kind;  /* GUVRENDIK_HUMAN or GUVRENDIK_MACHINE */
+    uint32_t owner; /* of a machine: a human of the register, or 0 for none. Of a human: 0 */
+} guvrendik_actor;
+
+typedef struct guvrendik_resource {
+    uint32_t id;        /* 1 to 65,535, distinct among the resources */
+    uint32_t is_public; /* 1 public, 0 not */
+    uint32_t keeper;    /* a human of the register */
+    size_t len;         /* bytes of the path, 0 to 64 */
+    uint8_t path[GUVRENDIK_PATH]; /* each 0x21 to 0x7E */
+} guvrendik_resource;
+
+/* A claim is live at a moment when its weight is above 0 and its expiry is 0 or above the moment. */
+typedef struct guvrendik_claim {
+    uint32_t id;       /* 1 to 65,535, distinct among the claims */
+    uint32_t parent;   /* the id of a claim earlier in the list, or 0 for a root */
+    uint32_t grantor;  /* an actor: of a root the resource's keeper, else the parent's holder */
+    uint32_t holder;   /* an actor */
+    uint32_t resource; /* a resource: the parent's, where there is one */
+    uint32_t rights;   /* 1 to 131,071, the sum of the worths; none that the parent lacks */
+    uint32_t weight;   /* 0 to 1,000; at most the parent's */
+    uint64_t expiry;   /* a moment in seconds, below 2^32; 0 for never */
+} guvrendik_claim;
+
+typedef struct guvrendik_actors {
+    guvrendik_actor list[GUVRENDIK_ACTORS];
+    size_t count; /* 0 to 64 */
+} guvrendik_actors;
+
+typedef struct guvrendik_resources {
+    guvrendik_resource list[GUVRENDIK_RESOURCES];
+    size_t count; /* 0 to 64 */
+} guvrendik_resources;
+
+typedef struct guvrendik_claims {
+    guvrendik_claim list[GUVRENDIK_CLAIMS];
+    size_t count; /* 0 to 256 */
+} guvrendik_claims;
+
+/* The register. All zeros is the empty one, which is sound. */
+typedef struct guvrendik_register {
+    guvrendik_actors actors;
+    guvrendik_resources resources;
+    guvrendik_claims claims;
+} guvrendik_register;
+
+/* The answer of guvrendik_sound. */
+typedef struct guvrendik_soundness {
+    uint32_t sound; /* 1: sound. 0: not. No other number. */
+} guvrendik_soundness;
+
+/* Whether the register is sound: the limits, ranges and field rules above hold; every actor and resource that a claim names
+ * stands; a parent has DELEGATE; a machine grants only where it has an owner, and never right 13, 15 or 16; no claim has more
+ * than 16 hops; the holder of a claim with a parent holds no claim higher on the chain and did not grant its root.
+ * No refusal: every register is answered.
+ * Stack: TO-BE-MEASURED(guvrendik_sound) bytes. */
+guvrendik_soundness guvrendik_sound(guvrendik_register r);
+
+/* ---- Changes ---- */
+
+/* The answer of guvrendik_grant. */
+typedef struct guvrendik_granted {
+    guvrendik_register state; /* accepted: the register with the claim at the end of the list. Refused: as it came, whole */
+    uint32_t accepted;        /* 1 or 0 */
+    uint32_t refusal;         /* 0 where accepted, else the number */
+} guvrendik_granted;
+
+/* Grants the claim c at the moment now.
+ *  r    the register before
+ *  c    the claim, every field in the range that guvrendik_claim gives
+ *  now  a moment in seconds, below 2^32
+ * Refusals, the first that applies: 1 register not sound; 2 a field of the claim or now out of range; 3 grantor, holder or
+ * resource not in the register; 4 the id stands; 5 256 claims stand; 6 a root not granted by the keeper; 7 and 8 what a machine
+ * may not grant; and where there is a parent: 9 it does not stand; 10 it is not held by the grantor or is on another resource;
+ * 11 it is not live at now; 12 it lacks DELEGATE; 13 it lacks a right; 14 it has less weight; 15 more than 16 hops; 16 a circle.
+ * Refused for no other cause: a claim of weight 0, or whose expiry has passed, is granted.
+ * Accepted, everything but the new claim and the count of claims is as it came, also what stands past the counts.
+ * Stack: TO-BE-MEASURED(guvrendik_grant) bytes. */
+guvrendik_granted guvrendik_grant(guvrendik_register r, guvrendik_claim c, uint64_t now);
+
+/* The answer of guvrendik_revoke. */
+typedef struct guvrendik_revoked {
+    guvrendik_register state; /* accepted: the register without the claims. Refused: as it came, whole */
+    uint32_t accepted;        /* 1 or 0 */
+    uint32_t refusal;         /* 0 where accepted, else the number */
+    size_t removed;           /* how many claims went, at least 1; 0 where refused */
+} guvrendik_revoked;
+
+/* Revokes a claim: it goes, and every claim that has it on its chain. The rest keep their order.
+ *  r        the register before
+ *  revoker  the id of an actor; a number out of range is in no register
+ *  claim    the id of a claim; a number out of range does not stand
+ * Refusals, the first that applies: 1 register not sound; 3 revoker not in the register; 17 the claim does not stand; 18 the
+ * revoker granted neither it nor a claim higher on its chain.
+ * Accepted, every place past the count of claims holds a claim of all zeros: nothing of a withdrawn claim is left.
+ * Stack: TO-BE-MEASURED(guvrendik_revoke) bytes. */
+guvrendik_revoked guvrendik_revoke(guvrendik_register r, uint32_t revoker, uint32_t claim);
+
+/* ---- The gate ---- */
+
+/* One right on one resource. */
+typedef struct guvrendik_usage {
+    uint32_t resource; /* 0 to 65,535; need not stand */
+    uint32_t right;    /* 0 to 16 */
+} guvrendik_usage;
+
+typedef struct guvrendik_action {
+    uint32_t actor; /* 0 to 65,535 */
+    uint32_t flags; /* 0 to 1,023 */
+    uint64_t now;   /* a moment in seconds, below 2^32 */
+    guvrendik_usage uses[GUVRENDIK_USES];
+    size_t used;                         /* 0 to 32 */
+    uint32_t governs[GUVRENDIK_GOVERNS]; /* actor numbers, each 0 to 65,535; not looked up */
+    size_t governed;                     /* 0 to 8 */
+} guvrendik_action;
+
+/* Kinds of violation, in the order of a verdict's list. */
+#define GUVRENDIK_FLAG 1               /* value: the flag, lowest first */
+#define GUVRENDIK_MACHINE_OWNERLESS 2  /* value: the actor's id */
+#define GUVRENDIK_MACHINE_GOVERNS 3    /* value: the governed entry's position, from 0 */
+#define GUVRENDIK_NOT_COVERED 4        /* value: the use's position, from 0. Kinds 4 to 6 come by use position */
+#define GUVRENDIK_OWNER_NOT_COVERED 5  /* value: the use's position */
+#define GUVRENDIK_BROKEN_CHAIN 6       /* value: the use's position. Never met: in a sound register every parent stands */
+
+typedef struct guvrendik_violation {
+    uint32_t kind;
+    uint32_t value;
+} guvrendik_violation;
+
+/* Decisions. */
+#define GUVRENDIK_PERMITTED UINT32_C(1)
+#define GUVRENDIK_REFUSED UINT32_C(2)   /* there are violations */
+#define GUVRENDIK_STOPPED UINT32_C(3)   /* of a verdict: the call was refused */
+#define GUVRENDIK_CANCELLED UINT32_C(3) /* of a judgement: an action before it has a flag set */
+
+/* The answer of guvrendik_gate. */
+typedef struct guvrendik_verdict {
+    uint32_t decision;                                    /* PERMITTED, REFUSED or STOPPED */
+    uint32_t refusal;                                     /* of a stopped one the number, else 0 */
+    guvrendik_violation violations[GUVRENDIK_VIOLATIONS]; /* past the count {0, 0} */
+    size_t count;                                         /* 0 where permitted or stopped */
+    size_t hops[GUVRENDIK_USES]; /* by use: the hop count of the first claim in the list by which the actor covers it; 0 where
+                                  * there is none, past the uses, and where stopped */
+} guvrendik_verdict;
+
+/* Judges one action. An actor covers a use when the resource stands and it is public and the right is READ, or the actor holds a
+ * claim that is live at the action's moment, has the right, and is on a resource whose path contains the used one's.
+ *  r  the register
+ *  a  the action, every field in the range that guvrendik_action gives
+ * Refusals, the first that applies: 1 register not sound; 2 a field or count of the action out of range; 3 actor not in the
+ * register. Then there are no violations and no hop counts.
+ * Stack: TO-BE-MEASURED(guvrendik_gate) bytes. */
+guvrendik_verdict guvrendik_gate(guvrendik_register r, guvrendik_action a);
+
+typedef struct guvrendik_plan {
+    guvrendik_action actions[GUVRENDIK_ACTIONS];
+    size_t count; /* 0 to 16 */
+} guvrendik_plan;
+
+typedef struct guvrendik_judgement {
+    uint32_t decision;   /* PERMITTED, REFUSED or CANCELLED */
+    uint32_t violations; /* how many; 0 where permitted or cancelled */
+} guvrendik_judgement;
+
+/* The answer of guvrendik_judge_plan. */
+typedef struct guvrendik_plan_verdict {
+    uint32_t accepted;                           /* 1 or 0 */
+    uint32_t refusal;                            /* 0 where accepted, else the number */
+    size_t position;                             /* of the action that stopped the plan, from 0; 0 for 1, a bad count, and
+                                                  * where accepted */
+    guvrendik_judgement list[GUVRENDIK_ACTIONS]; /* past the count {0, 0} */
+    size_t count;                                /* the plan's; 0 where refused */
+} guvrendik_plan_verdict;
+
+/* Judges a plan, its actions in order. Every action after the first with a flag set is cancelled.
+ *  r  the register
+ *  p  the plan
+ * Refusals, the first that applies: 1 register not sound; 2 more than 16 actions; then the first action that is refused with 2
+ * or 3, as by guvrendik_gate, stops the whole plan, also one that would be cancelled. Then there are no judgements.
+ * Stack: TO-BE-MEASURED(guvrendik_judge_plan) bytes. */
+guvrendik_plan_verdict guvrendik_judge_plan(guvrendik_register r, guvrendik_plan p);
+
+/* ---- Paths ---- */
 
 /* The answer of a containment. A struct that was never written, all zeros, reads as a no. */
 typedef struct guvrendik_containment {
@@ -22,9 +303,76 @@ typedef struct guvrendik_containment {
  *  inner/inner_len  the same. The two may overlap.
  * The answer is a no where either path has a component equal to `..`. Else it is a yes where outer is empty, where inner equals
  * outer without the slashes at its end, and where inner goes on from there with a slash. No refusal: every input is answered.
+ * Stack: TO-BE-MEASURED(guvrendik_contains) bytes.
  * Proved: the answer is that of `contained` in crates/paths/specs/Containment.antt, for all bytes and lengths. Not proved: that
  * the caller's pointers and lengths are good. */
 guvrendik_containment guvrendik_contains(const uint8_t *outer, size_t outer_len, const uint8_t *inner, size_t inner_len);
+
+/* ---- Texts ----
+ * Lines key=value, each ended by LF, decimals without leading zeros.
+ * A register: register=1; actors=, per actor actor, kind (human or machine), owner; resources=, per resource resource, public,
+ * keeper, scope; claims=, per claim claim, parent, grantor, holder, resource, rights, weight, expiry. Nothing follows.
+ * An action: now, actor, flags; uses=, per use use and right; governs=, per entry govern. Nothing follows. */
+
+/* The answer of guvrendik_read_register. */
+typedef struct guvrendik_register_read {
+    guvrendik_register state; /* accepted: the register, zeros past the counts and past each path. Refused: all zeros */
+    uint32_t accepted;        /* 1 or 0 */
+    uint32_t refusal;         /* 0 where accepted, else the number */
+    size_t line;              /* of 19 and 20: the first failing line, from 1. Else 0 */
+} guvrendik_register_read;
+
+/* Reads a register's text.
+ *  text/text_len  any bytes, any length. The caller owns it; read during the call only, never written. May be NULL where
+ *                 text_len is 0.
+ * Refusals: the first failing line decides between 19, not of the form or a number or path outside its field's range, and 20, a
+ * count above its limit, whatever its length; a text that ends early, and bytes after the end, fail as the next line with 19.
+ * Soundness comes last, with 1.
+ * Stack: TO-BE-MEASURED(guvrendik_read_register) bytes. */
+guvrendik_register_read guvrendik_read_register(const uint8_t *text, size_t text_len);
+
+/* The answer of a call that writes a text. */
+typedef struct guvrendik_written {
+    uint32_t accepted; /* 1 or 0 */
+    uint32_t refusal;  /* 0 where accepted, else the number */
+    size_t length;     /* bytes written at the front of the buffer; 0 where refused */
+} guvrendik_written;
+
+/* Writes the register's text. Reading that text gives the same register.
+ *  r                  the register
+ *  buffer/buffer_len  where to. The caller owns it; written during the call only. GUVRENDIK_REGISTER_TEXT bytes are enough for
+ *                     every register. May be NULL where buffer_len is 0.
+ * Refusals, the first that applies: 1 register not sound; 21 buffer too short. Then the buffer keeps every byte.
+ * Accepted, the buffer keeps its bytes past the text. No zero byte is added.
+ * Stack: TO-BE-MEASURED(guvrendik_write_register) bytes. */
+guvrendik_written guvrendik_write_register(guvrendik_register r, uint8_t *buffer, size_t buffer_len);
+
+/* The answer of guvrendik_read_action. */
+typedef struct guvrendik_action_read {
+    guvrendik_action action; /* accepted: the action, zeros past the counts. Refused: all zeros */
+    uint32_t accepted;       /* 1 or 0 */
+    uint32_t refusal;        /* 0 where accepted, else the number */
+    size_t line;             /* of the refusal: the first failing line, from 1. Else 0 */
+} guvrendik_action_read;
+
+/* Reads an action's text.
+ *  text/text_len  as for guvrendik_read_register.
+ * Refusals: 19 and 20 in the same way.
+ * Stack: TO-BE-MEASURED(guvrendik_read_action) bytes. */
+guvrendik_action_read guvrendik_read_action(const uint8_t *text, size_t text_len);
+
+/* Writes the lines that the printing program prints for a register's text and an action's text: verdict=permitted and
+ * violations=0; or verdict=refused, violations= with their number, and for each one violation= with its kind and at= with its
+ * value; or verdict=stopped and refusal= with the first refusal of reading the register, reading the action and the gate.
+ *  register_text/register_len  as for guvrendik_read_register. Judged whole: it is the program that reads no more than the first
+ *  action_text/action_len      65,536 bytes of a file.
+ *  buffer/buffer_len           where to, as for guvrendik_write_register. It overlaps neither text. GUVRENDIK_VERDICT_TEXT bytes
+ *                              are enough for every verdict.
+ * Refusal: 21 buffer too short. Then the buffer keeps every byte. A text that is not read is no refusal of this call: its answer
+ * is the text with verdict=stopped.
+ * Stack: TO-BE-MEASURED(guvrendik_verdict_text) bytes. */
+guvrendik_written guvrendik_verdict_text(const uint8_t *register_text, size_t register_len, const uint8_t *action_text,
+                                         size_t action_len, uint8_t *buffer, size_t buffer_len);
 
 #ifdef __cplusplus
 }

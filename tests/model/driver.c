@@ -1,0 +1,998 @@
+/* The C side of the comparison: reads requests from standard input, calls the library that it is linked with, and writes the
+ * whole answers to standard output. src/driver.rs has the other end.
+ *
+ * A request is an operation's number, the number of bytes that follow, and those bytes; an answer is a word of marks, 0 where
+ * nothing was noticed, and the answer's own bytes. Structs cross as they lie in memory, with zeros between their fields.
+ *
+ * Each slice that a call is lent ends at a page that cannot be touched; then the call is made again with each slice beginning
+ * at such a page, an empty one as NULL, and both answers must be the same. */
+#define _GNU_SOURCE
+#include "guvrendik.h"
+
+#include <errno.h>
+#include <fcntl.h>
+#include <pthread.h>
+#include <stdbool.h>
+#include <stdio.h>
+#include <stdlib.h>
+#include <string.h>
+#include <sys/mman.h>
+#include <ucontext.h>
+#include <unistd.h>
+
+#define SIZE(name, bytes) _Static_assert(sizeof(guvrendik_##name) == (bytes), "size of guvrendik_" #name);
+#define FIELD(name, field, offset) _Static_assert(offsetof(guvrendik_##name, field) == (offset), #name "." #field);
+#include "layout.h"
+#undef SIZE
+#undef FIELD
+
+/* The same numbers as in src/case.rs. */
+enum {
+    LOAD = 1,
+    SOUND,
+    GRANT,
+    REVOKE,
+    GATE,
+    PLAN,
+    CONTAINS,
+    READ_REGISTER,
+    WRITE_REGISTER,
+    READ_ACTION,
+    VERDICT_TEXT,
+    BOUNDARY,
+    THREADS,
+    STACK,
+};
+
+/* Marks: what was noticed beside an answer. */
+enum {
+    INPUT_CHANGED = 1,  /* bytes lent for reading are not as they were */
+    WROTE_OUTSIDE = 2,  /* a byte beside the lent buffer changed */
+    PLACES_DIFFER = 4,  /* the answers at the two placements are not the same */
+    ERRNO_TOUCHED = 8,
+};
+
+static void fail(const char *what) {
+    perror(what);
+    exit(1);
+}
+
+/* ---- Pipes ---- */
+
+enum { CHUNK = 1 << 20 };
+
+static uint8_t incoming[CHUNK], outgoing[CHUNK];
+static size_t incoming_at, incoming_end, outgoing_end;
+
+static void flush_answers(void) {
+    size_t at = 0;
+    while (at < outgoing_end) {
+        ssize_t wrote = write(STDOUT_FILENO, outgoing + at, outgoing_end - at);
+        if (wrote < 0) {
+            fail("write");
+        }
+        at += (size_t)wrote;
+    }
+    outgoing_end = 0;
+}
+
+static void answer(const void *bytes, size_t size) {
+    const uint8_t *from = bytes;
+    while (size > 0) {
+        if (outgoing_end == CHUNK) {
+            flush_answers();
+        }
+        size_t part = size < CHUNK - outgoing_end ? size : CHUNK - outgoing_end;
+        memcpy(outgoing + outgoing_end, from, part);
+        outgoing_end += part;
+        from += part;
+        size -= part;
+    }
+}
+
+/* Whether that many bytes came before the input ended. Answers go out before a wait. */
+static bool receive(void *bytes, size_t size) {
+    uint8_t *to = bytes;
+    while (size > 0) {
+        if (incoming_at == incoming_end) {
+            flush_answers();
+            ssize_t got = read(STDIN_FILENO, incoming, CHUNK);
+            if (got < 0) {
+                fail("read");
+            }
+            if (got == 0) {
+                return false;
+            }
+            incoming_at = 0;
+            incoming_end = (size_t)got;
+        }
+        size_t part = size < incoming_end - incoming_at ? size : incoming_end - incoming_at;
+        memcpy(to, incoming + incoming_at, part);
+        incoming_at += part;
+        to += part;
+        size -= part;
+    }
+    return true;
+}
+
+/* The bytes of a request that are not yet taken. */
+typedef struct {
+    const uint8_t *at;
+    size_t left;
+} payload;
+
+static const uint8_t *take_bytes(payload *p, size_t size) {
+    if (size > p->left) {
+        fprintf(stderr, "driver: request too short\n");
+        exit(1);
+    }
+    const uint8_t *bytes = p->at;
+    p->at += size;
+    p->left -= size;
+    return bytes;
+}
+
+static void take(payload *p, void *value, size_t size) { memcpy(value, take_bytes(p, size), size); }
+
+static uint32_t take32(payload *p) {
+    uint32_t number;
+    take(p, &number, sizeof number);
+    return number;
+}
+
+static uint64_t take64(payload *p) {
+    uint64_t number;
+    take(p, &number, sizeof number);
+    return number;
+}
+
+/* ---- Lent memory ---- */
+
+enum { ROOM = 1 << 18, BESIDE = 64, BESIDE_FILL = 0xC3 };
+
+/* Memory with a page on each side that cannot be touched. */
+typedef struct {
+    uint8_t *start;
+} arena;
+
+static arena make_arena(void) {
+    size_t page = (size_t)sysconf(_SC_PAGESIZE);
+    uint8_t *start = mmap(NULL, ROOM + 2 * page, PROT_NONE, MAP_PRIVATE | MAP_ANONYMOUS, -1, 0);
+    if (start == MAP_FAILED || mprotect(start + page, ROOM, PROT_READ | PROT_WRITE) != 0) {
+        fail("arena");
+    }
+    return (arena){start + page};
+}
+
+typedef enum { AT_END, AT_START } placement;
+
+static uint8_t *place(arena a, size_t size, placement where) {
+    if (size + BESIDE > ROOM) {
+        fprintf(stderr, "driver: slice too long\n");
+        exit(1);
+    }
+    return where == AT_END ? a.start + ROOM - size : size == 0 ? NULL : a.start;
+}
+
+/* Bytes lent for reading. */
+static const uint8_t *lend(arena a, const uint8_t *bytes, size_t size, placement where) {
+    uint8_t *to = place(a, size, where);
+    if (size > 0) {
+        memcpy(to, bytes, size);
+    }
+    return to;
+}
+
+static uint32_t input_mark(const uint8_t *lent, const uint8_t *bytes, size_t size) {
+    return size == 0 || memcmp(lent, bytes, size) == 0 ? 0 : INPUT_CHANGED;
+}
+
+/* A buffer lent for writing, filled, with known bytes on the side that has no guard. */
+static uint8_t *lend_buffer(arena a, size_t size, uint8_t fill, placement where) {
+    uint8_t *buffer = place(a, size, where);
+    if (size > 0) {
+        memset(buffer, fill, size);
+    }
+    memset(where == AT_END ? buffer - BESIDE : a.start + size, BESIDE_FILL, BESIDE);
+    return buffer;
+}
+
+static uint32_t buffer_mark(arena a, const uint8_t *buffer, size_t size, placement where) {
+    const uint8_t *beside = where == AT_END ? buffer - BESIDE : a.start + size;
+    for (size_t i = 0; i < BESIDE; i++) {
+        if (beside[i] != BESIDE_FILL) {
+            return WROTE_OUTSIDE;
+        }
+    }
+    return 0;
+}
+
+static arena arena_one, arena_two, arena_three;
+
+/* ---- Answers ---- */
+
+/* Puts zeros between the fields, where a copy may leave anything. */
+static void settle(guvrendik_register *r) {
+    for (size_t i = 0; i < GUVRENDIK_RESOURCES; i++) {
+        uint8_t *resource = (uint8_t *)&r->resources.list[i];
+        size_t gap = offsetof(guvrendik_resource, keeper) + sizeof(uint32_t);
+        memset(resource + gap, 0, offsetof(guvrendik_resource, len) - gap);
+    }
+    for (size_t i = 0; i < GUVRENDIK_CLAIMS; i++) {
+        uint8_t *claim = (uint8_t *)&r->claims.list[i];
+        size_t gap = offsetof(guvrendik_claim, weight) + sizeof(uint32_t);
+        memset(claim + gap, 0, offsetof(guvrendik_claim, expiry) - gap);
+    }
+}
+
+static void answer_marked(uint32_t marks, const void *bytes, size_t size) {
+    answer(&marks, sizeof marks);
+    answer(bytes, size);
+}
+
+static uint32_t errno_mark(void) {
+    uint32_t mark = errno == 0 ? 0 : ERRNO_TOUCHED;
+    errno = 0;
+    return mark;
+}
+
+/* The register that the calls are about. */
+static guvrendik_register current;
+
+static void do_sound(void) {
+    guvrendik_soundness got = guvrendik_sound(current);
+    answer_marked(errno_mark(), &got, sizeof got);
+}
+
+static void do_grant(payload *p) {
+    bool keep = take32(p);
+    guvrendik_claim claim;
+    take(p, &claim, sizeof claim);
+    uint64_t now = take64(p);
+    guvrendik_granted got = guvrendik_grant(current, claim, now);
+    settle(&got.state);
+    answer_marked(errno_mark(), &got, sizeof got);
+    if (keep) {
+        current = got.state;
+    }
+}
+
+static void do_revoke(payload *p) {
+    bool keep = take32(p);
+    uint32_t revoker = take32(p), claim = take32(p);
+    guvrendik_revoked got = guvrendik_revoke(current, revoker, claim);
+    settle(&got.state);
+    answer_marked(errno_mark(), &got, sizeof got);
+    if (keep) {
+        current = got.state;
+    }
+}
+
+static void do_gate(payload *p) {
+    guvrendik_action action;
+    take(p, &action, sizeof action);
+    guvrendik_verdict got = guvrendik_gate(current, action);
+    answer_marked(errno_mark(), &got, sizeof got);
+}
+
+static void do_plan(payload *p) {
+    guvrendik_plan plan;
+    take(p, &plan, sizeof plan);
+    guvrendik_plan_verdict got = guvrendik_judge_plan(current, plan);
+    answer_marked(errno_mark(), &got, sizeof got);
+}
+
+static void do_contains(payload *p) {
+    size_t outer_len = take64(p), inner_len = take64(p);
+    const uint8_t *outer = take_bytes(p, outer_len), *inner = take_bytes(p, inner_len);
+    guvrendik_containment got[2];
+    uint32_t marks = 0;
+    for (placement where = AT_END; where <= AT_START; where++) {
+        const uint8_t *lent_outer = lend(arena_one, outer, outer_len, where);
+        const uint8_t *lent_inner = lend(arena_two, inner, inner_len, where);
+        got[where] = guvrendik_contains(lent_outer, outer_len, lent_inner, inner_len);
+        marks |= input_mark(lent_outer, outer, outer_len) | input_mark(lent_inner, inner, inner_len);
+    }
+    marks |= memcmp(&got[0], &got[1], sizeof *got) == 0 ? 0 : PLACES_DIFFER;
+    answer_marked(marks | errno_mark(), got, sizeof *got);
+}
+
+static void do_read_register(payload *p) {
+    static guvrendik_register_read got[2];
+    size_t size = p->left;
+    const uint8_t *text = take_bytes(p, size);
+    uint32_t marks = 0;
+    for (placement where = AT_END; where <= AT_START; where++) {
+        const uint8_t *lent = lend(arena_one, text, size, where);
+        got[where] = guvrendik_read_register(lent, size);
+        settle(&got[where].state);
+        marks |= input_mark(lent, text, size);
+    }
+    marks |= memcmp(&got[0], &got[1], sizeof *got) == 0 ? 0 : PLACES_DIFFER;
+    answer_marked(marks | errno_mark(), got, sizeof *got);
+}
+
+static void do_read_action(payload *p) {
+    guvrendik_action_read got[2];
+    size_t size = p->left;
+    const uint8_t *text = take_bytes(p, size);
+    uint32_t marks = 0;
+    for (placement where = AT_END; where <= AT_START; where++) {
+        const uint8_t *lent = lend(arena_one, text, size, where);
+        got[where] = guvrendik_read_action(lent, size);
+        marks |= input_mark(lent, text, size);
+    }
+    marks |= memcmp(&got[0], &got[1], sizeof *got) == 0 ? 0 : PLACES_DIFFER;
+    answer_marked(marks | errno_mark(), got, sizeof *got);
+}
+
+static void do_write_register(payload *p) {
+    static uint8_t first[ROOM];
+    size_t room = take64(p);
+    uint8_t fill = (uint8_t)take32(p);
+    guvrendik_written got[2];
+    uint32_t marks = 0;
+    for (placement where = AT_END; where <= AT_START; where++) {
+        uint8_t *buffer = lend_buffer(arena_one, room, fill, where);
+        got[where] = guvrendik_write_register(current, buffer, room);
+        marks |= buffer_mark(arena_one, buffer, room, where);
+        if (where == AT_END) {
+            memcpy(first, buffer, room);
+        } else if (room > 0 && memcmp(first, buffer, room) != 0) {
+            marks |= PLACES_DIFFER;
+        }
+    }
+    marks |= memcmp(&got[0], &got[1], sizeof *got) == 0 ? 0 : PLACES_DIFFER;
+    answer_marked(marks | errno_mark(), got, sizeof *got);
+    answer(first, room);
+}
+
+static void do_verdict_text(payload *p) {
+    static uint8_t first[ROOM];
+    size_t register_len = take64(p), action_len = take64(p), room = take64(p);
+    uint8_t fill = (uint8_t)take32(p);
+    const uint8_t *register_text = take_bytes(p, register_len), *action_text = take_bytes(p, action_len);
+    guvrendik_written got[2];
+    uint32_t marks = 0;
+    for (placement where = AT_END; where <= AT_START; where++) {
+        const uint8_t *one = lend(arena_one, register_text, register_len, where);
+        const uint8_t *two = lend(arena_two, action_text, action_len, where);
+        uint8_t *buffer = lend_buffer(arena_three, room, fill, where);
+        got[where] = guvrendik_verdict_text(one, register_len, two, action_len, buffer, room);
+        marks |= input_mark(one, register_text, register_len) | input_mark(two, action_text, action_len);
+        marks |= buffer_mark(arena_three, buffer, room, where);
+        if (where == AT_END) {
+            memcpy(first, buffer, room);
+        } else if (room > 0 && memcmp(first, buffer, room) != 0) {
+            marks |= PLACES_DIFFER;
+        }
+    }
+    marks |= memcmp(&got[0], &got[1], sizeof *got) == 0 ? 0 : PLACES_DIFFER;
+    answer_marked(marks | errno_mark(), got, sizeof *got);
+    answer(first, room);
+}
+
+/* ---- Structs passed through and back ---- */
+
+static uint32_t passed, failed;
+
+static void expect(bool held, const char *what) {
+    if (held) {
+        passed++;
+    } else {
+        failed++;
+        fprintf(stderr, "failed: %s\n", what);
+    }
+}
+
+/* Visits fields in one fixed order, each with a number of its own: writes the numbers, or counts the fields that differ. */
+typedef struct {
+    bool writes;
+    uint64_t next;
+    unsigned wrong;
+} visitor;
+
+static void visit32(visitor *v, uint32_t *field) {
+    uint32_t number = (uint32_t)++v->next * UINT32_C(0x9E3779B1); /* odd: no two are the same */
+    if (v->writes) {
+        *field = number;
+    } else if (*field != number) {
+        v->wrong++;
+    }
+}
+
+static void visit64(visitor *v, uint64_t *field) {
+    uint64_t number = ++v->next * UINT64_C(0x9E3779B97F4A7C15);
+    if (v->writes) {
+        *field = number;
+    } else if (*field != number) {
+        v->wrong++;
+    }
+}
+
+static void visit_size(visitor *v, size_t *field) {
+    uint64_t number = *field;
+    visit64(v, &number);
+    *field = (size_t)number;
+}
+
+static void visit_register(visitor *v, guvrendik_register *r) {
+    for (size_t i = 0; i < GUVRENDIK_ACTORS; i++) {
+        guvrendik_actor *actor = &r->actors.list[i];
+        visit32(v, &actor->id);
+        visit32(v, &actor->kind);
+        visit32(v, &actor->owner);
+    }
+    visit_size(v, &r->actors.count);
+    for (size_t i = 0; i < GUVRENDIK_RESOURCES; i++) {
+        guvrendik_resource *resource = &r->resources.list[i];
+        visit32(v, &resource->id);
+        visit32(v, &resource->is_public);
+        visit32(v, &resource->keeper);
+        visit_size(v, &resource->len);
+        for (size_t j = 0; j < GUVRENDIK_PATH; j++) {
+            uint8_t byte = (uint8_t)(++v->next % 251); /* a prime: no pattern of the sizes */
+            if (v->writes) {
+                resource->path[j] = byte;
+            } else if (resource->path[j] != byte) {
+                v->wrong++;
+            }
+        }
+    }
+    visit_size(v, &r->resources.count);
+    for (size_t i = 0; i < GUVRENDIK_CLAIMS; i++) {
+        guvrendik_claim *claim = &r->claims.list[i];
+        visit32(v, &claim->id);
+        visit32(v, &claim->parent);
+        visit32(v, &claim->grantor);
+        visit32(v, &claim->holder);
+        visit32(v, &claim->resource);
+        visit32(v, &claim->rights);
+        visit32(v, &claim->weight);
+        visit64(v, &claim->expiry);
+    }
+    visit_size(v, &r->claims.count);
+}
+
+/* A register with a number of its own in every field is not sound, and comes back from a refused change as it went. */
+static void pass_registers(void) {
+    for (uint64_t first = 0; first < 4; first++) {
+        visitor writing = {true, first << 20, 0};
+        guvrendik_register r;
+        visit_register(&writing, &r);
+        guvrendik_claim claim = {1, 0, 1, 1, 1, 1, 1, 0};
+        guvrendik_granted granted = guvrendik_grant(r, claim, 0);
+        visitor reading = {false, first << 20, 0};
+        visit_register(&reading, &granted.state);
+        expect(reading.wrong == 0 && granted.accepted == 0 && granted.refusal == GUVRENDIK_UNSOUND,
+               "a register with distinct numbers through a refused grant");
+        guvrendik_revoked revoked = guvrendik_revoke(r, 1, 1);
+        reading = (visitor){false, first << 20, 0};
+        visit_register(&reading, &revoked.state);
+        expect(reading.wrong == 0 && revoked.accepted == 0 && revoked.refusal == GUVRENDIK_UNSOUND && revoked.removed == 0,
+               "a register with distinct numbers through a refused revocation");
+    }
+}
+
+/* The value on the next line of a text, and its length: an own reading, by position alone. */
+static const char *next_value(const char **at, size_t *length) {
+    const char *value = strchr(*at, '=');
+    const char *end = value == NULL ? NULL : strchr(value, '\n');
+    if (end == NULL) {
+        fprintf(stderr, "driver: the text to pass through ended early\n");
+        exit(1);
+    }
+    *at = end + 1;
+    *length = (size_t)(end - value - 1);
+    return value + 1;
+}
+
+static uint64_t next_number(const char **at) {
+    size_t length;
+    return strtoull(next_value(at, &length), NULL, 10);
+}
+
+/* How many fields of the register are not what the text says. */
+static unsigned register_wrong(const guvrendik_register *r, const char *text) {
+    unsigned wrong = next_number(&text) != 1;
+    size_t length;
+    wrong += r->actors.count != next_number(&text);
+    for (size_t i = 0; i < r->actors.count; i++) {
+        const guvrendik_actor *actor = &r->actors.list[i];
+        wrong += actor->id != next_number(&text);
+        wrong += actor->kind != (*next_value(&text, &length) == 'h' ? GUVRENDIK_HUMAN : GUVRENDIK_MACHINE);
+        wrong += actor->owner != next_number(&text);
+    }
+    wrong += r->resources.count != next_number(&text);
+    for (size_t i = 0; i < r->resources.count; i++) {
+        const guvrendik_resource *resource = &r->resources.list[i];
+        wrong += resource->id != next_number(&text);
+        wrong += resource->is_public != next_number(&text);
+        wrong += resource->keeper != next_number(&text);
+        const char *path = next_value(&text, &length);
+        wrong += resource->len != length || memcmp(resource->path, path, length) != 0;
+    }
+    wrong += r->claims.count != next_number(&text);
+    for (size_t i = 0; i < r->claims.count; i++) {
+        const guvrendik_claim *claim = &r->claims.list[i];
+        wrong += claim->id != next_number(&text);
+        wrong += claim->parent != next_number(&text);
+        wrong += claim->grantor != next_number(&text);
+        wrong += claim->holder != next_number(&text);
+        wrong += claim->resource != next_number(&text);
+        wrong += claim->rights != next_number(&text);
+        wrong += claim->weight != next_number(&text);
+        wrong += claim->expiry != next_number(&text);
+    }
+    return wrong;
+}
+
+static unsigned action_wrong(const guvrendik_action *a, const char *text) {
+    unsigned wrong = a->now != next_number(&text);
+    wrong += a->actor != next_number(&text);
+    wrong += a->flags != next_number(&text);
+    wrong += a->used != next_number(&text);
+    for (size_t i = 0; i < a->used; i++) {
+        wrong += a->uses[i].resource != next_number(&text);
+        wrong += a->uses[i].right != next_number(&text);
+    }
+    wrong += a->governed != next_number(&text);
+    for (size_t i = 0; i < a->governed; i++) {
+        wrong += a->governs[i] != next_number(&text);
+    }
+    return wrong;
+}
+
+/* A full register's text and a full action's, each with a NUL after it. */
+static void pass_texts(const char *register_text, const char *action_text) {
+    static uint8_t written[GUVRENDIK_REGISTER_TEXT];
+    size_t register_len = strlen(register_text), action_len = strlen(action_text);
+    guvrendik_register_read read = guvrendik_read_register((const uint8_t *)register_text, register_len);
+    expect(read.accepted == 1 && read.refusal == 0 && read.line == 0, "a full register is read");
+    expect(register_wrong(&read.state, register_text) == 0, "a read register has the text's numbers");
+    guvrendik_written wrote = guvrendik_write_register(read.state, written, sizeof written);
+    expect(wrote.accepted == 1 && wrote.length == register_len && memcmp(written, register_text, register_len) == 0,
+           "a read register is written as it was");
+    guvrendik_action_read action = guvrendik_read_action((const uint8_t *)action_text, action_len);
+    expect(action.accepted == 1 && action.refusal == 0 && action.line == 0, "a full action is read");
+    expect(action_wrong(&action.action, action_text) == 0, "a read action has the text's numbers");
+}
+
+static guvrendik_register small_register(void) {
+    guvrendik_register r;
+    memset(&r, 0, sizeof r);
+    r.actors.list[0] = (guvrendik_actor){1, GUVRENDIK_HUMAN, 0};
+    r.actors.count = 1;
+    r.resources.list[0].id = 10;
+    r.resources.list[0].is_public = 1;
+    r.resources.list[0].keeper = 1;
+    r.resources.count = 1;
+    return r;
+}
+
+/* A permitted action with every place filled. */
+static guvrendik_action full_action(void) {
+    guvrendik_action a = {.actor = 1, .now = 5, .used = GUVRENDIK_USES, .governed = GUVRENDIK_GOVERNS};
+    for (size_t i = 0; i < GUVRENDIK_USES; i++) {
+        a.uses[i] = (guvrendik_usage){10, GUVRENDIK_READ};
+    }
+    for (size_t i = 0; i < GUVRENDIK_GOVERNS; i++) {
+        a.governs[i] = 60000 + (uint32_t)i;
+    }
+    return a;
+}
+
+enum { ACTION_FIELDS = 5 + 2 * GUVRENDIK_USES + GUVRENDIK_GOVERNS };
+
+/* Puts a number out of range into the field with this number. */
+static void spoil(guvrendik_action *a, size_t field) {
+    switch (field) {
+    case 0: a->actor = 65536 + 1; return;
+    case 1: a->flags = 1024; return;
+    case 2: a->now = UINT64_C(1) << 32; return;
+    case 3: a->used = GUVRENDIK_USES + 1; return;
+    case 4: a->governed = GUVRENDIK_GOVERNS + 1; return;
+    }
+    field -= 5;
+    if (field < GUVRENDIK_USES) {
+        a->uses[field].resource = 65536 + 10;
+    } else if (field < 2 * GUVRENDIK_USES) {
+        a->uses[field - GUVRENDIK_USES].right = GUVRENDIK_RIGHTS;
+    } else {
+        a->governs[field - 2 * GUVRENDIK_USES] = 65536;
+    }
+}
+
+/* No call gives an action or a plan back, so each field is shown to arrive by what it alone changes. */
+static void pass_actions(void) {
+    guvrendik_register r = small_register();
+    guvrendik_verdict permitted = guvrendik_gate(r, full_action());
+    expect(permitted.decision == GUVRENDIK_PERMITTED && permitted.count == 0, "a full action is permitted");
+    for (size_t field = 0; field < ACTION_FIELDS; field++) {
+        guvrendik_action a = full_action();
+        spoil(&a, field);
+        guvrendik_verdict stopped = guvrendik_gate(r, a);
+        expect(stopped.decision == GUVRENDIK_STOPPED && stopped.refusal == GUVRENDIK_RANGE, "each field of an action is tested");
+    }
+    for (size_t i = 0; i < GUVRENDIK_USES; i++) {
+        guvrendik_action a = full_action();
+        a.uses[i].right = GUVRENDIK_WRITE;
+        guvrendik_verdict got = guvrendik_gate(r, a);
+        expect(got.decision == GUVRENDIK_REFUSED && got.count == 1 && got.violations[0].kind == GUVRENDIK_NOT_COVERED &&
+                   got.violations[0].value == i && got.violations[1].kind == 0,
+               "a use is named by its position");
+    }
+    for (size_t i = 0; i < GUVRENDIK_FLAGS; i++) {
+        guvrendik_action a = full_action();
+        a.flags = GUVRENDIK_WORTH(i);
+        guvrendik_verdict got = guvrendik_gate(r, a);
+        expect(got.decision == GUVRENDIK_REFUSED && got.count == 1 && got.violations[0].kind == GUVRENDIK_FLAG &&
+                   got.violations[0].value == i,
+               "a flag is named");
+    }
+    guvrendik_action ignored = full_action();
+    ignored.used = ignored.governed = 0;
+    for (size_t field = 5; field < ACTION_FIELDS; field++) {
+        spoil(&ignored, field);
+    }
+    expect(guvrendik_gate(r, ignored).decision == GUVRENDIK_PERMITTED, "entries past an action's counts are ignored");
+}
+
+static void pass_plans(void) {
+    guvrendik_register r = small_register();
+    guvrendik_plan full = {.count = GUVRENDIK_ACTIONS};
+    for (size_t i = 0; i < GUVRENDIK_ACTIONS; i++) {
+        full.actions[i] = full_action();
+    }
+    guvrendik_plan_verdict permitted = guvrendik_judge_plan(r, full);
+    expect(permitted.accepted == 1 && permitted.count == GUVRENDIK_ACTIONS, "a full plan is judged");
+    for (size_t i = 0; i < GUVRENDIK_ACTIONS; i++) {
+        expect(permitted.list[i].decision == GUVRENDIK_PERMITTED && permitted.list[i].violations == 0,
+               "each action of a full plan is permitted");
+        for (size_t field = 0; field < ACTION_FIELDS; field++) {
+            guvrendik_plan p = full;
+            spoil(&p.actions[i], field);
+            guvrendik_plan_verdict stopped = guvrendik_judge_plan(r, p);
+            expect(stopped.accepted == 0 && stopped.refusal == GUVRENDIK_RANGE && stopped.position == i && stopped.count == 0,
+                   "each field of each action of a plan is tested");
+        }
+        guvrendik_plan p = full;
+        for (size_t use = 0; use <= i; use++) {
+            p.actions[i].uses[use].right = GUVRENDIK_WRITE;
+        }
+        guvrendik_plan_verdict got = guvrendik_judge_plan(r, p);
+        expect(got.accepted == 1 && got.list[i].decision == GUVRENDIK_REFUSED && got.list[i].violations == i + 1,
+               "an action of a plan is judged at its place");
+    }
+}
+
+static void pass_nulls(void) {
+    guvrendik_register_read r = guvrendik_read_register(NULL, 0);
+    expect(r.accepted == 0 && r.refusal == GUVRENDIK_FORM && r.line == 1, "no register text at all");
+    guvrendik_action_read a = guvrendik_read_action(NULL, 0);
+    expect(a.accepted == 0 && a.refusal == GUVRENDIK_FORM && a.line == 1, "no action text at all");
+    guvrendik_written w = guvrendik_write_register(small_register(), NULL, 0);
+    expect(w.accepted == 0 && w.refusal == GUVRENDIK_BUFFER && w.length == 0, "no buffer for a register");
+    guvrendik_written v = guvrendik_verdict_text(NULL, 0, NULL, 0, NULL, 0);
+    expect(v.accepted == 0 && v.refusal == GUVRENDIK_BUFFER && v.length == 0, "no buffer for a verdict");
+    expect(guvrendik_contains(NULL, 0, NULL, 0).contained == 1, "the empty path in itself");
+}
+
+static char *text_of(payload *p, size_t length) {
+    char *text = malloc(length + 1);
+    if (text == NULL) {
+        fail("text");
+    }
+    take(p, text, length);
+    text[length] = 0;
+    return text;
+}
+
+static void answer_counts(void) {
+    uint32_t counts[2] = {passed, failed};
+    answer_marked(0, counts, sizeof counts);
+}
+
+static void do_boundary(payload *p) {
+    size_t register_len = take64(p), action_len = take64(p);
+    char *register_text = text_of(p, register_len), *action_text = text_of(p, action_len);
+    passed = failed = 0;
+    pass_registers();
+    pass_texts(register_text, action_text);
+    pass_actions();
+    pass_plans();
+    pass_nulls();
+    free(register_text);
+    free(action_text);
+    answer_counts();
+    errno = 0;
+}
+
+/* ---- Threads ---- */
+
+enum { THREAD_COUNT = 8, ACTION_TEXT = 4096 };
+
+/* What all ten calls are asked about. */
+typedef struct {
+    guvrendik_register r;
+    guvrendik_action a;
+    guvrendik_plan p;
+    guvrendik_claim c;
+    uint64_t now;
+    uint32_t revoker, claim;
+    char action_text[ACTION_TEXT];
+    size_t action_len;
+} input;
+
+typedef struct {
+    guvrendik_soundness sound;
+    guvrendik_containment contained;
+    guvrendik_granted granted;
+    guvrendik_revoked revoked;
+    guvrendik_verdict verdict;
+    guvrendik_plan_verdict judged;
+    guvrendik_written written;
+    guvrendik_register_read read;
+    guvrendik_action_read action;
+    guvrendik_written printed;
+    uint8_t text[GUVRENDIK_REGISTER_TEXT];
+    uint8_t lines[GUVRENDIK_VERDICT_TEXT];
+} answers;
+
+static void take_input(payload *p, input *in) {
+    take(p, &in->r, sizeof in->r);
+    take(p, &in->a, sizeof in->a);
+    take(p, &in->p, sizeof in->p);
+    take(p, &in->c, sizeof in->c);
+    in->now = take64(p);
+    in->revoker = take32(p);
+    in->claim = take32(p);
+    in->action_len = take64(p);
+    if (in->action_len > ACTION_TEXT) {
+        fprintf(stderr, "driver: action text too long\n");
+        exit(1);
+    }
+    take(p, in->action_text, in->action_len);
+}
+
+enum { CALLS = 10 };
+
+/* Where each call leaves its answer: a struct, and a text where it writes one. */
+static const struct {
+    size_t at, size, text_at, text_size;
+} parts[CALLS] = {
+#define PART(field) offsetof(answers, field), sizeof(((answers *)0)->field)
+    {PART(sound), 0, 0},        {PART(contained), 0, 0},
+    {PART(granted), 0, 0},      {PART(revoked), 0, 0},
+    {PART(verdict), 0, 0},      {PART(judged), 0, 0},
+    {PART(written), PART(text)}, {PART(read), 0, 0},
+    {PART(action), 0, 0},       {PART(printed), PART(lines)},
+#undef PART
+};
+
+/* Makes one call. The register's text is the one that `known` has. */
+static void make_call(size_t call, const input *in, const answers *known, answers *out) {
+    const guvrendik_resource *one = &in->r.resources.list[0], *two = &in->r.resources.list[1];
+    const uint8_t *action_text = (const uint8_t *)in->action_text;
+    memset((uint8_t *)out + parts[call].text_at, 0, parts[call].text_size);
+    switch (call) {
+    case 0: out->sound = guvrendik_sound(in->r); break;
+    case 1: out->contained = guvrendik_contains(one->path, one->len, two->path, two->len); break;
+    case 2:
+        out->granted = guvrendik_grant(in->r, in->c, in->now);
+        settle(&out->granted.state);
+        break;
+    case 3:
+        out->revoked = guvrendik_revoke(in->r, in->revoker, in->claim);
+        settle(&out->revoked.state);
+        break;
+    case 4: out->verdict = guvrendik_gate(in->r, in->a); break;
+    case 5: out->judged = guvrendik_judge_plan(in->r, in->p); break;
+    case 6: out->written = guvrendik_write_register(in->r, out->text, sizeof out->text); break;
+    case 7:
+        out->read = guvrendik_read_register(known->text, known->written.length);
+        settle(&out->read.state);
+        break;
+    case 8: out->action = guvrendik_read_action(action_text, in->action_len); break;
+    case 9:
+        out->printed = guvrendik_verdict_text(known->text, known->written.length, action_text, in->action_len, out->lines,
+                                              sizeof out->lines);
+        break;
+    }
+}
+
+static bool same_answer(size_t call, const answers *one, const answers *two) {
+    const uint8_t *first = (const uint8_t *)one, *second = (const uint8_t *)two;
+    return memcmp(first + parts[call].at, second + parts[call].at, parts[call].size) == 0 &&
+           memcmp(first + parts[call].text_at, second + parts[call].text_at, parts[call].text_size) == 0;
+}
+
+static const input *thread_inputs;
+static const answers *thread_expected;
+static uint32_t thread_input_count, thread_rounds;
+static pthread_barrier_t thread_barrier;
+
+typedef struct {
+    pthread_t thread;
+    uint32_t number, passed, failed;
+} worker;
+
+/* Call by call, all threads at once: in even rounds all begin at the same input, in odd ones each at another. */
+static void *work(void *given) {
+    worker *w = given;
+    answers *got = calloc(1, sizeof *got);
+    if (got == NULL) {
+        fail("answers");
+    }
+    for (size_t call = 0; call < CALLS; call++) {
+        for (uint32_t round = 0; round < thread_rounds; round++) {
+            pthread_barrier_wait(&thread_barrier);
+            for (uint32_t i = 0; i < thread_input_count; i++) {
+                uint32_t at = (i + (round % 2 == 0 ? 0 : w->number)) % thread_input_count;
+                make_call(call, &thread_inputs[at], &thread_expected[at], got);
+                if (same_answer(call, got, &thread_expected[at])) {
+                    w->passed++;
+                } else {
+                    w->failed++;
+                }
+            }
+        }
+    }
+    free(got);
+    return NULL;
+}
+
+static void do_threads(payload *p) {
+    thread_rounds = take32(p);
+    thread_input_count = take32(p);
+    input *inputs = malloc(thread_input_count * sizeof *inputs);
+    answers *expected = calloc(thread_input_count, sizeof *expected);
+    if (inputs == NULL || expected == NULL) {
+        fail("inputs");
+    }
+    for (uint32_t i = 0; i < thread_input_count; i++) {
+        take_input(p, &inputs[i]);
+        for (size_t call = 0; call < CALLS; call++) {
+            make_call(call, &inputs[i], &expected[i], &expected[i]);
+        }
+    }
+    thread_inputs = inputs;
+    thread_expected = expected;
+    passed = failed = 0;
+    worker workers[THREAD_COUNT] = {0};
+    pthread_barrier_init(&thread_barrier, NULL, THREAD_COUNT);
+    for (uint32_t i = 0; i < THREAD_COUNT; i++) {
+        workers[i].number = i;
+        if (pthread_create(&workers[i].thread, NULL, work, &workers[i]) != 0) {
+            fail("thread");
+        }
+    }
+    for (uint32_t i = 0; i < THREAD_COUNT; i++) {
+        pthread_join(workers[i].thread, NULL);
+        passed += workers[i].passed;
+        failed += workers[i].failed;
+    }
+    pthread_barrier_destroy(&thread_barrier);
+    free(inputs);
+    free(expected);
+    answer_counts();
+    errno = 0;
+}
+
+/* ---- Stack ---- */
+
+static input stack_input;
+static answers stack_answers;
+
+static void no_call(void) {}
+static void stack_sound(void) { stack_answers.sound = guvrendik_sound(stack_input.r); }
+static void stack_grant(void) { stack_answers.granted = guvrendik_grant(stack_input.r, stack_input.c, stack_input.now); }
+static void stack_revoke(void) {
+    stack_answers.revoked = guvrendik_revoke(stack_input.r, stack_input.revoker, stack_input.claim);
+}
+static void stack_gate(void) { stack_answers.verdict = guvrendik_gate(stack_input.r, stack_input.a); }
+static void stack_judge_plan(void) { stack_answers.judged = guvrendik_judge_plan(stack_input.r, stack_input.p); }
+static void stack_contains(void) {
+    const guvrendik_resource *one = &stack_input.r.resources.list[0], *two = &stack_input.r.resources.list[1];
+    stack_answers.contained = guvrendik_contains(one->path, one->len, two->path, two->len);
+}
+static void stack_write_register(void) {
+    stack_answers.written = guvrendik_write_register(stack_input.r, stack_answers.text, sizeof stack_answers.text);
+}
+static void stack_read_register(void) {
+    stack_answers.read = guvrendik_read_register(stack_answers.text, stack_answers.written.length);
+}
+static void stack_read_action(void) {
+    stack_answers.action = guvrendik_read_action((const uint8_t *)stack_input.action_text, stack_input.action_len);
+}
+static void stack_verdict_text(void) {
+    stack_answers.printed = guvrendik_verdict_text(stack_answers.text, stack_answers.written.length,
+                                                   (const uint8_t *)stack_input.action_text, stack_input.action_len,
+                                                   stack_answers.lines, sizeof stack_answers.lines);
+}
+
+/* How far below the top of a fresh stack a function wrote. It runs in a context of its own and not in a thread, whose start and
+ * end take more stack than some calls and would hide it. */
+static uint64_t stack_of(void (*body)(void)) {
+    enum { STACK_SIZE = 4 << 20, PAINT = 0xA5 };
+    static uint8_t stack[STACK_SIZE] __attribute__((aligned(4096)));
+    static ucontext_t here, there;
+    memset(stack, PAINT, STACK_SIZE);
+    if (getcontext(&there) != 0) {
+        fail("context");
+    }
+    there.uc_stack.ss_sp = stack;
+    there.uc_stack.ss_size = STACK_SIZE;
+    there.uc_link = &here;
+    makecontext(&there, body, 0);
+    if (swapcontext(&here, &there) != 0) {
+        fail("context");
+    }
+    size_t untouched = 0;
+    while (untouched < STACK_SIZE && stack[untouched] == PAINT) {
+        untouched++;
+    }
+    return STACK_SIZE - untouched;
+}
+
+/* The stack of each call, in the order of src/compare.rs. The register is written before it is read. */
+static void do_stack(payload *p) {
+    static void (*const bodies[CALLS])(void) = {
+        stack_sound,    stack_grant,          stack_revoke,        stack_gate,        stack_judge_plan,
+        stack_contains, stack_write_register, stack_read_register, stack_read_action, stack_verdict_text,
+    };
+    take_input(p, &stack_input);
+    uint64_t idle = stack_of(no_call), used[CALLS];
+    for (size_t i = 0; i < CALLS; i++) {
+        used[i] = stack_of(bodies[i]) - idle;
+    }
+    answer_marked(0, used, sizeof used);
+    errno = 0;
+}
+
+int main(void) {
+    /* Larger pipes save waits; smaller ones do as well. */
+    fcntl(STDIN_FILENO, F_SETPIPE_SZ, CHUNK);
+    fcntl(STDOUT_FILENO, F_SETPIPE_SZ, CHUNK);
+    arena_one = make_arena();
+    arena_two = make_arena();
+    arena_three = make_arena();
+    uint8_t *bytes = NULL;
+    size_t room = 0;
+    uint32_t header[2];
+    errno = 0;
+    while (receive(header, sizeof header)) {
+        if (header[1] > room) {
+            room = header[1];
+            bytes = realloc(bytes, room);
+            if (bytes == NULL) {
+                fail("request");
+            }
+        }
+        if (!receive(bytes, header[1])) {
+            break;
+        }
+        errno = 0;
+        payload p = {bytes, header[1]};
+        switch (header[0]) {
+        case LOAD: take(&p, &current, sizeof current); break;
+        case SOUND: do_sound(); break;
+        case GRANT: do_grant(&p); break;
+        case REVOKE: do_revoke(&p); break;
+        case GATE: do_gate(&p); break;
+        case PLAN: do_plan(&p); break;
+        case CONTAINS: do_contains(&p); break;
+        case READ_REGISTER: do_read_register(&p); break;
+        case WRITE_REGISTER: do_write_register(&p); break;
+        case READ_ACTION: do_read_action(&p); break;
+        case VERDICT_TEXT: do_verdict_text(&p); break;
+        case BOUNDARY: do_boundary(&p); break;
+        case THREADS: do_threads(&p); break;
+        case STACK: do_stack(&p); break;
+        default: fprintf(stderr, "driver: unknown request %u\n", (unsigned)header[0]); return 1;
+        }
+    }
+    flush_answers();
+    free(bytes);
+    return 0;
+}

@@ -1,0 +1,412 @@
+//! One call with its arguments: what it asks of the driver, and what the model answers.
+
+use guvrendik_model::model::paths::contains;
+use guvrendik_model::model::{Model, Refusal};
+use guvrendik_model::types::*;
+use guvrendik_model::wire::Wire;
+use std::mem::size_of;
+
+/// A call. Those about a register are made on the session's register as it stands.
+#[derive(Clone, Debug, PartialEq, Eq)]
+pub enum Call {
+    Sound,
+    /// With `keep`, the answer's register is the session's from then on.
+    Grant {
+        claim: Claim,
+        now: u64,
+        keep: bool,
+    },
+    Revoke {
+        revoker: u32,
+        claim: u32,
+        keep: bool,
+    },
+    Gate(Box<Action>),
+    Plan(Box<Plan>),
+    Contains {
+        outer: Vec<u8>,
+        inner: Vec<u8>,
+    },
+    ReadRegister(Vec<u8>),
+    /// Into a buffer of `room` bytes, each `fill`.
+    WriteRegister {
+        room: usize,
+        fill: u8,
+    },
+    ReadAction(Vec<u8>),
+    VerdictText {
+        register: Vec<u8>,
+        action: Vec<u8>,
+        room: usize,
+        fill: u8,
+    },
+}
+
+/// Calls in order, on a register where one is given.
+#[derive(Clone, Debug, PartialEq, Eq)]
+pub struct Session {
+    pub register: Option<Box<Register>>,
+    pub calls: Vec<Call>,
+}
+
+pub const CALLS: usize = 10;
+
+/// By `Call::number`: the name, and the outcomes that a run must meet.
+pub const NAMES: [(&str, &[Outcome]); CALLS] = [
+    ("sound", &[YES, NO]),
+    ("grant", &[YES, 1, 2, 3, 4, 5, 6, 7, 8, 9, 10, 11, 12, 13, 14, 15, 16]),
+    ("revoke", &[YES, 1, 3, 17, 18]),
+    ("gate", &[YES, 1, 2, 3, violation(1), violation(2), violation(3), violation(4), violation(5)]),
+    ("judge_plan", &[1, 2, 3, judgement(0), judgement(PERMITTED), judgement(REFUSED), judgement(CANCELLED)]),
+    ("contains", &[YES, NO]),
+    ("read_register", &[YES, 1, 19, 20]),
+    ("write_register", &[YES, 1, 21]),
+    ("read_action", &[YES, 19, 20]),
+    ("verdict_text", &[YES, 21]),
+];
+
+/// What an answer comes to: a refusal's number, or one of those below.
+pub type Outcome = u32;
+
+pub const YES: Outcome = 0;
+pub const NO: Outcome = 99;
+
+/// The first violation of a verdict is of this kind.
+pub const fn violation(kind: u32) -> Outcome {
+    100 + kind
+}
+
+/// The last judgement of a plan has this decision, 0 for a plan without any.
+pub const fn judgement(decision: u32) -> Outcome {
+    200 + decision
+}
+
+pub fn outcome_name(outcome: Outcome) -> String {
+    match outcome {
+        YES => "yes".to_owned(),
+        NO => "no".to_owned(),
+        1..=98 => format!("refusal {outcome}"),
+        100..=199 => format!("violation {}", outcome - 100),
+        _ => format!("judgement {}", outcome - 200),
+    }
+}
+
+/// The requests of the driver, by the numbers of `driver.c`.
+#[derive(Clone, Copy)]
+#[repr(u32)]
+pub enum Request {
+    Load = 1,
+    Sound,
+    Grant,
+    Revoke,
+    Gate,
+    Plan,
+    Contains,
+    ReadRegister,
+    WriteRegister,
+    ReadAction,
+    VerdictText,
+    Boundary,
+    Threads,
+    Stack,
+}
+
+/// Appends a request whose bytes the closure puts.
+pub fn put_request(out: &mut Vec<u8>, request: Request, put: impl FnOnce(&mut Vec<u8>)) {
+    (request as u32).put(out);
+    0u32.put(out);
+    let start = out.len();
+    put(out);
+    let size = (out.len() - start) as u32;
+    out[start - 4..start].copy_from_slice(&size.to_le_bytes());
+}
+
+impl Session {
+    pub fn alone(call: Call) -> Self {
+        Session { register: None, calls: vec![call] }
+    }
+
+    pub fn request(&self, out: &mut Vec<u8>) {
+        if let Some(register) = &self.register {
+            put_request(out, Request::Load, |out| register.put(out));
+        }
+        self.calls.iter().for_each(|call| call.request(out));
+    }
+
+    /// The register that the first call is made on.
+    pub fn start(&self) -> Register {
+        self.register.as_deref().cloned().unwrap_or(Register::EMPTY)
+    }
+}
+
+/// The answer's word of marks, 0 as nothing was noticed.
+const MARKS: usize = size_of::<u32>();
+
+impl Call {
+    pub fn number(&self) -> usize {
+        match self {
+            Call::Sound => 0,
+            Call::Grant { .. } => 1,
+            Call::Revoke { .. } => 2,
+            Call::Gate(_) => 3,
+            Call::Plan(_) => 4,
+            Call::Contains { .. } => 5,
+            Call::ReadRegister(_) => 6,
+            Call::WriteRegister { .. } => 7,
+            Call::ReadAction(_) => 8,
+            Call::VerdictText { .. } => 9,
+        }
+    }
+
+    pub fn name(&self) -> &'static str {
+        NAMES[self.number()].0
+    }
+
+    pub fn request(&self, out: &mut Vec<u8>) {
+        match self {
+            Call::Sound => put_request(out, Request::Sound, |_| ()),
+            Call::Grant { claim, now, keep } => put_request(out, Request::Grant, |out| {
+                u32::from(*keep).put(out);
+                claim.put(out);
+                now.put(out);
+            }),
+            Call::Revoke { revoker, claim, keep } => put_request(out, Request::Revoke, |out| {
+                [u32::from(*keep), *revoker, *claim].put(out);
+            }),
+            Call::Gate(action) => put_request(out, Request::Gate, |out| action.put(out)),
+            Call::Plan(plan) => put_request(out, Request::Plan, |out| plan.put(out)),
+            Call::Contains { outer, inner } => put_request(out, Request::Contains, |out| {
+                [outer.len(), inner.len()].put(out);
+                out.extend_from_slice(outer);
+                out.extend_from_slice(inner);
+            }),
+            Call::ReadRegister(text) => put_request(out, Request::ReadRegister, |out| out.extend_from_slice(text)),
+            Call::WriteRegister { room, fill } => put_request(out, Request::WriteRegister, |out| {
+                room.put(out);
+                u32::from(*fill).put(out);
+            }),
+            Call::ReadAction(text) => put_request(out, Request::ReadAction, |out| out.extend_from_slice(text)),
+            Call::VerdictText { register, action, room, fill } => put_request(out, Request::VerdictText, |out| {
+                [register.len(), action.len(), *room].put(out);
+                u32::from(*fill).put(out);
+                out.extend_from_slice(register);
+                out.extend_from_slice(action);
+            }),
+        }
+    }
+
+    pub fn answer_size(&self) -> usize {
+        MARKS
+            + match self {
+                Call::Sound => size_of::<Soundness>(),
+                Call::Grant { .. } => size_of::<Granted>(),
+                Call::Revoke { .. } => size_of::<Revoked>(),
+                Call::Gate(_) => size_of::<Verdict>(),
+                Call::Plan(_) => size_of::<PlanVerdict>(),
+                Call::Contains { .. } => size_of::<Containment>(),
+                Call::ReadRegister(_) => size_of::<RegisterRead>(),
+                Call::ReadAction(_) => size_of::<ActionRead>(),
+                Call::WriteRegister { room, .. } | Call::VerdictText { room, .. } => size_of::<Written>() + room,
+            }
+    }
+
+    /// Puts the model's whole answer, as the driver is to give it, and says what it comes to. The state is what the call is made
+    /// on, and afterwards what the next one is.
+    pub fn answer(&self, model: &Model, state: &mut Register, out: &mut Vec<u8>) -> Outcome {
+        0u32.put(out);
+        match self {
+            Call::Sound => yes_or_no(model.sound(state), out),
+            Call::Contains { outer, inner } => yes_or_no(contains(outer, inner), out),
+            Call::Grant { claim, now, keep } => {
+                let count = state.claims.count;
+                let place = state.claims.list.get(count).copied();
+                let result = model.grant(state, claim, *now);
+                state.put(out);
+                put_result(result, out);
+                if let (Ok(()), false, Some(place)) = (result, keep, place) {
+                    state.claims.list[count] = place;
+                    state.claims.count = count;
+                }
+                outcome(result)
+            }
+            Call::Revoke { revoker, claim, keep } => {
+                let before = (!keep).then(|| state.claims.clone());
+                let result = model.revoke(state, *revoker, *claim);
+                state.put(out);
+                put_result(result, out);
+                result.unwrap_or(0).put(out);
+                if let Some(before) = before {
+                    state.claims = before;
+                }
+                outcome(result)
+            }
+            Call::Gate(action) => {
+                let verdict = model.gate(state, action);
+                verdict.put(out);
+                match verdict.decision {
+                    PERMITTED => YES,
+                    REFUSED => violation(verdict.violations[0].kind),
+                    _ => verdict.refusal,
+                }
+            }
+            Call::Plan(plan) => {
+                let verdict = model.judge_plan(state, plan);
+                verdict.put(out);
+                match (verdict.accepted, verdict.count) {
+                    (0, _) => verdict.refusal,
+                    (_, 0) => judgement(0),
+                    (_, count) => judgement(verdict.list[count - 1].decision),
+                }
+            }
+            Call::ReadRegister(text) => {
+                let mut read = Register::EMPTY;
+                let result = model.read_register(text, &mut read);
+                read.put(out);
+                put_result(result.map_err(|unread| unread.refusal), out);
+                result.err().map_or(0, |unread| unread.line).put(out);
+                outcome(result.map_err(|unread| unread.refusal))
+            }
+            Call::ReadAction(text) => {
+                let result = model.read_action(text);
+                result.unwrap_or(Action::ZERO).put(out);
+                put_result(result.map_err(|unread| unread.refusal), out);
+                result.err().map_or(0, |unread| unread.line).put(out);
+                outcome(result.map_err(|unread| unread.refusal))
+            }
+            Call::WriteRegister { room, fill } => {
+                put_text(*room, *fill, out, |buffer| model.write_register(state, buffer))
+            }
+            Call::VerdictText { register, action, room, fill } => {
+                put_text(*room, *fill, out, |buffer| model.verdict_text(register, action, buffer))
+            }
+        }
+    }
+
+    /// An answer's fields by name, for a reader.
+    pub fn describe(&self, mut answer: &[u8]) -> Vec<(String, String)> {
+        let from = &mut answer;
+        let marks = u32::take(from);
+        let mut fields = match self {
+            Call::Sound => fields(&Soundness::take(from)),
+            Call::Grant { .. } => fields(&Granted::take(from)),
+            Call::Revoke { .. } => fields(&Revoked::take(from)),
+            Call::Gate(_) => fields(&Verdict::take(from)),
+            Call::Plan(_) => fields(&PlanVerdict::take(from)),
+            Call::Contains { .. } => fields(&Containment::take(from)),
+            Call::ReadRegister(_) => fields(&RegisterRead::take(from)),
+            Call::ReadAction(_) => fields(&ActionRead::take(from)),
+            Call::WriteRegister { .. } | Call::VerdictText { .. } => fields(&Written::take(from)),
+        };
+        fields.insert(0, ("marks".to_owned(), marks.to_string()));
+        fields.extend(from.iter().enumerate().map(|(at, byte)| (format!("buffer[{at}]"), byte.to_string())));
+        fields
+    }
+}
+
+fn yes_or_no(answer: bool, out: &mut Vec<u8>) -> Outcome {
+    u32::from(answer).put(out);
+    if answer {
+        YES
+    } else {
+        NO
+    }
+}
+
+fn outcome<T>(result: Result<T, Refusal>) -> Outcome {
+    result.map_or_else(|refusal| refusal as Outcome, |_| YES)
+}
+
+/// `accepted` and `refusal`.
+fn put_result<T>(result: Result<T, Refusal>, out: &mut Vec<u8>) {
+    [u32::from(result.is_ok()), outcome(result)].put(out);
+}
+
+fn put_text(
+    room: usize,
+    fill: u8,
+    out: &mut Vec<u8>,
+    write: impl FnOnce(&mut [u8]) -> Result<usize, Refusal>,
+) -> Outcome {
+    let start = out.len();
+    out.resize(start + size_of::<Written>(), 0);
+    out.resize(start + size_of::<Written>() + room, fill);
+    let result = write(&mut out[start + size_of::<Written>()..]);
+    let mut written = Vec::with_capacity(size_of::<Written>());
+    Written::from(result).put(&mut written);
+    out[start..start + written.len()].copy_from_slice(&written);
+    outcome(result)
+}
+
+/// The numbers of a struct, each with the way to it, from the layout of its debug text.
+fn fields(value: &impl std::fmt::Debug) -> Vec<(String, String)> {
+    let mut fields = Vec::new();
+    // The way to the line at hand: a name, or a list's index that counts on.
+    let mut way: Vec<(String, Option<usize>)> = Vec::new();
+    for line in format!("{value:#?}").lines() {
+        let line = line.trim().trim_end_matches(',');
+        if matches!(line, "}" | "]") {
+            way.pop();
+            continue;
+        }
+        if let Some((_, Some(index))) = way.last_mut() {
+            *index += 1;
+        }
+        let (name, content) = line.split_once(": ").unwrap_or(("", line));
+        if content.ends_with(['{', '[']) {
+            way.push((name.to_owned(), content.ends_with('[').then_some(0)));
+            continue;
+        }
+        let mut path = String::new();
+        for (name, index) in &way {
+            if !name.is_empty() {
+                path.push('.');
+                path.push_str(name);
+            }
+            if let Some(index) = index {
+                path.push_str(&format!("[{}]", index - 1));
+            }
+        }
+        if !name.is_empty() {
+            path.push('.');
+            path.push_str(name);
+        }
+        fields.push((path.trim_start_matches('.').to_owned(), content.to_owned()));
+    }
+    fields
+}
+
+#[cfg(test)]
+mod tests {
+    use super::*;
+
+    #[test]
+    fn fields_are_named_by_their_way() {
+        let mut plan = Plan::EMPTY;
+        plan.actions[2].uses[31].right = 7;
+        plan.count = 9;
+        let fields = fields(&plan);
+        assert!(fields.contains(&("actions[2].uses[31].right".to_owned(), "7".to_owned())));
+        assert!(fields.contains(&("actions[15].governed".to_owned(), "0".to_owned())));
+        assert_eq!(fields.last(), Some(&("count".to_owned(), "9".to_owned())));
+    }
+
+    #[test]
+    fn a_call_that_is_not_kept_leaves_the_state() {
+        let mut register = Register::EMPTY;
+        register.actors.push(Actor { id: 1, kind: HUMAN, owner: 0 });
+        register.resources.push(Resource { id: 1, keeper: 1, ..Resource::ZERO });
+        register.claims.list[0].id = 77;
+        let claim = Claim { id: 1, parent: 0, grantor: 1, holder: 1, resource: 1, rights: 1, weight: 1, expiry: 0 };
+        let before = register.clone();
+        let mut out = Vec::new();
+        let grant = |keep| Call::Grant { claim, now: 0, keep };
+        assert_eq!(grant(false).answer(&Model::default(), &mut register, &mut out), YES);
+        assert_eq!(register, before);
+        assert_eq!(out.len(), grant(false).answer_size());
+        grant(true).answer(&Model::default(), &mut register, &mut out);
+        let granted = register.clone();
+        let revoke = Call::Revoke { revoker: 1, claim: 1, keep: false };
+        assert_eq!(revoke.answer(&Model::default(), &mut register, &mut out), YES);
+        assert_eq!(register, granted);
+    }
+}

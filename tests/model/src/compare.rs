@@ -1,0 +1,427 @@
+//! The comparison: sessions go to the driver in batches, and each whole answer is held against the model's.
+
+use crate::case::{outcome_name, put_request, Call, Outcome, Request, Session, CALLS, NAMES};
+use crate::driver::Driver;
+use crate::generate::random::Random;
+use crate::generate::{actions, changes, registers, texts};
+use crate::{saved, shrink};
+use guvrendik_model::model::Model;
+use guvrendik_model::types::*;
+use guvrendik_model::wire::Wire;
+use std::collections::BTreeMap;
+use std::io;
+use std::mem::size_of;
+use std::path::{Path, PathBuf};
+
+/// A batch is sent when its registers and answers come to this many bytes.
+const BATCH: usize = 2 << 20;
+
+/// How many differences are made smaller and saved; the rest are only counted.
+const SHOWN: usize = 5;
+
+/// Where a session's answer was not the model's.
+pub struct Difference {
+    /// The call's position in the session.
+    pub call: usize,
+    pub expected: Vec<u8>,
+    /// `None` where the driver died.
+    pub got: Option<Vec<u8>>,
+}
+
+/// A session that showed a difference.
+pub struct Finding {
+    pub session: Session,
+    pub difference: Difference,
+}
+
+#[derive(Default)]
+pub struct Tally {
+    pub passed: u64,
+    pub failed: u64,
+    /// Cases by call.
+    pub calls: [u64; CALLS],
+    /// How often each outcome of each call was met.
+    pub outcomes: BTreeMap<(usize, Outcome), u64>,
+}
+
+pub struct Comparison<'c> {
+    pub model: Model,
+    command: &'c [String],
+    driver: Driver,
+    pub tally: Tally,
+}
+
+/// The next sessions, up to a batch.
+fn next_batch(sessions: &mut impl Iterator<Item = Session>) -> Vec<Session> {
+    let mut size = 0;
+    let mut batch = Vec::new();
+    while size < BATCH {
+        let Some(session) = sessions.next() else {
+            break;
+        };
+        size += size_of::<Register>() + session.calls.iter().map(Call::answer_size).sum::<usize>();
+        batch.push(session);
+    }
+    batch
+}
+
+impl<'c> Comparison<'c> {
+    pub fn start(command: &'c [String], model: Model) -> io::Result<Self> {
+        Ok(Comparison { model, command, driver: Driver::start(command)?, tally: Tally::default() })
+    }
+
+    /// Compares the sessions until there are `most` findings, and answers these. While the driver works on one batch, the model
+    /// works on the one before.
+    pub fn run(&mut self, mut sessions: impl Iterator<Item = Session>, most: usize) -> io::Result<Vec<Finding>> {
+        let mut findings = Vec::new();
+        let mut sent = next_batch(&mut sessions);
+        self.send(&sent);
+        while !sent.is_empty() {
+            let next = next_batch(&mut sessions);
+            self.send(&next);
+            if !self.check(&sent, &mut findings)? {
+                // The next one was lost with the driver.
+                self.send(&next);
+            }
+            sent = next;
+            if findings.len() >= most {
+                self.restart()?;
+                break;
+            }
+        }
+        Ok(findings)
+    }
+
+    fn send(&self, sessions: &[Session]) {
+        let mut requests = Vec::new();
+        sessions.iter().for_each(|session| session.request(&mut requests));
+        self.driver.send(requests);
+    }
+
+    /// Reads the answers to a batch that was sent. `false` where the driver died over it; then each session was tried alone.
+    fn check(&mut self, batch: &[Session], findings: &mut Vec<Finding>) -> io::Result<bool> {
+        let before = (self.tally.passed, self.tally.failed, self.tally.calls);
+        let known = findings.len();
+        for session in batch {
+            match self.check_answers(session) {
+                Ok(None) => (),
+                Ok(Some(difference)) => findings.push(Finding { session: session.clone(), difference }),
+                Err(_) => {
+                    (self.tally.passed, self.tally.failed, self.tally.calls) = before;
+                    findings.truncate(known);
+                    self.restart()?;
+                    self.check_singly(batch, findings)?;
+                    return Ok(false);
+                }
+            }
+        }
+        Ok(true)
+    }
+
+    /// Sends each session of a batch alone, to find those that the driver dies of.
+    fn check_singly(&mut self, batch: &[Session], findings: &mut Vec<Finding>) -> io::Result<()> {
+        for session in batch {
+            if let Some(difference) = self.ask(session)? {
+                findings.push(Finding { session: session.clone(), difference });
+            }
+        }
+        Ok(())
+    }
+
+    fn restart(&mut self) -> io::Result<()> {
+        self.driver = Driver::start(self.command)?;
+        Ok(())
+    }
+
+    /// Sends one session and compares its answers. A driver that dies is a difference too.
+    pub fn ask(&mut self, session: &Session) -> io::Result<Option<Difference>> {
+        self.send(std::slice::from_ref(session));
+        match self.check_answers(session) {
+            Ok(difference) => Ok(difference),
+            Err(call) => {
+                self.tally.failed += 1;
+                self.restart()?;
+                Ok(Some(Difference { call, expected: self.expected(session, call), got: None }))
+            }
+        }
+    }
+
+    /// Reads the answers to a session that was sent, all of them, and answers the first that differs: after it the two may stand
+    /// at different registers. `Err` with the call's position where the driver died.
+    fn check_answers(&mut self, session: &Session) -> Result<Option<Difference>, usize> {
+        let mut state = session.start();
+        let mut found: Option<Difference> = None;
+        let (mut expected, mut got) = (Vec::new(), Vec::new());
+        for (position, call) in session.calls.iter().enumerate() {
+            self.driver.receive(call.answer_size(), &mut got).map_err(|_| position)?;
+            if found.is_some() {
+                continue;
+            }
+            expected.clear();
+            let outcome = call.answer(&self.model, &mut state, &mut expected);
+            self.tally.calls[call.number()] += 1;
+            *self.tally.outcomes.entry((call.number(), outcome)).or_default() += 1;
+            if expected == got {
+                self.tally.passed += 1;
+            } else {
+                self.tally.failed += 1;
+                found = Some(Difference { call: position, expected: expected.clone(), got: Some(got.clone()) });
+            }
+        }
+        Ok(found)
+    }
+
+    /// The model's answer to one call of a session.
+    fn expected(&self, session: &Session, position: usize) -> Vec<u8> {
+        let mut state = session.start();
+        let mut answer = Vec::new();
+        for call in &session.calls[..=position] {
+            answer.clear();
+            call.answer(&self.model, &mut state, &mut answer);
+        }
+        answer
+    }
+
+    /// The finding made small: the one call on the register it was made on, where that differs too, then shrunk. As it was where
+    /// the difference does not show again.
+    pub fn reduce(&mut self, finding: Finding) -> io::Result<Finding> {
+        let tally = std::mem::take(&mut self.tally);
+        let alone = self.alone(&finding.session, finding.difference.call);
+        let start = if self.ask(&alone)?.is_some() { alone } else { finding.session.clone() };
+        let mut broken = None;
+        let session = shrink::shrink(start, |smaller| match self.ask(smaller) {
+            Ok(difference) => difference.is_some(),
+            Err(error) => {
+                broken = Some(error);
+                false
+            }
+        });
+        let again = self.ask(&session)?;
+        self.tally = tally;
+        match (broken, again) {
+            (Some(error), _) => Err(error),
+            (None, Some(difference)) => Ok(Finding { session, difference }),
+            (None, None) => {
+                println!("a difference that did not show again:");
+                Ok(finding)
+            }
+        }
+    }
+
+    /// One call of a session with the register that it is made on.
+    fn alone(&self, session: &Session, position: usize) -> Session {
+        let mut state = session.start();
+        let mut answer = Vec::new();
+        for call in &session.calls[..position] {
+            answer.clear();
+            call.answer(&self.model, &mut state, &mut answer);
+        }
+        let register = session.register.as_ref().map(|_| Box::new(state));
+        Session { register, calls: vec![session.calls[position].clone()] }
+    }
+
+    /// Replays the saved sessions of a folder, in the order of their names.
+    pub fn replay(&mut self, folder: &Path) -> io::Result<()> {
+        let mut files: Vec<PathBuf> = match std::fs::read_dir(folder) {
+            Ok(entries) => entries.map(|entry| Ok(entry?.path())).collect::<io::Result<_>>()?,
+            Err(error) if error.kind() == io::ErrorKind::NotFound => Vec::new(),
+            Err(error) => return Err(error),
+        };
+        files.retain(|file| file.extension().is_some_and(|extension| extension == "case"));
+        files.sort();
+        for file in &files {
+            let failed = self.tally.failed;
+            match saved::read(&std::fs::read_to_string(file)?) {
+                Ok(session) if saved::read(&saved::write(&session)).as_ref() != Ok(&session) => {
+                    println!("{}: not read as it is written", file.display());
+                    self.tally.failed += 1;
+                }
+                Ok(session) => {
+                    if let Some(difference) = self.ask(&session)? {
+                        println!("{}: still differs", file.display());
+                        print!("{}", remarks(&session, &difference));
+                        self.tally.failed = failed + 1;
+                    }
+                }
+                Err(why) => {
+                    println!("{}: {why}", file.display());
+                    self.tally.failed += 1;
+                }
+            }
+        }
+        println!("{} saved cases replayed", files.len());
+        Ok(())
+    }
+
+    /// Shows findings, the first few made small and saved.
+    pub fn report(&mut self, findings: Vec<Finding>, folder: &Path, seed: u64) -> io::Result<()> {
+        let more = findings.len().saturating_sub(SHOWN);
+        for finding in findings.into_iter().take(SHOWN) {
+            let Finding { session, difference } = self.reduce(finding)?;
+            let text = saved::write(&session);
+            let remarks = remarks(&session, &difference);
+            let name = format!("{}-{:08x}.case", session.calls[difference.call].name(), hash(&text));
+            let file = folder.join(name);
+            std::fs::create_dir_all(folder)?;
+            std::fs::write(&file, format!("# Found with seed {seed}.\n{remarks}{text}"))?;
+            println!("difference, saved as {}", file.display());
+            print!("{remarks}{text}");
+        }
+        if more > 0 {
+            println!("and {more} sessions more with a difference");
+        }
+        Ok(())
+    }
+
+    /// Sends a request of its own kind and reads its answer, without the marks.
+    fn special(&mut self, request: Request, size: usize, put: impl FnOnce(&mut Vec<u8>)) -> io::Result<Vec<u8>> {
+        let mut bytes = Vec::new();
+        put_request(&mut bytes, request, put);
+        self.driver.send(bytes);
+        let mut answer = Vec::new();
+        self.driver.receive(size_of::<u32>() + size, &mut answer)?;
+        answer.drain(..size_of::<u32>());
+        Ok(answer)
+    }
+
+    fn counted(&mut self, name: &str, request: Request, put: impl FnOnce(&mut Vec<u8>)) -> io::Result<()> {
+        match self.special(request, 2 * size_of::<u32>(), put) {
+            Ok(counts) => {
+                let [passed, failed] = <[u32; 2]>::take(&mut &counts[..]);
+                println!("{name}: {passed} passed, {failed} failed");
+                self.tally.passed += u64::from(passed);
+                self.tally.failed += u64::from(failed);
+                Ok(())
+            }
+            Err(error) => {
+                println!("{name}: the driver died ({error})");
+                self.tally.failed += 1;
+                self.restart()
+            }
+        }
+    }
+
+    /// Structs with a number of its own in every field, passed through and back.
+    pub fn boundary(&mut self, random: &mut Random) -> io::Result<()> {
+        let register = texts::register_text(&registers::sound(random, registers::FULL, false));
+        let action = texts::action_text(&Action {
+            actor: 60_001,
+            flags: 777,
+            now: 4_000_000_001,
+            uses: std::array::from_fn(|at| Usage { resource: 61_000 + at as u32, right: at as u32 % 17 }),
+            used: USES,
+            governs: std::array::from_fn(|at| 62_000 + at as u32),
+            governed: GOVERNS,
+        });
+        self.counted("structs through the boundary", Request::Boundary, |out| {
+            [register.len(), action.len()].put(out);
+            out.extend(register);
+            out.extend(action);
+        })
+    }
+
+    /// Eight threads at once, on the same and on different inputs.
+    pub fn threads(&mut self, random: &mut Random) -> io::Result<()> {
+        const INPUTS: u32 = 10;
+        const ROUNDS: u32 = 8;
+        self.counted("eight threads", Request::Threads, |out| {
+            [ROUNDS, INPUTS].put(out);
+            for input in 0..INPUTS {
+                let shape = if input == 0 { registers::FULL } else { registers::MEDIUM };
+                put_input(random, shape, out);
+            }
+        })
+    }
+
+    /// Prints how much stack each call took.
+    pub fn stack(&mut self, random: &mut Random) -> io::Result<()> {
+        const ORDER: [&str; CALLS] = [
+            "sound",
+            "grant",
+            "revoke",
+            "gate",
+            "judge_plan",
+            "contains",
+            "write_register",
+            "read_register",
+            "read_action",
+            "verdict_text",
+        ];
+        let answer =
+            self.special(Request::Stack, CALLS * size_of::<u64>(), |out| put_input(random, registers::MEDIUM, out))?;
+        let used = <[u64; CALLS]>::take(&mut &answer[..]);
+        for (name, used) in ORDER.iter().zip(used) {
+            println!("stack of guvrendik_{name}: {used} bytes");
+        }
+        Ok(())
+    }
+}
+
+/// An input for all ten calls at once.
+fn put_input(random: &mut Random, shape: registers::Shape, out: &mut Vec<u8>) {
+    let register = registers::sound(random, shape, false);
+    let action = actions::action(random, &register);
+    let text = texts::action_text(&action);
+    register.put(out);
+    action.put(out);
+    actions::plan(random, &register).put(out);
+    if let Call::Grant { claim, now, .. } = changes::grant(random, &register, false) {
+        claim.put(out);
+        now.put(out);
+    }
+    if let Call::Revoke { revoker, claim, .. } = changes::revoke(random, &register, false) {
+        [revoker, claim].put(out);
+    }
+    text.len().put(out);
+    out.extend(text);
+}
+
+impl Tally {
+    /// Prints the cases of each call, and counts each outcome that a full run must meet.
+    pub fn summarise(&mut self) {
+        for (number, (name, demanded)) in NAMES.iter().enumerate() {
+            let met: Vec<String> = self
+                .outcomes
+                .iter()
+                .filter(|((call, _), _)| *call == number)
+                .map(|((_, outcome), count)| format!("{} {count}", outcome_name(*outcome)))
+                .collect();
+            println!("{:>7} cases of {name}: {}", self.calls[number], met.join(", "));
+            for outcome in *demanded {
+                if self.outcomes.contains_key(&(number, *outcome)) {
+                    self.passed += 1;
+                } else {
+                    println!("{name}: never met {}", outcome_name(*outcome));
+                    self.failed += 1;
+                }
+            }
+        }
+        println!("{:>7} cases", self.calls.iter().sum::<u64>());
+    }
+}
+
+/// What differs, as remarks for a saved file.
+fn remarks(session: &Session, difference: &Difference) -> String {
+    const LINES: usize = 12;
+    let call = &session.calls[difference.call];
+    let mut out = format!("# Call {} of {}, guvrendik_{}:\n", difference.call + 1, session.calls.len(), call.name());
+    let Some(got) = &difference.got else {
+        out.push_str("# the driver died.\n");
+        return out;
+    };
+    let fields = call.describe(&difference.expected).into_iter().zip(call.describe(got));
+    let differing: Vec<String> = fields
+        .filter(|((_, expected), (_, got))| expected != got)
+        .map(|((field, expected), (_, got))| format!("# {field}: the model has {expected}, the library {got}\n"))
+        .collect();
+    out.extend(differing.iter().take(LINES).cloned());
+    if differing.len() > LINES {
+        out.push_str(&format!("# and {} fields more\n", differing.len() - LINES));
+    }
+    out
+}
+
+/// FNV-1a.
+fn hash(text: &str) -> u32 {
+    text.bytes().fold(0x811C_9DC5, |hash, byte| (hash ^ u32::from(byte)).wrapping_mul(0x0100_0193))
+}

@@ -1,0 +1,128 @@
+//! The model under the names and the calling convention of `include/guvrendik.h`.
+
+use crate::model::{Model, Refusal};
+use crate::types::*;
+use std::slice;
+
+const MODEL: Model = Model { fault: None };
+
+/// # Safety
+/// As the header says: `bytes` points to `len` bytes, or `len` is 0.
+unsafe fn lent<'a>(bytes: *const u8, len: usize) -> &'a [u8] {
+    if len == 0 {
+        &[]
+    } else {
+        slice::from_raw_parts(bytes, len)
+    }
+}
+
+/// # Safety
+/// As the header says: `bytes` points to `len` bytes that nothing else uses, or `len` is 0.
+unsafe fn lent_mut<'a>(bytes: *mut u8, len: usize) -> &'a mut [u8] {
+    if len == 0 {
+        &mut []
+    } else {
+        slice::from_raw_parts_mut(bytes, len)
+    }
+}
+
+impl From<Result<usize, Refusal>> for Written {
+    fn from(result: Result<usize, Refusal>) -> Self {
+        match result {
+            Ok(length) => Written { accepted: 1, refusal: 0, length },
+            Err(refusal) => Written { accepted: 0, refusal: refusal as u32, length: 0 },
+        }
+    }
+}
+
+#[no_mangle]
+pub extern "C" fn guvrendik_sound(register: Register) -> Soundness {
+    Soundness { sound: MODEL.sound(&register).into() }
+}
+
+#[no_mangle]
+pub extern "C" fn guvrendik_grant(register: Register, claim: Claim, now: u64) -> Granted {
+    let mut answer = Granted { state: register, accepted: 1, refusal: 0 };
+    if let Err(refusal) = MODEL.grant(&mut answer.state, &claim, now) {
+        (answer.accepted, answer.refusal) = (0, refusal as u32);
+    }
+    answer
+}
+
+#[no_mangle]
+pub extern "C" fn guvrendik_revoke(register: Register, revoker: u32, claim: u32) -> Revoked {
+    let mut answer = Revoked { state: register, accepted: 1, refusal: 0, removed: 0 };
+    match MODEL.revoke(&mut answer.state, revoker, claim) {
+        Ok(removed) => answer.removed = removed,
+        Err(refusal) => (answer.accepted, answer.refusal) = (0, refusal as u32),
+    }
+    answer
+}
+
+#[no_mangle]
+pub extern "C" fn guvrendik_gate(register: Register, action: Action) -> Verdict {
+    MODEL.gate(&register, &action)
+}
+
+#[no_mangle]
+pub extern "C" fn guvrendik_judge_plan(register: Register, plan: Plan) -> PlanVerdict {
+    MODEL.judge_plan(&register, &plan)
+}
+
+/// # Safety
+/// The pointers and lengths are good, as the header says.
+#[no_mangle]
+pub unsafe extern "C" fn guvrendik_contains(
+    outer: *const u8,
+    outer_len: usize,
+    inner: *const u8,
+    inner_len: usize,
+) -> Containment {
+    let contained = crate::model::paths::contains(lent(outer, outer_len), lent(inner, inner_len));
+    Containment { contained: contained.into() }
+}
+
+/// # Safety
+/// The pointer and length are good, as the header says.
+#[no_mangle]
+pub unsafe extern "C" fn guvrendik_read_register(text: *const u8, text_len: usize) -> RegisterRead {
+    let mut answer = RegisterRead { state: Register::EMPTY, accepted: 1, refusal: 0, line: 0 };
+    if let Err(unread) = MODEL.read_register(lent(text, text_len), &mut answer.state) {
+        (answer.accepted, answer.refusal, answer.line) = (0, unread.refusal as u32, unread.line);
+    }
+    answer
+}
+
+/// # Safety
+/// The pointer and length are good, as the header says.
+#[no_mangle]
+pub unsafe extern "C" fn guvrendik_write_register(register: Register, buffer: *mut u8, buffer_len: usize) -> Written {
+    MODEL.write_register(&register, lent_mut(buffer, buffer_len)).into()
+}
+
+/// # Safety
+/// The pointer and length are good, as the header says.
+#[no_mangle]
+pub unsafe extern "C" fn guvrendik_read_action(text: *const u8, text_len: usize) -> ActionRead {
+    match MODEL.read_action(lent(text, text_len)) {
+        Ok(action) => ActionRead { action, accepted: 1, refusal: 0, line: 0 },
+        Err(unread) => {
+            ActionRead { action: Action::ZERO, accepted: 0, refusal: unread.refusal as u32, line: unread.line }
+        }
+    }
+}
+
+/// # Safety
+/// The pointers and lengths are good, as the header says.
+#[no_mangle]
+pub unsafe extern "C" fn guvrendik_verdict_text(
+    register_text: *const u8,
+    register_len: usize,
+    action_text: *const u8,
+    action_len: usize,
+    buffer: *mut u8,
+    buffer_len: usize,
+) -> Written {
+    let (register, action) = (lent(register_text, register_len), lent(action_text, action_len));
+    MODEL.verdict_text(register, action, lent_mut(buffer, buffer_len)).into()
+}

@@ -1,0 +1,178 @@
+//! Grants and revocations on a register, and sequences of them.
+
+use super::actions::moment;
+use super::random::Random;
+use super::registers::standing;
+use crate::case::Call;
+use guvrendik_model::types::*;
+
+/// A grant that mostly is acceptable but for one twist.
+pub fn grant(random: &mut Random, register: &Register, keep: bool) -> Call {
+    let claims = standing(&register.claims);
+    let actors = standing(&register.actors);
+    let resources = standing(&register.resources);
+    let mut now = moment(random, register);
+    let mut claim = Claim {
+        id: fresh_id(random, claims),
+        parent: 0,
+        grantor: 1,
+        holder: 1,
+        resource: 1,
+        rights: 1 + random.below(RIGHTS_MAX as usize) as u32,
+        weight: random.below(1_001) as u32,
+        expiry: if random.chance(50) { 0 } else { moment(random, register) },
+    };
+    let parents: Vec<usize> = (0..claims.len()).filter(|&at| claims[at].rights >> DELEGATE & 1 == 1).collect();
+    if !actors.is_empty() {
+        claim.holder = random.pick(actors).id;
+    }
+    if random.chance(75) && !parents.is_empty() {
+        let parent = match random.below(10) {
+            0..=1 => deepest(claims, &parents),
+            // The later ones are often deeper.
+            2..=5 => &claims[parents[parents.len() - 1 - random.below(parents.len().min(8))]],
+            _ => &claims[*random.pick(&parents)],
+        };
+        claim.parent = parent.id;
+        claim.grantor = parent.holder;
+        claim.resource = parent.resource;
+        claim.rights = parent.rights & (random.word() | 1 << DELEGATE);
+        if let Some(grantor) = actors.iter().find(|actor| actor.id == parent.holder) {
+            if grantor.kind == MACHINE && random.chance(80) {
+                claim.rights &= !NOT_BY_MACHINE;
+            }
+        }
+        claim.weight = if random.chance(50) { parent.weight } else { random.below(parent.weight as usize + 1) as u32 };
+        if random.chance(75) {
+            // Before the parent's end.
+            now = if parent.expiry == 0 { now } else { random.below(parent.expiry.min(1 << 20) as usize) as u64 };
+        } else if random.chance(70) {
+            now = parent.expiry;
+        }
+    } else if !resources.is_empty() {
+        let resource = random.pick(resources);
+        claim.resource = resource.id;
+        claim.grantor = resource.keeper;
+        if random.chance(60) {
+            claim.rights |= 1 << DELEGATE;
+        }
+    }
+    if random.chance(45) {
+        twist(random, register, &mut claim, &mut now);
+    }
+    Call::Grant { claim, now, keep }
+}
+
+/// The one with the longest chain above it: at its end the hops run out.
+fn deepest<'c>(claims: &'c [Claim], parents: &[usize]) -> &'c Claim {
+    let hops = |at: &usize| {
+        let mut claim = &claims[*at];
+        (0..HOPS)
+            .take_while(|_| match claims.iter().find(|above| above.id == claim.parent) {
+                Some(above) => {
+                    claim = above;
+                    true
+                }
+                None => false,
+            })
+            .count()
+    };
+    &claims[*parents.iter().max_by_key(|at| hops(at)).expect("there are parents")]
+}
+
+/// Ids are often small, so that freed ones come again.
+fn fresh_id(random: &mut Random, claims: &[Claim]) -> u32 {
+    for _ in 0..8 {
+        let id =
+            if random.chance(70) { random.between(1, claims.len() + 3) } else { random.between(1, ID_MAX as usize) }
+                as u32;
+        if claims.iter().all(|claim| claim.id != id) {
+            return id;
+        }
+    }
+    random.between(1, ID_MAX as usize) as u32
+}
+
+fn twist(random: &mut Random, register: &Register, claim: &mut Claim, now: &mut u64) {
+    let claims = standing(&register.claims);
+    let actors = standing(&register.actors);
+    let resources = standing(&register.resources);
+    let parent = claims.iter().find(|parent| parent.id == claim.parent);
+    let some_id = random.between(1, ID_MAX as usize) as u32;
+    let odd = *random.pick(&[0, 65_536, u32::MAX]);
+    match random.below(28) {
+        0 => claim.id = odd,
+        1 => claim.id = claim.id.wrapping_add(65_536),
+        2 => claim.parent = claim.parent.wrapping_add(65_536),
+        3 => claim.grantor = odd,
+        4 => claim.grantor = claim.grantor.wrapping_add(65_536),
+        5 => claim.holder = odd,
+        6 => claim.holder = claim.holder.wrapping_add(65_536),
+        7 => claim.resource = odd,
+        8 => claim.resource = claim.resource.wrapping_add(65_536),
+        9 => claim.rights = *random.pick(&[0, RIGHTS_MAX + 1, u32::MAX, (RIGHTS_MAX + 1).wrapping_add(claim.rights)]),
+        10 => claim.weight = *random.pick(&[1_001, u32::MAX, 65_536]),
+        11 => claim.expiry = *random.pick(&[1 << 32, u64::MAX, claim.expiry.wrapping_add(1 << 32)]),
+        12 => *now = *random.pick(&[1 << 32, u64::MAX, (1 << 32) + *now]),
+        13 => claim.grantor = some_id,
+        14 => claim.holder = some_id,
+        15 => claim.resource = some_id,
+        16 if !claims.is_empty() => claim.id = random.pick(claims).id,
+        17 => claim.parent = *random.pick(&[some_id, claim.id]),
+        18 if !claims.is_empty() => claim.parent = random.pick(claims).id,
+        19 if !actors.is_empty() => claim.grantor = random.pick(actors).id,
+        20 if !resources.is_empty() => claim.resource = random.pick(resources).id,
+        21 => claim.rights |= 1 << random.below(17),
+        22 => claim.rights |= NOT_BY_MACHINE,
+        23 => claim.weight = parent.map_or(0, |parent| parent.weight).wrapping_add(1),
+        24 => *now = parent.map_or(*now, |parent| parent.expiry),
+        25 => claim.holder = claim.grantor,
+        26 => {
+            // The grantor of the root, or a holder on the way to it.
+            let mut above = parent;
+            for _ in 0..random.between(1, HOPS) {
+                if let Some(next) = above {
+                    claim.holder = if next.parent == 0 { next.grantor } else { next.holder };
+                    above = claims.iter().find(|claim| claim.id == next.parent);
+                }
+            }
+        }
+        _ => {
+            // A claim that passes nothing on, as the parent.
+            if let Some(plain) = claims.iter().find(|claim| claim.rights >> DELEGATE & 1 == 0) {
+                (claim.parent, claim.grantor, claim.resource) = (plain.id, plain.holder, plain.resource);
+                *now = plain.expiry.saturating_sub(1);
+            }
+        }
+    }
+}
+
+/// A revocation, mostly by someone on the claim's chain.
+pub fn revoke(random: &mut Random, register: &Register, keep: bool) -> Call {
+    let claims = standing(&register.claims);
+    let actors = standing(&register.actors);
+    let some_id = random.between(0, ID_MAX as usize) as u32;
+    if claims.is_empty() || random.chance(6) {
+        let revoker = if actors.is_empty() || random.chance(30) { some_id } else { random.pick(actors).id };
+        let claim = *random.pick(&[0, some_id, 65_536, u32::MAX]);
+        return Call::Revoke { revoker, claim, keep };
+    }
+    // Later claims take less with them, so that sequences keep something to go on.
+    let at = claims.len()
+        - 1
+        - if random.chance(70) { random.below(claims.len().min(12)) } else { random.below(claims.len()) };
+    let claim = &claims[at];
+    let mut grantor = claim;
+    for _ in 0..random.below(HOPS) {
+        grantor = claims.iter().find(|above| above.id == grantor.parent).unwrap_or(grantor);
+    }
+    let mut call = (grantor.grantor, claim.id);
+    match random.below(12) {
+        0 => call.0 = claim.holder,
+        1 if !actors.is_empty() => call.0 = random.pick(actors).id,
+        2 => call.0 = *random.pick(&[0, some_id, call.0.wrapping_add(65_536)]),
+        3 => call.1 = call.1.wrapping_add(65_536),
+        _ => (),
+    }
+    Call::Revoke { revoker: call.0, claim: call.1, keep }
+}

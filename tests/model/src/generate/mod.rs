@@ -1,0 +1,171 @@
+//! What is compared: sessions made from a seed, in rounds that each have something of every kind, so that a run may stop early.
+
+pub mod actions;
+pub mod changes;
+pub mod defects;
+pub mod paths;
+pub mod random;
+pub mod registers;
+pub mod texts;
+
+use crate::case::{Call, Session};
+use defects::DEFECTS;
+use guvrendik_model::model::Model;
+use guvrendik_model::types::*;
+use random::Random;
+use registers::{standing, Shape, EMPTY, FULL, MEDIUM, SMALL};
+
+pub struct Generator {
+    pub random: Random,
+}
+
+impl Generator {
+    pub fn new(seed: u64) -> Self {
+        Generator { random: Random::new(seed) }
+    }
+
+    /// The sessions that are the same in every run: the rule book's texts and all that lies beside them.
+    pub fn fixed(&mut self) -> Vec<Session> {
+        let (register, action) = texts::case_r();
+        let mut sessions: Vec<Session> = paths::all_short().collect();
+        sessions.push(paths::long());
+        sessions.push(texts::neighbours(&register, Call::ReadRegister));
+        sessions.push(texts::neighbours(&action, Call::ReadAction));
+        sessions.push(texts::counts());
+        sessions.push(texts::large(&mut self.random));
+        sessions.push(Session {
+            register: Some(registers::longest()),
+            calls: [REGISTER_TEXT, 37_731, 37_730, 0].map(|room| Call::WriteRegister { room, fill: 0xEE }).to_vec(),
+        });
+        sessions.push(Session::alone(Call::VerdictText { register, action, room: 100, fill: b'#' }));
+        sessions
+    }
+
+    /// The sessions of one round.
+    pub fn round(&mut self, round: usize) -> Vec<Session> {
+        let shape = self.shape(round);
+        let litter = self.random.chance(50);
+        let register = registers::sound(&mut self.random, shape, litter);
+        vec![
+            self.texts(&register, round),
+            self.calls(register.clone()),
+            self.defect(round),
+            self.sequence(register),
+            Session { register: None, calls: (0..18).map(|_| paths::pair(&mut self.random)).collect() },
+        ]
+    }
+
+    /// Large registers take the most time, and are the rarest.
+    fn shape(&mut self, round: usize) -> Shape {
+        let random = &mut self.random;
+        match round % 40 {
+            0 => FULL,
+            13 => registers::within(random, FULL),
+            26 => EMPTY,
+            7 => Shape { actors: 20, resources: 4, claims: CLAIMS - 4 },
+            // Actors enough for the longest chain, and little else.
+            10 | 22 | 34 => Shape { actors: 22, resources: 2, claims: HOPS + 8 },
+            at if at % 4 == 1 => MEDIUM,
+            at if at % 4 == 3 => registers::within(random, MEDIUM),
+            at if at % 4 == 2 => registers::within(random, SMALL),
+            _ => SMALL,
+        }
+    }
+
+    /// Calls of every kind that leave the register as it was.
+    fn calls(&mut self, register: Box<Register>) -> Session {
+        let random = &mut self.random;
+        let mut calls = vec![Call::Sound];
+        calls.extend((0..22).map(|_| Call::Gate(actions::action(random, &register))));
+        calls.extend((0..5).map(|_| Call::Plan(actions::plan(random, &register))));
+        calls.extend((0..14).map(|_| changes::grant(random, &register, false)));
+        calls.extend((0..8).map(|_| changes::revoke(random, &register, false)));
+        let length = texts::register_text(&register).len();
+        calls.extend((0..2).map(|_| {
+            let room = texts::room(random, length, REGISTER_TEXT);
+            Call::WriteRegister { room, fill: random.word() as u8 }
+        }));
+        Session { register: Some(register), calls }
+    }
+
+    /// Every call on a register with one defect.
+    fn defect(&mut self, round: usize) -> Session {
+        let random = &mut self.random;
+        let (_, defect) = DEFECTS[round % DEFECTS.len()];
+        let register = loop {
+            let shape = match random.below(30) {
+                0 => FULL,
+                1..=9 => MEDIUM,
+                // Many actors, so that chains can be long.
+                10..=11 => Shape { actors: 24, resources: 4, claims: 60 },
+                _ => SMALL,
+            };
+            let litter = random.chance(50);
+            let mut register = registers::sound(random, shape, litter);
+            if defect(&mut register, random) {
+                break register;
+            }
+        };
+        let mut calls = vec![
+            Call::Sound,
+            Call::Gate(actions::action(random, &register)),
+            Call::Plan(actions::plan(random, &register)),
+            changes::grant(random, &register, false),
+            changes::revoke(random, &register, false),
+            Call::WriteRegister { room: random.below(REGISTER_TEXT), fill: random.word() as u8 },
+        ];
+        if register.actors.count <= ACTORS && register.resources.count <= RESOURCES && register.claims.count <= CLAIMS {
+            calls.push(Call::ReadRegister(texts::register_text(&register)));
+        }
+        Session { register: Some(register), calls }
+    }
+
+    /// Grants and revocations one after the other, each on what the last one left; clocks go back, ids come again.
+    fn sequence(&mut self, register: Box<Register>) -> Session {
+        let random = &mut self.random;
+        let model = Model::default();
+        let mut state = register.clone();
+        let mut calls = Vec::new();
+        let mut answer = Vec::new();
+        for step in 0..24 {
+            let call = match random.below(10) {
+                0 => Call::Gate(actions::action(random, &state)),
+                1 if step % 3 == 0 => Call::Sound,
+                2..=3 => changes::revoke(random, &state, true),
+                _ => changes::grant(random, &state, true),
+            };
+            answer.clear();
+            call.answer(&model, &mut state, &mut answer);
+            calls.push(call);
+        }
+        Session { register: Some(register), calls }
+    }
+
+    /// Readings and printings about the register's text.
+    fn texts(&mut self, register: &Register, round: usize) -> Session {
+        let random = &mut self.random;
+        let base = texts::register_text(register);
+        // Fewer of the long ones.
+        let (readings, printings) = if standing(&register.claims).len() > 100 { (5, 2) } else { (13, 6) };
+        let mut calls = Vec::new();
+        calls.extend((0..readings).map(|_| Call::ReadRegister(texts::some_register(random, &base))));
+        for at in 0..8 {
+            let mut action = texts::action_text(&actions::action(random, register));
+            if at % 4 != 0 {
+                texts::spoil(random, &mut action);
+            }
+            calls.push(Call::ReadAction(action));
+        }
+        for at in 0..printings {
+            let mut action = texts::action_text(&actions::action(random, register));
+            let mut text = base.clone();
+            match (round + at) % 8 {
+                0 => texts::spoil(random, &mut text),
+                1 => texts::spoil(random, &mut action),
+                _ => (),
+            }
+            calls.push(texts::verdict_text(random, text, action));
+        }
+        Session { register: None, calls }
+    }
+}

@@ -1,0 +1,100 @@
+//! The rules, each in the words of the rule book.
+
+mod gate;
+mod grant;
+mod ids;
+pub mod paths;
+mod plan;
+mod revoke;
+mod rules;
+pub mod text;
+
+#[cfg(test)]
+mod tests;
+
+pub use rules::Sound;
+
+/// The numbers that a call refuses with.
+#[derive(Clone, Copy, Debug, PartialEq, Eq)]
+#[repr(u32)]
+pub enum Refusal {
+    /// The register is not sound.
+    Unsound = 1,
+    /// A field or count of the call is out of range.
+    Range = 2,
+    /// The grantor, holder, granted resource, revoker or acting actor is not in the register.
+    Absent = 3,
+    /// The claim's id already stands.
+    Stands = 4,
+    /// 256 claims stand.
+    Full = 5,
+    /// A root granted by anyone but the keeper.
+    NotKeeper = 6,
+    /// The grantor is a machine without owner.
+    Ownerless = 7,
+    /// The grantor is a machine and right 13, 15 or 16 is asked.
+    NotByMachine = 8,
+    /// The parent does not stand.
+    NoParent = 9,
+    /// The parent is not held by the grantor, or is on another resource.
+    NotHeld = 10,
+    /// The parent is not live at the moment.
+    NotLive = 11,
+    /// The parent lacks DELEGATE.
+    NoDelegate = 12,
+    /// A right is asked that the parent lacks.
+    RightLacking = 13,
+    /// The weight is above the parent's.
+    Weight = 14,
+    /// More than 16 hops.
+    Hops = 15,
+    /// A circle.
+    Circle = 16,
+    /// The claim to revoke does not stand.
+    NoClaim = 17,
+    /// The revoker is no grantor on the claim's chain.
+    NoGrantor = 18,
+    /// The text is not of the form.
+    Form = 19,
+    /// A count line is above its limit.
+    Count = 20,
+    /// The buffer is too short for the text.
+    Buffer = 21,
+}
+
+/// A fault put into the model on purpose, to show that the comparison finds it.
+#[derive(Clone, Copy, Debug, PartialEq, Eq)]
+pub enum Fault {
+    /// A claim whose expiry equals the moment is taken as live.
+    ExpiryEqualLive,
+    /// A revocation takes the claim and its direct children only.
+    DirectChildren,
+    /// A number with a leading zero is read.
+    LeadingZero,
+    /// The hop count is that of the last covering claim.
+    OtherHops,
+    /// An action after a flagged one is judged.
+    CancelledJudged,
+}
+
+impl Fault {
+    pub const ALL: [(&'static str, Fault); 5] = [
+        ("expiry-equal-live", Fault::ExpiryEqualLive),
+        ("direct-children", Fault::DirectChildren),
+        ("leading-zero", Fault::LeadingZero),
+        ("other-hops", Fault::OtherHops),
+        ("cancelled-judged", Fault::CancelledJudged),
+    ];
+}
+
+/// The rules as calls. The default has no fault.
+#[derive(Clone, Copy, Debug, Default)]
+pub struct Model {
+    pub fault: Option<Fault>,
+}
+
+impl Model {
+    fn has(&self, fault: Fault) -> bool {
+        self.fault == Some(fault)
+    }
+}

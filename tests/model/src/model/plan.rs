@@ -1,0 +1,41 @@
+//! The gate for a plan.
+
+use super::{Fault, Model, Refusal, Sound};
+use crate::types::*;
+
+impl PlanVerdict {
+    fn stopped(refusal: Refusal, position: usize) -> Self {
+        PlanVerdict { refusal: refusal as u32, position, ..PlanVerdict::EMPTY }
+    }
+}
+
+impl Model {
+    pub fn judge_plan(&self, register: &Register, plan: &Plan) -> PlanVerdict {
+        let Some(sound) = Sound::of(register) else {
+            return PlanVerdict::stopped(Refusal::Unsound, 0);
+        };
+        let Some(actions) = plan.actions.get(..plan.count) else {
+            return PlanVerdict::stopped(Refusal::Range, 0);
+        };
+        // Every action is tested before any is judged: also one that would be cancelled can stop the plan.
+        let mut actors = [&Actor::ZERO; ACTIONS];
+        for (position, action) in actions.iter().enumerate() {
+            match self.acting(&sound, action) {
+                Ok(actor) => actors[position] = actor,
+                Err(refusal) => return PlanVerdict::stopped(refusal, position),
+            }
+        }
+        let mut verdict = PlanVerdict { accepted: 1, count: plan.count, ..PlanVerdict::EMPTY };
+        let mut cancelled = false;
+        for ((judgement, action), actor) in verdict.list.iter_mut().zip(actions).zip(actors) {
+            *judgement = if cancelled && !self.has(Fault::CancelledJudged) {
+                Judgement { decision: CANCELLED, violations: 0 }
+            } else {
+                let verdict = self.judge(&sound, action, actor);
+                Judgement { decision: verdict.decision, violations: verdict.count as u32 }
+            };
+            cancelled |= action.flags != 0;
+        }
+        verdict
+    }
+}

@@ -1,0 +1,315 @@
+//! The texts of a register, an action and a verdict.
+
+use super::{Fault, Model, Refusal};
+use crate::types::*;
+use std::ops::RangeInclusive;
+
+/// Why a text was not read: the refusal, and the line it is at, from 1; 0 where no single line is at fault.
+#[derive(Clone, Copy, Debug, PartialEq, Eq)]
+pub struct Unread {
+    pub refusal: Refusal,
+    pub line: usize,
+}
+
+/// The lines of a text not yet read.
+struct Lines<'t> {
+    rest: &'t [u8],
+    /// The number of the line read last.
+    line: usize,
+    leading_zeros: bool,
+}
+
+const ANY_ID: RangeInclusive<u64> = 0..=ID_MAX as u64;
+const REAL_ID: RangeInclusive<u64> = 1..=ID_MAX as u64;
+
+impl<'t> Lines<'t> {
+    fn fail<T>(&self, refusal: Refusal) -> Result<T, Unread> {
+        Err(Unread { refusal, line: self.line })
+    }
+
+    /// The value of the next line, which must have this key and be ended by LF.
+    fn value(&mut self, key: &str) -> Result<&'t [u8], Unread> {
+        self.line += 1;
+        let value = self.rest.strip_prefix(key.as_bytes()).and_then(|rest| rest.strip_prefix(b"="));
+        let Some((value, end)) = value.and_then(|value| Some((value, value.iter().position(|&byte| byte == b'\n')?)))
+        else {
+            return self.fail(Refusal::Form);
+        };
+        self.rest = &value[end + 1..];
+        Ok(&value[..end])
+    }
+
+    /// The decimal on the next line, of any length; one above 2^64 - 1 is given as that.
+    fn decimal(&mut self, key: &str) -> Result<u64, Unread> {
+        let digits = self.value(key)?;
+        let is_decimal = match digits {
+            [] => false,
+            [b'0', _, ..] if !self.leading_zeros => false,
+            _ => digits.iter().all(u8::is_ascii_digit),
+        };
+        if !is_decimal {
+            return self.fail(Refusal::Form);
+        }
+        Ok(digits
+            .iter()
+            .fold(0, |number: u64, digit| number.saturating_mul(10).saturating_add(u64::from(digit - b'0'))))
+    }
+
+    fn number(&mut self, key: &str, range: RangeInclusive<u64>) -> Result<u64, Unread> {
+        let number = self.decimal(key)?;
+        if range.contains(&number) {
+            Ok(number)
+        } else {
+            self.fail(Refusal::Form)
+        }
+    }
+
+    fn id(&mut self, key: &str, range: RangeInclusive<u64>) -> Result<u32, Unread> {
+        self.number(key, range).map(|number| number as u32)
+    }
+
+    fn count(&mut self, key: &str, limit: usize) -> Result<usize, Unread> {
+        let number = self.decimal(key)?;
+        if number <= limit as u64 {
+            Ok(number as usize)
+        } else {
+            self.fail(Refusal::Count)
+        }
+    }
+
+    fn end(&mut self) -> Result<(), Unread> {
+        self.line += 1;
+        if self.rest.is_empty() {
+            Ok(())
+        } else {
+            self.fail(Refusal::Form)
+        }
+    }
+
+    fn actor(&mut self) -> Result<Actor, Unread> {
+        let id = self.id("actor", REAL_ID)?;
+        let kind = match self.value("kind")? {
+            b"human" => HUMAN,
+            b"machine" => MACHINE,
+            _ => return self.fail(Refusal::Form),
+        };
+        Ok(Actor { id, kind, owner: self.id("owner", ANY_ID)? })
+    }
+
+    fn resource(&mut self, resource: &mut Resource) -> Result<(), Unread> {
+        resource.id = self.id("resource", REAL_ID)?;
+        resource.is_public = self.id("public", 0..=1)?;
+        resource.keeper = self.id("keeper", REAL_ID)?;
+        let scope = self.value("scope")?;
+        if scope.len() > PATH || !scope.iter().all(|byte| (0x21..=0x7E).contains(byte)) {
+            return self.fail(Refusal::Form);
+        }
+        resource.len = scope.len();
+        resource.path[..scope.len()].copy_from_slice(scope);
+        Ok(())
+    }
+
+    fn claim(&mut self) -> Result<Claim, Unread> {
+        Ok(Claim {
+            id: self.id("claim", REAL_ID)?,
+            parent: self.id("parent", ANY_ID)?,
+            grantor: self.id("grantor", REAL_ID)?,
+            holder: self.id("holder", REAL_ID)?,
+            resource: self.id("resource", REAL_ID)?,
+            rights: self.id("rights", 1..=RIGHTS_MAX.into())?,
+            weight: self.id("weight", 0..=WEIGHT_MAX.into())?,
+            expiry: self.number("expiry", 0..=MOMENT_MAX)?,
+        })
+    }
+
+    /// Reads into an empty register.
+    fn register(&mut self, register: &mut Register) -> Result<(), Unread> {
+        if self.value("register")? != b"1" {
+            return self.fail(Refusal::Form);
+        }
+        register.actors.count = self.count("actors", ACTORS)?;
+        for actor in &mut register.actors.list[..register.actors.count] {
+            *actor = self.actor()?;
+        }
+        register.resources.count = self.count("resources", RESOURCES)?;
+        for resource in &mut register.resources.list[..register.resources.count] {
+            self.resource(resource)?;
+        }
+        register.claims.count = self.count("claims", CLAIMS)?;
+        for claim in &mut register.claims.list[..register.claims.count] {
+            *claim = self.claim()?;
+        }
+        self.end()
+    }
+
+    /// Reads into the action of all zeros.
+    fn action(&mut self, action: &mut Action) -> Result<(), Unread> {
+        action.now = self.number("now", 0..=MOMENT_MAX)?;
+        action.actor = self.id("actor", ANY_ID)?;
+        action.flags = self.id("flags", 0..=FLAGS_MAX.into())?;
+        action.used = self.count("uses", USES)?;
+        for usage in &mut action.uses[..action.used] {
+            *usage = Usage { resource: self.id("use", ANY_ID)?, right: self.id("right", 0..=RIGHT_MAX.into())? };
+        }
+        action.governed = self.count("governs", GOVERNS)?;
+        for governed in &mut action.governs[..action.governed] {
+            *governed = self.id("govern", ANY_ID)?;
+        }
+        self.end()
+    }
+}
+
+/// Where a text goes.
+trait Sink {
+    fn bytes(&mut self, bytes: &[u8]);
+
+    fn line(&mut self, key: &str, number: u64) {
+        // Twenty digits hold every u64.
+        let mut digits = [0; 20];
+        let mut start = digits.len();
+        let mut rest = number;
+        loop {
+            start -= 1;
+            digits[start] = b'0' + (rest % 10) as u8;
+            rest /= 10;
+            if rest == 0 {
+                break;
+            }
+        }
+        self.words(key, &digits[start..]);
+    }
+
+    fn words(&mut self, key: &str, value: &[u8]) {
+        self.bytes(key.as_bytes());
+        self.bytes(b"=");
+        self.bytes(value);
+        self.bytes(b"\n");
+    }
+}
+
+/// Counts a text's bytes.
+struct Length(usize);
+
+impl Sink for Length {
+    fn bytes(&mut self, bytes: &[u8]) {
+        self.0 += bytes.len();
+    }
+}
+
+/// Fills a buffer that has room for the text.
+struct Filling<'b> {
+    buffer: &'b mut [u8],
+    at: usize,
+}
+
+impl Sink for Filling<'_> {
+    fn bytes(&mut self, bytes: &[u8]) {
+        self.buffer[self.at..][..bytes.len()].copy_from_slice(bytes);
+        self.at += bytes.len();
+    }
+}
+
+/// Something with a text.
+trait Text {
+    fn text(&self, out: &mut impl Sink);
+
+    /// Writes the text to the front of the buffer and answers its length. A buffer too short is left as it was.
+    fn write(&self, buffer: &mut [u8]) -> Result<usize, Refusal> {
+        let mut length = Length(0);
+        self.text(&mut length);
+        if length.0 > buffer.len() {
+            return Err(Refusal::Buffer);
+        }
+        self.text(&mut Filling { buffer, at: 0 });
+        Ok(length.0)
+    }
+}
+
+/// Of a sound register.
+impl Text for Register {
+    fn text(&self, out: &mut impl Sink) {
+        out.line("register", 1);
+        out.line("actors", self.actors.count as u64);
+        for actor in &self.actors.list[..self.actors.count] {
+            out.line("actor", actor.id.into());
+            out.words("kind", if actor.kind == HUMAN { b"human" } else { b"machine" });
+            out.line("owner", actor.owner.into());
+        }
+        out.line("resources", self.resources.count as u64);
+        for resource in &self.resources.list[..self.resources.count] {
+            out.line("resource", resource.id.into());
+            out.line("public", resource.is_public.into());
+            out.line("keeper", resource.keeper.into());
+            out.words("scope", &resource.path[..resource.len]);
+        }
+        out.line("claims", self.claims.count as u64);
+        for claim in &self.claims.list[..self.claims.count] {
+            out.line("claim", claim.id.into());
+            out.line("parent", claim.parent.into());
+            out.line("grantor", claim.grantor.into());
+            out.line("holder", claim.holder.into());
+            out.line("resource", claim.resource.into());
+            out.line("rights", claim.rights.into());
+            out.line("weight", claim.weight.into());
+            out.line("expiry", claim.expiry);
+        }
+    }
+}
+
+impl Text for Verdict {
+    fn text(&self, out: &mut impl Sink) {
+        if self.decision == STOPPED {
+            out.words("verdict", b"stopped");
+            out.line("refusal", self.refusal.into());
+            return;
+        }
+        out.words("verdict", if self.decision == PERMITTED { b"permitted" } else { b"refused" });
+        out.line("violations", self.count as u64);
+        for violation in &self.violations[..self.count] {
+            out.line("violation", violation.kind.into());
+            out.line("at", violation.value.into());
+        }
+    }
+}
+
+impl Model {
+    fn lines<'t>(&self, text: &'t [u8]) -> Lines<'t> {
+        Lines { rest: text, line: 0, leading_zeros: self.has(Fault::LeadingZero) }
+    }
+
+    /// Reads a register's text into an empty register. Refused, the register is left empty.
+    pub fn read_register(&self, text: &[u8], register: &mut Register) -> Result<(), Unread> {
+        let read = self.lines(text).register(register).and_then(|()| match self.sound(register) {
+            true => Ok(()),
+            false => Err(Unread { refusal: Refusal::Unsound, line: 0 }),
+        });
+        if read.is_err() {
+            *register = Register::EMPTY;
+        }
+        read
+    }
+
+    /// Writes the register's text to the front of the buffer and answers its length. Refused, the buffer is untouched.
+    pub fn write_register(&self, register: &Register, buffer: &mut [u8]) -> Result<usize, Refusal> {
+        if self.sound(register) {
+            register.write(buffer)
+        } else {
+            Err(Refusal::Unsound)
+        }
+    }
+
+    pub fn read_action(&self, text: &[u8]) -> Result<Action, Unread> {
+        let mut action = Action::ZERO;
+        self.lines(text).action(&mut action).map(|()| action)
+    }
+
+    /// Writes what the printing program prints for these two texts, and answers its length.
+    pub fn verdict_text(&self, register: &[u8], action: &[u8], buffer: &mut [u8]) -> Result<usize, Refusal> {
+        let mut read = Register::EMPTY;
+        let verdict = self
+            .read_register(register, &mut read)
+            .and_then(|()| self.read_action(action))
+            .map_or_else(|unread| Verdict::stopped(unread.refusal), |action| self.gate(&read, &action));
+        verdict.write(buffer)
+    }
+}

@@ -1,0 +1,328 @@
+//! Sessions as readable files: what a difference is saved as, and replayed from.
+//!
+//! One thing to a line, `#` before a remark. Entries of a list have their position and are left out where all zero, so that also
+//! what stands past a count is there. Bytes are quoted, one line of the file to a line of a text.
+
+use crate::case::{Call, Session};
+use guvrendik_model::types::*;
+use std::fmt::Write as _;
+
+/// A line's `name=value` parts.
+type Parts<'l> = Vec<(&'l str, &'l str)>;
+
+pub fn write(session: &Session) -> String {
+    let mut out = String::new();
+    if let Some(register) = &session.register {
+        write_register(register, &mut out);
+    }
+    for call in &session.calls {
+        write_call(call, &mut out);
+    }
+    out
+}
+
+fn line(out: &mut String, text: std::fmt::Arguments) {
+    out.write_fmt(text).expect("a string takes all");
+    out.push('\n');
+}
+
+fn write_register(register: &Register, out: &mut String) {
+    let Register { actors, resources, claims } = register;
+    line(out, format_args!("register actors={} resources={} claims={}", actors.count, resources.count, claims.count));
+    for (at, Actor { id, kind, owner }) in filled(&actors.list) {
+        line(out, format_args!("  actor at={at} id={id} kind={kind} owner={owner}"));
+    }
+    for (at, Resource { id, is_public, keeper, len, path }) in filled(&resources.list) {
+        let used = path.iter().rposition(|&byte| byte != 0).map_or(0, |last| last + 1);
+        let path = quoted(&path[..used]);
+        line(out, format_args!("  resource at={at} id={id} public={is_public} keeper={keeper} len={len} path={path}"));
+    }
+    for (at, Claim { id, parent, grantor, holder, resource, rights, weight, expiry }) in filled(&claims.list) {
+        line(
+            out,
+            format_args!(
+                "  claim at={at} id={id} parent={parent} grantor={grantor} holder={holder} resource={resource} \
+                 rights={rights} weight={weight} expiry={expiry}"
+            ),
+        );
+    }
+}
+
+/// The entries that are not all zero, with their positions.
+fn filled<T: Zero + PartialEq>(list: &[T]) -> impl Iterator<Item = (usize, &T)> {
+    list.iter().enumerate().filter(|(_, entry)| **entry != T::ZERO)
+}
+
+fn write_action(action: &Action, out: &mut String) {
+    let Action { actor, flags, now, uses, used, governs, governed } = action;
+    line(out, format_args!("  action actor={actor} flags={flags} now={now} used={used} governed={governed}"));
+    for (at, Usage { resource, right }) in uses.iter().enumerate() {
+        if (*resource, *right) != (0, 0) {
+            line(out, format_args!("    use at={at} resource={resource} right={right}"));
+        }
+    }
+    for (at, governed) in governs.iter().enumerate().filter(|(_, governed)| **governed != 0) {
+        line(out, format_args!("    govern at={at} actor={governed}"));
+    }
+}
+
+fn write_bytes(name: &str, bytes: &[u8], out: &mut String) {
+    for part in bytes.split_inclusive(|&byte| byte == b'\n') {
+        line(out, format_args!("  {name} bytes={}", quoted(part)));
+    }
+}
+
+fn write_call(call: &Call, out: &mut String) {
+    let name = call.name();
+    match call {
+        Call::Sound => line(out, format_args!("call {name}")),
+        Call::Grant { claim, now, keep } => {
+            let Claim { id, parent, grantor, holder, resource, rights, weight, expiry } = claim;
+            line(
+                out,
+                format_args!(
+                    "call {name} id={id} parent={parent} grantor={grantor} holder={holder} resource={resource} \
+                     rights={rights} weight={weight} expiry={expiry} now={now} keep={}",
+                    u8::from(*keep)
+                ),
+            );
+        }
+        Call::Revoke { revoker, claim, keep } => {
+            line(out, format_args!("call {name} revoker={revoker} claim={claim} keep={}", u8::from(*keep)));
+        }
+        Call::Gate(action) => {
+            line(out, format_args!("call {name}"));
+            write_action(action, out);
+        }
+        Call::Plan(plan) => {
+            line(out, format_args!("call {name} count={}", plan.count));
+            // Up to the last action that is not all zero, so that each has its place.
+            let last = plan.actions.iter().rposition(|action| *action != Action::ZERO).map_or(0, |last| last + 1);
+            plan.actions[..last].iter().for_each(|action| write_action(action, out));
+        }
+        Call::Contains { outer, inner } => {
+            line(out, format_args!("call {name} outer={} inner={}", quoted(outer), quoted(inner)));
+        }
+        Call::ReadRegister(text) | Call::ReadAction(text) => {
+            line(out, format_args!("call {name}"));
+            write_bytes("text", text, out);
+        }
+        Call::WriteRegister { room, fill } => line(out, format_args!("call {name} room={room} fill={fill}")),
+        Call::VerdictText { register, action, room, fill } => {
+            line(out, format_args!("call {name} room={room} fill={fill}"));
+            write_bytes("register-text", register, out);
+            write_bytes("action-text", action, out);
+        }
+    }
+}
+
+/// Printable bytes as they are, the rest, blanks, quotes and backslashes as `\xNN`, LF as `\n`.
+fn quoted(bytes: &[u8]) -> String {
+    let mut out = String::from("\"");
+    for &byte in bytes {
+        match byte {
+            b'\n' => out.push_str("\\n"),
+            0x21..=0x7E if byte != b'"' && byte != b'\\' => out.push(byte.into()),
+            _ => write!(out, "\\x{byte:02x}").expect("a string takes all"),
+        }
+    }
+    out.push('"');
+    out
+}
+
+fn unquoted(text: &str) -> Result<Vec<u8>, String> {
+    let wrong = || format!("not a quoted text: {text}");
+    let inside = text.strip_prefix('"').and_then(|text| text.strip_suffix('"')).ok_or_else(wrong)?;
+    let mut bytes = Vec::with_capacity(inside.len());
+    let mut rest = inside.as_bytes();
+    while let [first, after @ ..] = rest {
+        rest = after;
+        bytes.push(match (first, after) {
+            (b'\\', [b'n', after @ ..]) => {
+                rest = after;
+                b'\n'
+            }
+            (b'\\', [b'x', high, low, after @ ..]) => {
+                rest = after;
+                let digits = [*high, *low];
+                let digits = std::str::from_utf8(&digits).map_err(|_| wrong())?;
+                u8::from_str_radix(digits, 16).map_err(|_| wrong())?
+            }
+            (b'\\', _) => return Err(wrong()),
+            _ => *first,
+        });
+    }
+    Ok(bytes)
+}
+
+/// Reads what `write` wrote. Remarks and empty lines are passed over.
+pub fn read(text: &str) -> Result<Session, String> {
+    let mut session = Session { register: None, calls: Vec::new() };
+    // How many actions of the plan at hand were read.
+    let mut planned = 0;
+    for (number, line) in text.lines().enumerate() {
+        let line = line.trim();
+        if !line.is_empty() && !line.starts_with('#') {
+            read_line(line, &mut session, &mut planned).map_err(|why| format!("line {}: {why}", number + 1))?;
+        }
+    }
+    Ok(session)
+}
+
+fn read_line(line: &str, session: &mut Session, planned: &mut usize) -> Result<(), String> {
+    let mut words = line.split_ascii_whitespace();
+    let kind = words.next().unwrap_or_default();
+    let name = if kind == "call" { words.next().ok_or("a call without a name")? } else { "" };
+    let parts: Parts = words.map(|word| word.split_once('=').unwrap_or((word, ""))).collect();
+    match kind {
+        "register" => {
+            let mut register = Box::new(Register::EMPTY);
+            register.actors.count = number(&parts, "actors")?;
+            register.resources.count = number(&parts, "resources")?;
+            register.claims.count = number(&parts, "claims")?;
+            session.register = Some(register);
+        }
+        "actor" => {
+            *at(&parts, &mut register(session)?.actors.list)? =
+                Actor { id: number(&parts, "id")?, kind: number(&parts, "kind")?, owner: number(&parts, "owner")? };
+        }
+        "resource" => {
+            let resource: &mut Resource = at(&parts, &mut register(session)?.resources.list)?;
+            resource.id = number(&parts, "id")?;
+            resource.is_public = number(&parts, "public")?;
+            resource.keeper = number(&parts, "keeper")?;
+            resource.len = number(&parts, "len")?;
+            let path = unquoted(value(&parts, "path")?)?;
+            resource.path.get_mut(..path.len()).ok_or("a path too long")?.copy_from_slice(&path);
+        }
+        "claim" => *at(&parts, &mut register(session)?.claims.list)? = claim(&parts)?,
+        "call" => {
+            *planned = 0;
+            session.calls.push(call(name, &parts)?);
+        }
+        "action" => {
+            let read = Action {
+                actor: number(&parts, "actor")?,
+                flags: number(&parts, "flags")?,
+                now: number(&parts, "now")?,
+                used: number(&parts, "used")?,
+                governed: number(&parts, "governed")?,
+                ..Action::ZERO
+            };
+            *planned += 1;
+            *action(session, *planned)? = read;
+        }
+        "use" => {
+            *at(&parts, &mut action(session, *planned)?.uses)? =
+                Usage { resource: number(&parts, "resource")?, right: number(&parts, "right")? };
+        }
+        "govern" => *at(&parts, &mut action(session, *planned)?.governs)? = number(&parts, "actor")?,
+        "text" | "register-text" | "action-text" => {
+            let bytes = unquoted(value(&parts, "bytes")?)?;
+            text(session, kind)?.extend(bytes);
+        }
+        _ => return Err(format!("unknown: {kind}")),
+    }
+    Ok(())
+}
+
+fn value<'l>(parts: &Parts<'l>, name: &str) -> Result<&'l str, String> {
+    parts.iter().find(|(known, _)| *known == name).map(|(_, value)| *value).ok_or_else(|| format!("{name} is missing"))
+}
+
+fn number<N: std::str::FromStr>(parts: &Parts, name: &str) -> Result<N, String> {
+    value(parts, name)?.parse().map_err(|_| format!("{name} is no number"))
+}
+
+/// The entry of a list that the line's `at` names.
+fn at<'e, T>(parts: &Parts, list: &'e mut [T]) -> Result<&'e mut T, String> {
+    let position: usize = number(parts, "at")?;
+    list.get_mut(position).ok_or_else(|| "at is too large".to_owned())
+}
+
+fn register(session: &mut Session) -> Result<&mut Register, String> {
+    session.register.as_deref_mut().ok_or_else(|| "no register line before it".to_owned())
+}
+
+/// The action that the last call's lines are about: of a plan, the `planned`th.
+fn action(session: &mut Session, planned: usize) -> Result<&mut Action, String> {
+    match session.calls.last_mut() {
+        Some(Call::Gate(action)) => Ok(action),
+        Some(Call::Plan(plan)) => {
+            let position = planned.checked_sub(1).ok_or("no action line before it")?;
+            plan.actions.get_mut(position).ok_or_else(|| "too many actions".to_owned())
+        }
+        _ => Err("the call before it has no action".to_owned()),
+    }
+}
+
+fn text<'s>(session: &'s mut Session, kind: &str) -> Result<&'s mut Vec<u8>, String> {
+    match (session.calls.last_mut(), kind) {
+        (Some(Call::ReadRegister(text) | Call::ReadAction(text)), "text") => Ok(text),
+        (Some(Call::VerdictText { register, .. }), "register-text") => Ok(register),
+        (Some(Call::VerdictText { action, .. }), "action-text") => Ok(action),
+        _ => Err("the call before it has no such text".to_owned()),
+    }
+}
+
+fn claim(parts: &Parts) -> Result<Claim, String> {
+    Ok(Claim {
+        id: number(parts, "id")?,
+        parent: number(parts, "parent")?,
+        grantor: number(parts, "grantor")?,
+        holder: number(parts, "holder")?,
+        resource: number(parts, "resource")?,
+        rights: number(parts, "rights")?,
+        weight: number(parts, "weight")?,
+        expiry: number(parts, "expiry")?,
+    })
+}
+
+fn call(name: &str, parts: &Parts) -> Result<Call, String> {
+    let keep = || number::<u8>(parts, "keep").map(|keep| keep == 1);
+    Ok(match name {
+        "sound" => Call::Sound,
+        "grant" => Call::Grant { claim: claim(parts)?, now: number(parts, "now")?, keep: keep()? },
+        "revoke" => Call::Revoke { revoker: number(parts, "revoker")?, claim: number(parts, "claim")?, keep: keep()? },
+        "gate" => Call::Gate(Box::new(Action::ZERO)),
+        "judge_plan" => Call::Plan(Box::new(Plan { count: number(parts, "count")?, ..Plan::EMPTY })),
+        "contains" => {
+            Call::Contains { outer: unquoted(value(parts, "outer")?)?, inner: unquoted(value(parts, "inner")?)? }
+        }
+        "read_register" => Call::ReadRegister(Vec::new()),
+        "write_register" => Call::WriteRegister { room: number(parts, "room")?, fill: number(parts, "fill")? },
+        "read_action" => Call::ReadAction(Vec::new()),
+        "verdict_text" => Call::VerdictText {
+            register: Vec::new(),
+            action: Vec::new(),
+            room: number(parts, "room")?,
+            fill: number(parts, "fill")?,
+        },
+        _ => return Err(format!("unknown call: {name}")),
+    })
+}
+
+#[cfg(test)]
+mod tests {
+    use crate::generate::Generator;
+
+    #[test]
+    fn a_session_is_read_as_it_was_written() {
+        let mut generator = Generator::new(7);
+        for round in 0..40 {
+            for session in generator.round(round) {
+                let text = super::write(&session);
+                assert_eq!(super::read(&text).as_ref(), Ok(&session), "{text}");
+            }
+        }
+    }
+
+    #[test]
+    fn what_is_not_of_the_form_is_told() {
+        for text in
+            ["call dance", "actor at=0 id=1 kind=1 owner=0", "call contains outer=\"a inner=\"\"", "call revoke"]
+        {
+            assert!(super::read(text).is_err(), "{text}");
+        }
+    }
+}

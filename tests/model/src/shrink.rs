@@ -1,0 +1,252 @@
+//! Makes a session that shows a difference smaller, as long as it still does.
+
+use crate::case::{Call, Session};
+use guvrendik_model::types::*;
+
+/// How often a smaller session is tried at most.
+const TRIES: usize = 3_000;
+
+/// The smallest session found, by dropping and shortening greedily. `differs` says whether a session still shows a difference.
+pub fn shrink(session: Session, mut differs: impl FnMut(&Session) -> bool) -> Session {
+    let mut best = session;
+    let mut tries = 0;
+    loop {
+        let mut smaller_found = false;
+        // Each step is asked for by number, as the list of steps changes with every success.
+        let mut step = 0;
+        while let Some(smaller) = nth_step(&best, step) {
+            if tries == TRIES {
+                return best;
+            }
+            tries += 1;
+            if smaller != best && differs(&smaller) {
+                best = smaller;
+                smaller_found = true;
+            } else {
+                step += 1;
+            }
+        }
+        if !smaller_found {
+            return best;
+        }
+    }
+}
+
+/// The session after the step with this number, or `None` past the last.
+fn nth_step(session: &Session, mut step: usize) -> Option<Session> {
+    if session.calls.len() > 1 {
+        if step < session.calls.len() {
+            let mut smaller = session.clone();
+            smaller.calls.remove(step);
+            return Some(smaller);
+        }
+        step -= session.calls.len();
+    }
+    let steps = session.register.as_ref().map_or(0, |register| register_steps(register));
+    if step < steps {
+        let mut smaller = session.clone();
+        step_register(smaller.register.as_deref_mut()?, step);
+        return Some(smaller);
+    }
+    step -= steps;
+    for (at, call) in session.calls.iter().enumerate() {
+        if step < call_steps(call) {
+            let mut smaller = session.clone();
+            step_call(&mut smaller.calls[at], step);
+            return Some(smaller);
+        }
+        step -= call_steps(call);
+    }
+    None
+}
+
+fn register_steps(register: &Register) -> usize {
+    // The claims first, from the last: others hang from the earlier ones. The last step clears what stands past the counts.
+    counted(&register.claims)
+        + counted(&register.resources)
+        + counted(&register.actors)
+        + counted(&register.resources)
+        + 1
+}
+
+fn counted<T: Zero, const LIMIT: usize>(list: &List<T, LIMIT>) -> usize {
+    list.count.min(LIMIT)
+}
+
+fn drop_from<T: Zero, const LIMIT: usize>(list: &mut List<T, LIMIT>, at: usize) {
+    let end = counted(list);
+    list.list.copy_within(at + 1..end, at);
+    list.list[end - 1] = T::ZERO;
+    // A count above the limit stays above it.
+    if list.count <= LIMIT {
+        list.count -= 1;
+    }
+}
+
+fn step_register(register: &mut Register, mut step: usize) {
+    let claims = counted(&register.claims);
+    if step < claims {
+        return drop_from(&mut register.claims, claims - 1 - step);
+    }
+    step -= claims;
+    let resources = counted(&register.resources);
+    if step < resources {
+        return drop_from(&mut register.resources, step);
+    }
+    step -= resources;
+    let actors = counted(&register.actors);
+    if step < actors {
+        return drop_from(&mut register.actors, step);
+    }
+    step -= actors;
+    if step < resources {
+        let resource = &mut register.resources.list[step];
+        resource.len = if resource.len > PATH { resource.len } else { resource.len / 2 };
+        return;
+    }
+    register.actors.list[actors..].fill(Actor::ZERO);
+    register.resources.list[resources..].fill(Resource::ZERO);
+    register.claims.list[claims..].fill(Claim::ZERO);
+    for resource in &mut register.resources.list {
+        let used = resource.len.min(PATH);
+        resource.path[used..].fill(0);
+    }
+}
+
+fn call_steps(call: &Call) -> usize {
+    match call {
+        Call::Gate(action) => action_steps(action),
+        Call::Plan(plan) => {
+            let count = plan.count.min(ACTIONS);
+            count + plan.actions[..count].iter().map(action_steps).sum::<usize>() + 1
+        }
+        Call::Contains { outer, inner } => outer.len() + inner.len() + outer.len().min(inner.len()),
+        Call::ReadRegister(text) | Call::ReadAction(text) => text_steps(text),
+        Call::VerdictText { register, action, .. } => text_steps(register) + text_steps(action) + 1,
+        Call::Sound | Call::Grant { .. } | Call::Revoke { .. } => 0,
+        Call::WriteRegister { .. } => 1,
+    }
+}
+
+fn step_call(call: &mut Call, mut step: usize) {
+    match call {
+        Call::Gate(action) => step_action(action, step),
+        Call::Plan(plan) => {
+            let count = plan.count.min(ACTIONS);
+            if step < count {
+                plan.actions.copy_within(step + 1..count, step);
+                plan.actions[count - 1] = Action::ZERO;
+                plan.count -= usize::from(plan.count <= ACTIONS);
+                return;
+            }
+            step -= count;
+            for action in &mut plan.actions[..count] {
+                if step < action_steps(action) {
+                    return step_action(action, step);
+                }
+                step -= action_steps(action);
+            }
+            plan.actions[count..].fill(Action::ZERO);
+        }
+        Call::Contains { outer, inner } => {
+            let common = outer.len().min(inner.len());
+            if step < common {
+                // From both, as the one often begins the other.
+                outer.remove(step);
+                inner.remove(step);
+            } else if step - common < outer.len() {
+                outer.remove(step - common);
+            } else {
+                inner.remove(step - common - outer.len());
+            }
+        }
+        Call::ReadRegister(text) | Call::ReadAction(text) => step_text(text, step),
+        Call::VerdictText { register, action, room, .. } => {
+            if step < text_steps(register) {
+                step_text(register, step);
+            } else if step - text_steps(register) < text_steps(action) {
+                step_text(action, step - text_steps(register));
+            } else {
+                *room /= 2;
+            }
+        }
+        Call::WriteRegister { room, .. } => *room /= 2,
+        Call::Sound | Call::Grant { .. } | Call::Revoke { .. } => (),
+    }
+}
+
+fn action_steps(action: &Action) -> usize {
+    action.used.min(USES) + action.governed.min(GOVERNS) + 2
+}
+
+fn step_action(action: &mut Action, mut step: usize) {
+    let used = action.used.min(USES);
+    if step < used {
+        action.uses.copy_within(step + 1..used, step);
+        action.uses[used - 1] = Usage { resource: 0, right: 0 };
+        action.used -= usize::from(action.used <= USES);
+        return;
+    }
+    step -= used;
+    let governed = action.governed.min(GOVERNS);
+    if step < governed {
+        action.governs.copy_within(step + 1..governed, step);
+        action.governs[governed - 1] = 0;
+        action.governed -= usize::from(action.governed <= GOVERNS);
+    } else if step == governed {
+        action.flags = 0;
+    } else {
+        action.uses[used..].fill(Usage { resource: 0, right: 0 });
+        action.governs[governed..].fill(0);
+    }
+}
+
+/// Halves, then lines, then single bytes of a short text.
+fn text_steps(text: &[u8]) -> usize {
+    let lines = text.split_inclusive(|&byte| byte == b'\n').count();
+    2 + lines + if text.len() <= 200 { text.len() } else { 0 }
+}
+
+fn step_text(text: &mut Vec<u8>, step: usize) {
+    let lines: Vec<usize> = text.split_inclusive(|&byte| byte == b'\n').map(<[u8]>::len).collect();
+    match step {
+        0 => text.truncate(text.len() / 2),
+        1 => text.drain(..text.len() / 2).for_each(drop),
+        _ if step - 2 < lines.len() => {
+            let start: usize = lines[..step - 2].iter().sum();
+            text.drain(start..start + lines[step - 2]).for_each(drop);
+        }
+        _ => {
+            text.remove(step - 2 - lines.len());
+        }
+    }
+}
+
+#[cfg(test)]
+mod tests {
+    use super::*;
+    use crate::generate::Generator;
+    use guvrendik_model::model::{Fault, Model};
+
+    /// Whether a model with the fault answers anything in the session otherwise.
+    fn differs(session: &Session, fault: Fault) -> bool {
+        let (mut right, mut wrong) = (session.start(), session.start());
+        session.calls.iter().any(|call| {
+            let (mut one, mut two) = (Vec::new(), Vec::new());
+            call.answer(&Model::default(), &mut right, &mut one);
+            call.answer(&Model { fault: Some(fault) }, &mut wrong, &mut two);
+            one != two
+        })
+    }
+
+    #[test]
+    fn faults_shrink_to_a_few_entries() {
+        for (name, fault) in Fault::ALL {
+            let mut generator = Generator::new(11);
+            let found = (0..200).flat_map(|round| generator.round(round)).find(|session| differs(session, fault));
+            let small = shrink(found.expect("found in 200 rounds"), |session| differs(session, fault));
+            let claims = small.register.as_ref().map_or(0, |register| register.claims.count);
+            assert!(small.calls.len() <= 3 && claims <= 4, "{name}: {}", crate::saved::write(&small));
+        }
+    }
+}

@@ -1,0 +1,273 @@
+//! The structs of `include/guvrendik.h`, field for field, and the rule book's limits.
+
+pub const ACTORS: usize = 64;
+pub const RESOURCES: usize = 64;
+pub const CLAIMS: usize = 256;
+pub const HOPS: usize = 16;
+pub const PATH: usize = 64;
+pub const USES: usize = 32;
+pub const GOVERNS: usize = 8;
+pub const ACTIONS: usize = 16;
+/// Ten flags, one violation of kind 2, eight governed entries and 32 uses.
+pub const VIOLATIONS: usize = 51;
+/// No text of a register is longer than this.
+pub const REGISTER_TEXT: usize = 37_741;
+
+pub const ID_MAX: u32 = 65_535;
+pub const RIGHTS_MAX: u32 = 131_071;
+pub const WEIGHT_MAX: u32 = 1_000;
+pub const MOMENT_MAX: u64 = (1 << 32) - 1;
+pub const FLAGS_MAX: u32 = 1_023;
+pub const RIGHT_MAX: u32 = 16;
+
+pub const HUMAN: u32 = 1;
+pub const MACHINE: u32 = 2;
+
+pub const READ: u32 = 0;
+pub const DELEGATE: u32 = 4;
+/// AUDIT_WRITE, REGISTRY_MODIFY and POLICY_MODIFY: what a machine may hold and use, but not grant.
+pub const NOT_BY_MACHINE: u32 = 1 << 13 | 1 << 15 | 1 << 16;
+
+/// The `decision` of a verdict and of a judgement.
+pub const PERMITTED: u32 = 1;
+pub const REFUSED: u32 = 2;
+pub const STOPPED: u32 = 3;
+pub const CANCELLED: u32 = 3;
+
+/// A value whose every number is zero: what stands past a count, and beside a refusal.
+pub trait Zero: Copy {
+    const ZERO: Self;
+}
+
+/// A list as C lays it out. What stands past the count is no part of it, and the count itself may be any number.
+#[repr(C)]
+#[derive(Clone, Debug, PartialEq, Eq)]
+pub struct List<T, const LIMIT: usize> {
+    pub list: [T; LIMIT],
+    pub count: usize,
+}
+
+impl<T: Zero, const LIMIT: usize> List<T, LIMIT> {
+    pub const EMPTY: Self = List { list: [T::ZERO; LIMIT], count: 0 };
+
+    /// The entries that count, or `None` where the count is above the limit.
+    pub fn entries(&self) -> Option<&[T]> {
+        self.list.get(..self.count)
+    }
+
+    /// Appends to a list that has room.
+    pub fn push(&mut self, entry: T) {
+        self.list[self.count] = entry;
+        self.count += 1;
+    }
+}
+
+#[repr(C)]
+#[derive(Clone, Copy, Debug, PartialEq, Eq)]
+pub struct Actor {
+    pub id: u32,
+    pub kind: u32,
+    pub owner: u32,
+}
+
+impl Zero for Actor {
+    const ZERO: Self = Actor { id: 0, kind: 0, owner: 0 };
+}
+
+#[repr(C)]
+#[derive(Clone, Copy, Debug, PartialEq, Eq)]
+pub struct Resource {
+    pub id: u32,
+    pub is_public: u32,
+    pub keeper: u32,
+    pub len: usize,
+    pub path: [u8; PATH],
+}
+
+impl Zero for Resource {
+    const ZERO: Self = Resource { id: 0, is_public: 0, keeper: 0, len: 0, path: [0; PATH] };
+}
+
+#[repr(C)]
+#[derive(Clone, Copy, Debug, PartialEq, Eq)]
+pub struct Claim {
+    pub id: u32,
+    pub parent: u32,
+    pub grantor: u32,
+    pub holder: u32,
+    pub resource: u32,
+    pub rights: u32,
+    pub weight: u32,
+    pub expiry: u64,
+}
+
+impl Zero for Claim {
+    const ZERO: Self = Claim { id: 0, parent: 0, grantor: 0, holder: 0, resource: 0, rights: 0, weight: 0, expiry: 0 };
+}
+
+pub type Actors = List<Actor, ACTORS>;
+pub type Resources = List<Resource, RESOURCES>;
+pub type Claims = List<Claim, CLAIMS>;
+
+#[repr(C)]
+#[derive(Clone, Debug, PartialEq, Eq)]
+pub struct Register {
+    pub actors: Actors,
+    pub resources: Resources,
+    pub claims: Claims,
+}
+
+impl Register {
+    pub const EMPTY: Self = Register { actors: List::EMPTY, resources: List::EMPTY, claims: List::EMPTY };
+}
+
+#[repr(C)]
+#[derive(Clone, Copy, Debug, PartialEq, Eq)]
+pub struct Usage {
+    pub resource: u32,
+    pub right: u32,
+}
+
+#[repr(C)]
+#[derive(Clone, Copy, Debug, PartialEq, Eq)]
+pub struct Action {
+    pub actor: u32,
+    pub flags: u32,
+    pub now: u64,
+    pub uses: [Usage; USES],
+    pub used: usize,
+    pub governs: [u32; GOVERNS],
+    pub governed: usize,
+}
+
+impl Zero for Action {
+    const ZERO: Self = Action {
+        actor: 0,
+        flags: 0,
+        now: 0,
+        uses: [Usage { resource: 0, right: 0 }; USES],
+        used: 0,
+        governs: [0; GOVERNS],
+        governed: 0,
+    };
+}
+
+#[repr(C)]
+#[derive(Clone, Debug, PartialEq, Eq)]
+pub struct Plan {
+    pub actions: [Action; ACTIONS],
+    pub count: usize,
+}
+
+impl Plan {
+    pub const EMPTY: Self = Plan { actions: [Action::ZERO; ACTIONS], count: 0 };
+}
+
+#[repr(C)]
+#[derive(Clone, Copy, Debug, PartialEq, Eq)]
+pub struct Soundness {
+    pub sound: u32,
+}
+
+#[repr(C)]
+#[derive(Clone, Copy, Debug, PartialEq, Eq)]
+pub struct Containment {
+    pub contained: u32,
+}
+
+#[repr(C)]
+#[derive(Clone, Debug, PartialEq, Eq)]
+pub struct Granted {
+    pub state: Register,
+    pub accepted: u32,
+    pub refusal: u32,
+}
+
+#[repr(C)]
+#[derive(Clone, Debug, PartialEq, Eq)]
+pub struct Revoked {
+    pub state: Register,
+    pub accepted: u32,
+    pub refusal: u32,
+    pub removed: usize,
+}
+
+#[repr(C)]
+#[derive(Clone, Copy, Debug, PartialEq, Eq)]
+pub struct Violation {
+    pub kind: u32,
+    pub value: u32,
+}
+
+#[repr(C)]
+#[derive(Clone, Debug, PartialEq, Eq)]
+pub struct Verdict {
+    pub decision: u32,
+    pub refusal: u32,
+    pub violations: [Violation; VIOLATIONS],
+    pub count: usize,
+    pub hops: [usize; USES],
+}
+
+impl Verdict {
+    pub const EMPTY: Self = Verdict {
+        decision: 0,
+        refusal: 0,
+        violations: [Violation { kind: 0, value: 0 }; VIOLATIONS],
+        count: 0,
+        hops: [0; USES],
+    };
+}
+
+#[repr(C)]
+#[derive(Clone, Copy, Debug, PartialEq, Eq)]
+pub struct Judgement {
+    pub decision: u32,
+    pub violations: u32,
+}
+
+#[repr(C)]
+#[derive(Clone, Debug, PartialEq, Eq)]
+pub struct PlanVerdict {
+    pub accepted: u32,
+    pub refusal: u32,
+    pub position: usize,
+    pub list: [Judgement; ACTIONS],
+    pub count: usize,
+}
+
+impl PlanVerdict {
+    pub const EMPTY: Self = PlanVerdict {
+        accepted: 0,
+        refusal: 0,
+        position: 0,
+        list: [Judgement { decision: 0, violations: 0 }; ACTIONS],
+        count: 0,
+    };
+}
+
+#[repr(C)]
+#[derive(Clone, Debug, PartialEq, Eq)]
+pub struct RegisterRead {
+    pub state: Register,
+    pub accepted: u32,
+    pub refusal: u32,
+    pub line: usize,
+}
+
+#[repr(C)]
+#[derive(Clone, Debug, PartialEq, Eq)]
+pub struct ActionRead {
+    pub action: Action,
+    pub accepted: u32,
+    pub refusal: u32,
+    pub line: usize,
+}
+
+#[repr(C)]
+#[derive(Clone, Copy, Debug, PartialEq, Eq)]
+pub struct Written {
+    pub accepted: u32,
+    pub refusal: u32,
+    pub length: usize,
+}
