@@ -269,7 +269,7 @@ typedef struct guvrendik_plan {
 
 typedef struct guvrendik_judgement {
     uint32_t decision;   /* PERMITTED, REFUSED or CANCELLED */
-    uint32_t violations; /* how many; 0 where permitted or cancelled */
+    size_t violations; /* how many; 0 where permitted or cancelled */
 } guvrendik_judgement;
 
 /* The answer of guvrendik_judge_plan. */

@@ -225,6 +225,14 @@ static void settle(guvrendik_register *r) {
     }
 }
 
+static void settle_plan(guvrendik_plan_verdict *v) {
+    for (size_t i = 0; i < GUVRENDIK_ACTIONS; i++) {
+        uint8_t *judgement = (uint8_t *)&v->list[i];
+        size_t gap = offsetof(guvrendik_judgement, decision) + sizeof(uint32_t);
+        memset(judgement + gap, 0, offsetof(guvrendik_judgement, violations) - gap);
+    }
+}
+
 static void answer_marked(uint32_t marks, const void *bytes, size_t size) {
     answer(&marks, sizeof marks);
     answer(bytes, size);
@@ -279,6 +287,7 @@ static void do_plan(payload *p) {
     guvrendik_plan plan;
     take(p, &plan, sizeof plan);
     guvrendik_plan_verdict got = guvrendik_judge_plan(current, plan);
+    settle_plan(&got);
     answer_marked(errno_mark(), &got, sizeof got);
 }
 
@@ -787,7 +796,10 @@ static void make_call(size_t call, const input *in, const answers *known, answer
         settle(&out->revoked.state);
         break;
     case 4: out->verdict = guvrendik_gate(in->r, in->a); break;
-    case 5: out->judged = guvrendik_judge_plan(in->r, in->p); break;
+    case 5:
+        out->judged = guvrendik_judge_plan(in->r, in->p);
+        settle_plan(&out->judged);
+        break;
     case 6: out->written = guvrendik_write_register(in->r, out->text, sizeof out->text); break;
     case 7:
         out->read = guvrendik_read_register(known->text, known->written.length);

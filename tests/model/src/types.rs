@@ -223,7 +223,7 @@ impl Verdict {
 #[derive(Clone, Copy, Debug, PartialEq, Eq)]
 pub struct Judgement {
     pub decision: u32,
-    pub violations: u32,
+    pub violations: usize,
 }
 
 #[repr(C)]

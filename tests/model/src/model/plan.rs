@@ -32,7 +32,7 @@ impl Model {
                 Judgement { decision: CANCELLED, violations: 0 }
             } else {
                 let verdict = self.judge(&sound, action, actor);
-                Judgement { decision: verdict.decision, violations: verdict.count as u32 }
+                Judgement { decision: verdict.decision, violations: verdict.count }
             };
             cancelled |= action.flags != 0;
         }
