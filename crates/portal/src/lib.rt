@@ -9,7 +9,9 @@ ghost use Rattle.verdicts.specs.Gate.{gated};
 ghost use Rattle.verdicts.specs.Plans.{planned};
 ghost use Rattle.texts.specs.Registers.{registerRead};
 ghost use Rattle.texts.specs.Actions.{actionRead};
-ghost use Rattle.writing.specs.Writing.{registerWritten, registerBuffer};
+ghost use Rattle.sheets.specs.Sheets.{put};
+ghost use Rattle.writing.specs.Writing.{delivered, registerWritten, registerBuffer};
+ghost use Rattle.verdict_text.specs.Printed.{printed};
 ghost use Rattle.portal.specs.Answers.{containment, soundness, acceptedNumber, refusalNumber, grantAnswer, revokeAnswer};
 ghost use Rattle.portal.specs.Answers.{decisionNumber, stopNumber, violationNumbers, violationList, gateAnswer};
 ghost use Rattle.portal.specs.Answers.{judgementNumbers, judgementList, planAnswer};
@@ -325,14 +327,14 @@ pub extern "C" fn guvrendik_read_register(text: &[u8]) -> RegisterAnswer
 pub extern "C" fn guvrendik_read_action(text: &[u8]) -> ActionAnswer
     ensures { λ y. ⌜ y ≡ actionAnswer (actionRead (now (text .entry))) ⌝ }
 {
-    let read = action_reading::read_action(text);
-    let action = read.action;
-    let outcome = read.outcome;
+    let asked = action_reading::read_action(text);
+    let action = asked.action;
+    let outcome = asked.outcome;
     ActionAnswer {
         action,
         accepted: accepted(outcome),
         refusal: refusal(outcome),
-        line: read.line,
+        line: asked.line,
     }
 }
 
@@ -354,4 +356,17 @@ pub extern "C" fn guvrendik_write_register(r: Register, buffer: &mut [u8]) -> Wr
     ensures buffer { λ _. ⌜ now (buffer .exit) ≡ registerBuffer r (now (buffer .entry)) ⌝ }
 {
     written(writing::write(r, buffer))
+}
+
+// Puts the lines that 01's program prints of the two texts into the buffer.
+#[no_mangle]
+pub extern "C" fn guvrendik_verdict_text(
+    register: &[u8],
+    action: &[u8],
+    buffer: &mut [u8],
+) -> WrittenAnswer
+    ensures answer { λ y. ⌜ y ≡ writtenAnswer (delivered (printed (now (register .entry)) (now (action .entry))) (now (buffer .entry))) ⌝ }
+    ensures buffer { λ _. ⌜ now (buffer .exit) ≡ put 0 (printed (now (register .entry)) (now (action .entry))) (now (buffer .entry)) ⌝ }
+{
+    written(verdict_text::verdict_text(register, action, buffer))
 }

@@ -1,3 +1,2 @@
 pub mod Lining
-pub mod Sections
 pub mod Cases

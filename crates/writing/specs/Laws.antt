@@ -8,6 +8,7 @@ use lib.Dec.{leb}
 use lib.ListN.{length, getD, take}
 use lib.Seq.{getD-take, length-take-le}
 use borrow.Author.Tests.{le-leb, lt-leb, leb-true}
+use Rattle.lists.specs.Tests.{cases}
 use Rattle.lists.specs.Lists.{every-at}
 use Rattle.lists.specs.Each.{all-imp, every-all, all-every}
 use Rattle.register.specs.Limits.{pathLimit}
@@ -32,6 +33,11 @@ delivered-fits t old n room same = rw (le-leb (length t) (length old) room, same
 pub delivered-short : (t old : List ℕ) → length old < length t → unwritten BufferShort ≡ delivered t old
 unfolding delivered
 delivered-short t old short = rw (lt-leb (length t) (length old) short)
+
+-- the length that is answered is within the buffer
+pub delivered-within : (t old : List ℕ) → delivered t old .length ≤ length old
+unfolding delivered
+delivered-within t old = cases (leb (length t) (length old)) (λ e. rw e (leb-true (length t) (length old) e)) (λ e. rw e (omega arith))
 
 -- the path at a place below the count, whatever is taken to stand past the places
 pub path-fits : (k : Resources) → pathsFit k ≡ true → (none : Resource) (i : ℕ) → k .count ≤ length (k .list) → i < k .count →

@@ -12,7 +12,7 @@ use Rattle.texts.specs.Keys.{claimsKey}
 use Rattle.texts.specs.Records.{texts, sectionText}
 use Rattle.texts.specs.Registers.{claimText}
 use Rattle.sheets.specs.Laws.{Writing, writing-start, writing-left, writing-length, writing-last}
-use Rattle.writing.proofs.Sections.{Going, section-start, going-room, going-next, going-done}
+use Rattle.writing.specs.Sections.{Going, section-start, going-room, going-next, going-done}
 use Rattle.writing.proofs.put_claims.Statement.{statement}
 use Rattle.writing.proofs.put_claims.Tie as tie
 

@@ -15,7 +15,7 @@ use Rattle.texts.specs.Records.{texts, sectionText}
 use Rattle.texts.specs.Registers.{resourceText}
 use Rattle.sheets.specs.Laws.{Writing, writing-start, writing-left, writing-length, writing-last}
 use Rattle.writing.specs.Laws.{path-fits}
-use Rattle.writing.proofs.Sections.{Going, section-start, going-room, going-next, going-done}
+use Rattle.writing.specs.Sections.{Going, section-start, going-room, going-next, going-done}
 use Rattle.writing.proofs.put_resources.Statement.{statement}
 use Rattle.writing.proofs.put_resources.Tie as tie
 

@@ -1,0 +1,6 @@
+pub mod Joining
+pub mod Listing
+pub mod Composing
+pub mod Answers
+pub mod Theorems
+pub mod Cases

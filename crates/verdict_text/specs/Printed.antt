@@ -1,0 +1,93 @@
+-- The lines that 01's program prints, of the two texts that it reads. Assumes nothing.
+use Prim.Native.Nat.{ℕ}
+use mathlib.Core.List.{List, [], _∷_, _++_, map}
+use lib.ListN.{take}
+use Rattle.register.specs.declared.Register.{Register}
+use Rattle.changes.specs.Refusals.{numberOf}
+use Rattle.changes.specs.declared.Outcome.{Outcome}
+use Rattle.changes.specs.declared.Outcome.the-variants.{Accepted, Refused as RefusedFor}
+use Rattle.changes.specs.declared.Refusal.{Refusal}
+use Rattle.actions.specs.Actions.{kindOf, valueOf}
+use Rattle.actions.specs.declared.Violation.{Violation}
+use Rattle.actions.specs.declared.Violations.{Violations}
+use Rattle.actions.specs.declared.Decision.{Decision}
+use Rattle.actions.specs.declared.Decision.the-variants.{Permitted, Refused, Stopped}
+use Rattle.actions.specs.declared.Verdict.{Verdict}
+use Rattle.verdicts.specs.Gate.{gated}
+use Rattle.lines.specs.Lines.{decimalLine}
+use Rattle.texts.specs.Records.{texts}
+use Rattle.texts.specs.Registers.{registerRead}
+use Rattle.texts.specs.Actions.{actionRead}
+use Rattle.texts.specs.declared.RegisterRead.{RegisterRead}
+use Rattle.texts.specs.declared.ActionRead.{ActionRead}
+
+-- "verdict=permitted" and LF
+abbrev pub permittedLine : List ℕ
+permittedLine = 118 ∷ 101 ∷ 114 ∷ 100 ∷ 105 ∷ 99 ∷ 116 ∷ 61 ∷ 112 ∷ 101 ∷ 114 ∷ 109 ∷ 105 ∷ 116 ∷ 116 ∷ 101 ∷ 100 ∷ 10 ∷ []
+
+-- "verdict=refused" and LF
+abbrev pub refusedLine : List ℕ
+refusedLine = 118 ∷ 101 ∷ 114 ∷ 100 ∷ 105 ∷ 99 ∷ 116 ∷ 61 ∷ 114 ∷ 101 ∷ 102 ∷ 117 ∷ 115 ∷ 101 ∷ 100 ∷ 10 ∷ []
+
+-- "verdict=stopped" and LF
+abbrev pub stoppedLine : List ℕ
+stoppedLine = 118 ∷ 101 ∷ 114 ∷ 100 ∷ 105 ∷ 99 ∷ 116 ∷ 61 ∷ 115 ∷ 116 ∷ 111 ∷ 112 ∷ 112 ∷ 101 ∷ 100 ∷ 10 ∷ []
+
+-- "violations="
+abbrev pub violationsKey : List ℕ
+violationsKey = 118 ∷ 105 ∷ 111 ∷ 108 ∷ 97 ∷ 116 ∷ 105 ∷ 111 ∷ 110 ∷ 115 ∷ 61 ∷ []
+
+-- "violation="
+abbrev pub violationKey : List ℕ
+violationKey = 118 ∷ 105 ∷ 111 ∷ 108 ∷ 97 ∷ 116 ∷ 105 ∷ 111 ∷ 110 ∷ 61 ∷ []
+
+-- "at="
+abbrev pub atKey : List ℕ
+atKey = 97 ∷ 116 ∷ 61 ∷ []
+
+-- "refusal="
+abbrev pub refusalKey : List ℕ
+refusalKey = 114 ∷ 101 ∷ 102 ∷ 117 ∷ 115 ∷ 97 ∷ 108 ∷ 61 ∷ []
+
+-- the violations of a verdict
+abbrev pub violationsIn : Violations → List Violation
+violationsIn vs = map (λ v. v .what) (take (vs .count) (vs .list))
+
+-- each violation has its pair `violation=` and `at=`, the latter the flag, actor or position named
+unfoldable pub pairText : Violation → List ℕ
+pairText v = decimalLine violationKey (kindOf v) ++ decimalLine atKey (valueOf v)
+
+-- the number of violations, and the pair of each
+unfoldable pub listText : Violations → List ℕ
+listText vs = decimalLine violationsKey (vs .count) ++ texts pairText (violationsIn vs)
+
+-- a refusal prints `verdict=stopped` and `refusal=` with its number
+unfoldable pub stoppedText : Refusal → List ℕ
+stoppedText why = stoppedLine ++ decimalLine refusalKey (numberOf why)
+
+-- permitted prints `verdict=permitted` and `violations=0`
+abbrev pub verdictLines : Decision → Violations → List ℕ
+verdictLines Permitted vs = permittedLine ++ listText vs
+verdictLines Refused vs = refusedLine ++ listText vs
+verdictLines (Stopped why) vs = stoppedText why
+
+unfoldable pub verdictText : Verdict → List ℕ
+verdictText v = verdictLines (v .decision) (v .violations)
+
+-- an action's text, judged by a register that was read
+abbrev pub actionLines : Register → Outcome → ActionRead → List ℕ
+actionLines r Accepted a = verdictText (gated r (a .action))
+actionLines r (RefusedFor why) a = stoppedText why
+
+-- a register's text, then an action's; the first refusal stops
+abbrev pub registerLines : Outcome → RegisterRead → List ℕ → List ℕ
+registerLines Accepted r action = actionLines (r .register) (actionRead action .outcome) (actionRead action)
+registerLines (RefusedFor why) r action = stoppedText why
+
+-- what the program prints of the two texts
+unfoldable pub printed : List ℕ → List ℕ → List ℕ
+printed register action = registerLines (registerRead register .outcome) (registerRead register) action
+
+-- no verdict's text is longer: the verdict, the number of violations, and 51 pairs that each name a number of 16 bits
+abbrev pub printedLimit : ℕ
+printedLimit = 1103

@@ -1,0 +1,129 @@
+// The verdict as text: the lines that 01's program prints, of the two texts that it reads, put into a lent buffer whole or not at all.
+ghost use mathlib.Core.Path.{_≡_};
+ghost use Prim.Native.Nat.{_+_, _≤_};
+ghost use lib.ListN.{length};
+ghost use Rattle.lists.specs.Splices.{splice};
+ghost use Rattle.actions.specs.Actions.{violationLimit};
+ghost use Rattle.texts.specs.Actions.{actionRead};
+ghost use Rattle.sheets.specs.Sheets.{put};
+ghost use Rattle.writing.specs.Writing.{delivered};
+ghost use Rattle.verdict_text.specs.Printed.{pairText, listText, stoppedText, verdictText, actionLines, printed, printedLimit};
+use actions::Action;
+use actions::Decision;
+use actions::Verdict;
+use actions::Violation;
+use actions::Violations;
+use changes::Outcome;
+use changes::Refusal;
+use register::Register;
+use texts::Written;
+
+// No verdict's text is longer.
+pub const PRINTED: usize = 1103;
+
+// Puts the pair of a violation into the buffer at `at`, and answers the position behind it.
+fn put_pair(buf: &mut [u8], at: usize, v: Violation) -> usize
+    requires { ⌜ at + length (pairText v) ≤ length (now buf) ⌝ }
+    ensures behind { λ r. ⌜ r ≡ at + length (pairText v) ⌝ }
+    ensures written { λ _. ⌜ now (buf .exit) ≡ splice at (pairText v) (now (buf .entry)) ⌝ }
+{
+    let kind = actions::kind(v);
+    let value = actions::value(v);
+    let value_at = sheets::put_line(buf, at, b"violation=", kind as u64);
+    sheets::put_line(buf, value_at, b"at=", value as u64)
+}
+
+// Puts the number of violations and the pair of each into the buffer at `at`, and answers the position behind them.
+fn put_list(buf: &mut [u8], at: usize, vs: Violations) -> usize
+    requires { ⌜ (at + length (listText vs) ≤ length (now buf)) × (vs .count ≤ violationLimit) ⌝ }
+    ensures behind { λ r. ⌜ r ≡ at + length (listText vs) ⌝ }
+    ensures written { λ _. ⌜ now (buf .exit) ≡ splice at (listText vs) (now (buf .entry)) ⌝ }
+{
+    let count = vs.count;
+    let mut end = sheets::put_line(buf, at, b"violations=", count as u64);
+    let mut i: usize = 0;
+    while i < count {
+        let entry = vs.list[i];
+        let v = entry.what;
+        end = put_pair(buf, end, v);
+        i += 1;
+    }
+    end
+}
+
+// Puts the lines of a refusal into the buffer, and answers the position behind them.
+fn put_stopped(buf: &mut [u8], why: Refusal) -> usize
+    requires { ⌜ length (stoppedText why) ≤ length (now buf) ⌝ }
+    ensures behind { λ r. ⌜ r ≡ length (stoppedText why) ⌝ }
+    ensures written { λ _. ⌜ now (buf .exit) ≡ splice 0 (stoppedText why) (now (buf .entry)) ⌝ }
+{
+    let number = changes::number(why);
+    let refusal_at = sheets::put_bytes(buf, 0, b"verdict=stopped\n");
+    sheets::put_line(buf, refusal_at, b"refusal=", number as u64)
+}
+
+// Puts the lines of a verdict into the buffer, and answers the position behind them.
+fn put_verdict(buf: &mut [u8], v: Verdict) -> usize
+    requires { ⌜ (length (verdictText v) ≤ length (now buf)) × (v .violations .count ≤ violationLimit) ⌝ }
+    ensures behind { λ r. ⌜ r ≡ length (verdictText v) ⌝ }
+    ensures written { λ _. ⌜ now (buf .exit) ≡ splice 0 (verdictText v) (now (buf .entry)) ⌝ }
+{
+    let violations = v.violations;
+    let decision = v.decision;
+    match decision {
+        Decision::Permitted => {
+            let list_at = sheets::put_bytes(buf, 0, b"verdict=permitted\n");
+            put_list(buf, list_at, violations)
+        }
+        Decision::Refused => {
+            let list_at = sheets::put_bytes(buf, 0, b"verdict=refused\n");
+            put_list(buf, list_at, violations)
+        }
+        Decision::Stopped(why) => put_stopped(buf, why),
+    }
+}
+
+// Puts what is printed of a register that was read and an action's text into the buffer, and answers the position behind it.
+fn compose_action(buf: &mut [u8], register: Register, action: &[u8]) -> usize
+    requires { ⌜ printedLimit ≤ length (now buf) ⌝ }
+    ensures behind { λ r. ⌜ r ≡ length (actionLines register (actionRead (now (action .entry)) .outcome) (actionRead (now (action .entry)))) ⌝ }
+    ensures written { λ _. ⌜ now (buf .exit) ≡ splice 0 (actionLines register (actionRead (now (action .entry)) .outcome) (actionRead (now (action .entry)))) (now (buf .entry)) ⌝ }
+{
+    let read = action_reading::read_action(action);
+    let outcome = read.outcome;
+    match outcome {
+        Outcome::Accepted => {
+            let asked = read.action;
+            put_verdict(buf, gate::gate(register, asked))
+        }
+        Outcome::Refused(why) => put_stopped(buf, why),
+    }
+}
+
+// Puts what is printed of the two texts into the buffer, and answers the position behind it.
+fn compose(buf: &mut [u8], register: &[u8], action: &[u8]) -> usize
+    requires { ⌜ printedLimit ≤ length (now buf) ⌝ }
+    ensures behind { λ r. ⌜ r ≡ length (printed (now (register .entry)) (now (action .entry))) ⌝ }
+    ensures written { λ _. ⌜ now (buf .exit) ≡ splice 0 (printed (now (register .entry)) (now (action .entry))) (now (buf .entry)) ⌝ }
+{
+    let read = reading::read_register(register);
+    let outcome = read.outcome;
+    match outcome {
+        Outcome::Accepted => {
+            let state = read.register;
+            compose_action(buf, state, action)
+        }
+        Outcome::Refused(why) => put_stopped(buf, why),
+    }
+}
+
+// The lines that the program prints of the two texts.
+pub fn verdict_text(register: &[u8], action: &[u8], buf: &mut [u8]) -> Written
+    ensures answer { λ r. ⌜ r ≡ delivered (printed (now (register .entry)) (now (action .entry))) (now (buf .entry)) ⌝ }
+    ensures buffer { λ _. ⌜ now (buf .exit) ≡ put 0 (printed (now (register .entry)) (now (action .entry))) (now (buf .entry)) ⌝ }
+{
+    let mut sheet = [0u8; PRINTED];
+    let length = compose(&mut sheet, register, action);
+    let text: &[u8] = &sheet;
+    writing::deliver(buf, &text[..length])
+}
