@@ -7,7 +7,6 @@ use native.Mathlib.Omega.{arith}
 use lib.ListN.{length, getD}
 use Rattle.changes.specs.Refusals.{outcomeOf}
 use Rattle.changes.specs.Laws.{outcome-cases}
-use Rattle.changes.specs.declared.Outcome.{Outcome}
 use Rattle.changes.specs.declared.Outcome.the-variants.{Accepted, Refused as RefusedFor}
 use Rattle.changes.specs.declared.Refusal.{Refusal}
 use Rattle.actions.specs.declared.Violation.{Violation}
@@ -22,8 +21,9 @@ use Rattle.lines.specs.Lines.{decimalLine}
 use Rattle.texts.specs.Records.{texts}
 use Rattle.texts.specs.Registers.{registerRead}
 use Rattle.texts.specs.Actions.{actionRead}
-use Rattle.verdict_text.specs.Printed.{permittedLine, refusedLine, violationsKey, pairText, listText, stoppedText, verdictLines, verdictText, actionLines, registerLines, printed}
+use Rattle.verdict_text.specs.Printed.{permittedLine, refusedLine, violationsKey, pairText, listText, stoppedText, verdictLines, verdictText, printed}
 use Rattle.verdict_text.specs.Lengths.{listed-in}
+use Rattle.verdict_text.proofs.Composing as composing
 
 -- "verdict=permitted", "violations=0", each ended by LF
 abbrev pub permission : List ℕ
@@ -62,20 +62,16 @@ module _ (register action : List ℕ) where
   asked = gated (registerRead register .register) (actionRead action .action)
 
   pub register-stops : (why : Refusal) → registerRead register .outcome ≡ RefusedFor why → printed register action ≡ stoppedText why
-  unfolding printed
-  register-stops why e = ap (λ (o : Outcome). registerLines o (registerRead register) action) e
-
-  printed-read : registerRead register .outcome ≡ Accepted
-      → printed register action ≡ actionLines (registerRead register .register) (actionRead action .outcome) (actionRead action)
-  unfolding printed
-  printed-read e = ap (λ (o : Outcome). registerLines o (registerRead register) action) e
+  register-stops = composing.refused-printed register action refl
 
   pub action-stops : (why : Refusal) → registerRead register .outcome ≡ Accepted → actionRead action .outcome ≡ RefusedFor why
       → printed register action ≡ stoppedText why
-  action-stops why e f = printed-read e ∙ ap (λ (o : Outcome). actionLines (registerRead register .register) o (actionRead action)) f
+  action-stops why e f = composing.accepted-printed register action refl e ∙ composing.refused-lines (registerRead register .register) action refl why f
 
   pub printed-heard : Heard register action → printed register action ≡ verdictText asked
-  printed-heard h = printed-read (h .registered) ∙ ap (λ (o : Outcome). actionLines (registerRead register .register) o (actionRead action)) (h .posed)
+  printed-heard h =
+      composing.accepted-printed register action refl (h .registered)
+      ∙ composing.judged-lines (registerRead register .register) action refl (h .posed) refl
 
   pub gate-stops : (why : Refusal) → Heard register action → outcomeOf (gateTests (registerRead register .register) (actionRead action .action)) ≡ RefusedFor why
       → printed register action ≡ stoppedText why
