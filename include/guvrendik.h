@@ -1,4 +1,5 @@
-/* Guvrendik: a proved authority gate. Link target/staticlib/libportal.a, which `rt staticlib portal` makes for x86-64.
+/* Guvrendik: a proved authority gate. Link target/staticlib/libportal.a, or libportal.so beside it, which `./library`
+ * makes for x86-64.
  *
  * No call allocates, keeps a pointer, writes a global or touches errno: any number of threads may call at once, also on the same
  * register. Structs pass by value; a register is 16,664 bytes. What a call lends with a pointer and a length belongs to the
@@ -8,7 +9,8 @@
  * numbers below. Entries past a count are ignored, and so are the bytes of a path past its length. An answer is determined whole,
  * also past its counts. An answer that was never written, all zeros, reads as a no.
  *
- * Stack: each call says how many bytes of stack it needs, the caller's copies of the structs included.
+ * Stack: each call says how many bytes of stack it needs, the caller's copies of the structs included: the most that was measured
+ * over registers from small to full, rounded up. The test command measures it again and fails where a call takes more.
  *
  * Proved, of every call: it equals a definition in the rule book's words, for all inputs (docs/CONTRACTS.md names each one); it
  * never reads or writes out of range, overflows or runs on for ever. Not proved: that the caller's pointers and lengths are good,
@@ -34,7 +36,7 @@ extern "C" {
 #define GUVRENDIK_ACTIONS 16
 #define GUVRENDIK_VIOLATIONS 51
 #define GUVRENDIK_REGISTER_TEXT 37741 /* no register's text is longer */
-#define GUVRENDIK_VERDICT_TEXT 923    /* no verdict's text is longer */
+#define GUVRENDIK_VERDICT_TEXT 1103   /* no verdict's text is longer */
 
 /* The largest numbers of the fields. */
 #define GUVRENDIK_ID_MAX UINT32_C(65535)
@@ -163,7 +165,7 @@ typedef struct guvrendik_soundness {
  * stands; a parent has DELEGATE; a machine grants only where it has an owner, and never right 13, 15 or 16; no claim has more
  * than 16 hops; the holder of a claim with a parent holds no claim higher on the chain and did not grant its root.
  * No refusal: every register is answered.
- * Stack: 63,992 bytes. */
+ * Stack: 64,000 bytes. */
 guvrendik_soundness guvrendik_sound(guvrendik_register r);
 
 /* ---- Changes ---- */
@@ -185,7 +187,7 @@ typedef struct guvrendik_granted {
  * 11 it is not live at now; 12 it lacks DELEGATE; 13 it lacks a right; 14 it has less weight; 15 more than 16 hops; 16 a circle.
  * Refused for no other cause: a claim of weight 0, or whose expiry has passed, is granted.
  * Accepted, everything but the new claim and the count of claims is as it came, also what stands past the counts.
- * Stack: 140,856 bytes. */
+ * Stack: 141,000 bytes. */
 guvrendik_granted guvrendik_grant(guvrendik_register r, guvrendik_claim c, uint64_t now);
 
 /* The answer of guvrendik_revoke. */
@@ -203,7 +205,7 @@ typedef struct guvrendik_revoked {
  * Refusals, the first that applies: 1 register not sound; 3 revoker not in the register; 17 the claim does not stand; 18 the
  * revoker granted neither it nor a claim higher on its chain.
  * Accepted, every place past the count of claims holds a claim of all zeros: nothing of a withdrawn claim is left.
- * Stack: 112,024 bytes. */
+ * Stack: 113,000 bytes. */
 guvrendik_revoked guvrendik_revoke(guvrendik_register r, uint32_t revoker, uint32_t claim);
 
 /* ---- The gate ---- */
@@ -259,7 +261,7 @@ typedef struct guvrendik_verdict {
  *  a  the action, every field in the range that guvrendik_action gives
  * Refusals, the first that applies: 1 register not sound; 2 a field or count of the action out of range; 3 actor not in the
  * register. Then there are no violations and no hop counts.
- * Stack: 93,648 bytes. */
+ * Stack: 94,000 bytes. */
 guvrendik_verdict guvrendik_gate(guvrendik_register r, guvrendik_action a);
 
 typedef struct guvrendik_plan {
@@ -269,7 +271,7 @@ typedef struct guvrendik_plan {
 
 typedef struct guvrendik_judgement {
     uint32_t decision;   /* PERMITTED, REFUSED or CANCELLED */
-    size_t violations; /* how many; 0 where permitted or cancelled */
+    size_t violations;   /* how many; 0 where permitted or cancelled */
 } guvrendik_judgement;
 
 /* The answer of guvrendik_judge_plan. */
@@ -287,7 +289,7 @@ typedef struct guvrendik_plan_verdict {
  *  p  the plan
  * Refusals, the first that applies: 1 register not sound; 2 more than 16 actions; then the first action that is refused with 2
  * or 3, as by guvrendik_gate, stops the whole plan, also one that would be cancelled. Then there are no judgements.
- * Stack: 76,184 bytes. */
+ * Stack: 84,000 bytes. */
 guvrendik_plan_verdict guvrendik_judge_plan(guvrendik_register r, guvrendik_plan p);
 
 /* ---- Paths ---- */
@@ -303,7 +305,7 @@ typedef struct guvrendik_containment {
  *  inner/inner_len  the same. The two may overlap.
  * The answer is a no where either path has a component equal to `..`. Else it is a yes where outer is empty, where inner equals
  * outer without the slashes at its end, and where inner goes on from there with a slash. No refusal: every input is answered.
- * Stack: 64 bytes.
+ * Stack: 128 bytes.
  * Proved: the answer is that of `contained` in crates/paths/specs/Containment.antt, for all bytes and lengths. Not proved: that
  * the caller's pointers and lengths are good. */
 guvrendik_containment guvrendik_contains(const uint8_t *outer, size_t outer_len, const uint8_t *inner, size_t inner_len);
@@ -328,7 +330,7 @@ typedef struct guvrendik_register_read {
  * Refusals: the first failing line decides between 19, not of the form or a number or path outside its field's range, and 20, a
  * count above its limit, whatever its length; a text that ends early, and bytes after the end, fail as the next line with 19.
  * Soundness comes last, with 1.
- * Stack: 147,032 bytes. */
+ * Stack: 148,000 bytes. */
 guvrendik_register_read guvrendik_read_register(const uint8_t *text, size_t text_len);
 
 /* The answer of a call that writes a text. */
@@ -344,7 +346,7 @@ typedef struct guvrendik_written {
  *                     every register. May be NULL where buffer_len is 0.
  * Refusals, the first that applies: 1 register not sound; 21 buffer too short. Then the buffer keeps every byte.
  * Accepted, the buffer keeps its bytes past the text. No zero byte is added.
- * Stack: 128,824 bytes. */
+ * Stack: 129,000 bytes. */
 guvrendik_written guvrendik_write_register(guvrendik_register r, uint8_t *buffer, size_t buffer_len);
 
 /* The answer of guvrendik_read_action. */
@@ -358,7 +360,7 @@ typedef struct guvrendik_action_read {
 /* Reads an action's text.
  *  text/text_len  as for guvrendik_read_register.
  * Refusals: 19 and 20 in the same way.
- * Stack: 1,712 bytes. */
+ * Stack: 2,000 bytes. */
 guvrendik_action_read guvrendik_read_action(const uint8_t *text, size_t text_len);
 
 /* Writes the lines that the printing program prints for a register's text and an action's text: verdict=permitted and
@@ -370,7 +372,7 @@ guvrendik_action_read guvrendik_read_action(const uint8_t *text, size_t text_len
  *                              are enough for every verdict.
  * Refusal: 21 buffer too short. Then the buffer keeps every byte. A text that is not read is no refusal of this call: its answer
  * is the text with verdict=stopped.
- * Stack: 132,488 bytes. */
+ * Stack: 133,000 bytes. */
 guvrendik_written guvrendik_verdict_text(const uint8_t *register_text, size_t register_len, const uint8_t *action_text,
                                          size_t action_len, uint8_t *buffer, size_t buffer_len);
 

@@ -333,7 +333,7 @@ impl<'c> Comparison<'c> {
         })
     }
 
-    /// Prints how much stack each call took.
+    /// Prints how much stack each call took at most, over inputs from small to full, and counts it where it is no more than the header says.
     pub fn stack(&mut self, random: &mut Random) -> io::Result<()> {
         const ORDER: [&str; CALLS] = [
             "sound",
@@ -347,14 +347,28 @@ impl<'c> Comparison<'c> {
             "read_action",
             "verdict_text",
         ];
-        let answer =
-            self.special(Request::Stack, CALLS * size_of::<u64>(), |out| put_input(random, registers::MEDIUM, out))?;
-        let used = <[u64; CALLS]>::take(&mut &answer[..]);
-        for (name, used) in ORDER.iter().zip(used) {
-            println!("stack of guvrendik_{name}: {used} bytes");
+        let mut most = [0; CALLS];
+        for shape in [registers::SMALL, registers::MEDIUM, registers::FULL].repeat(8) {
+            let answer = self.special(Request::Stack, CALLS * size_of::<u64>(), |out| put_input(random, shape, out))?;
+            let used = <[u64; CALLS]>::take(&mut &answer[..]);
+            most = std::array::from_fn(|call| most[call].max(used[call]));
+        }
+        for (name, used) in ORDER.iter().zip(most) {
+            let said = said_stack(name);
+            println!("stack of guvrendik_{name}: {used} bytes, and the header says {said}");
+            self.tally.passed += u64::from(used <= said);
+            self.tally.failed += u64::from(used > said);
         }
         Ok(())
     }
+}
+
+/// The bytes of stack that the header gives a call, whose declaration follows the comment that has them.
+fn said_stack(name: &str) -> u64 {
+    const HEADER: &str = include_str!("../../../include/guvrendik.h");
+    let declared = HEADER.find(&format!("guvrendik_{name}(")).expect("the header declares each call");
+    let said = HEADER[..declared].rsplit("Stack: ").next().expect("a comment before it");
+    said.chars().take_while(|c| *c != ' ').filter(char::is_ascii_digit).collect::<String>().parse().unwrap_or(0)
 }
 
 /// An input for all ten calls at once.
