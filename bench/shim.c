@@ -1,0 +1,33 @@
+/* The library's calls with what they take behind pointers, so that only this file passes a struct to the library by value. Each
+ * call makes one copy of every struct that it takes, as any caller in C does; the answer is written where the caller says. */
+#include "guvrendik.h"
+
+guvrendik_soundness bench_sound(const guvrendik_register *r) { return guvrendik_sound(*r); }
+
+guvrendik_granted bench_grant(const guvrendik_register *r, const guvrendik_claim *c, uint64_t now) {
+    return guvrendik_grant(*r, *c, now);
+}
+
+guvrendik_revoked bench_revoke(const guvrendik_register *r, uint32_t revoker, uint32_t claim) {
+    return guvrendik_revoke(*r, revoker, claim);
+}
+
+guvrendik_verdict bench_gate(const guvrendik_register *r, const guvrendik_action *a) { return guvrendik_gate(*r, *a); }
+
+guvrendik_plan_verdict bench_judge_plan(const guvrendik_register *r, const guvrendik_plan *p) {
+    return guvrendik_judge_plan(*r, *p);
+}
+
+guvrendik_containment bench_contains(const uint8_t *outer, size_t outer_len, const uint8_t *inner, size_t inner_len) {
+    return guvrendik_contains(outer, outer_len, inner, inner_len);
+}
+
+guvrendik_register_read bench_read_register(const uint8_t *text, size_t text_len) {
+    return guvrendik_read_register(text, text_len);
+}
+
+guvrendik_written bench_write_register(const guvrendik_register *r, uint8_t *buffer, size_t buffer_len) {
+    return guvrendik_write_register(*r, buffer, buffer_len);
+}
+
+guvrendik_action_read bench_read_action(const uint8_t *text, size_t text_len) { return guvrendik_read_action(text, text_len); }

@@ -1,0 +1,371 @@
+//! The calls that are timed. The answers of the two sides are compared before anything is: a difference ends the run.
+
+use crate::inputs::*;
+use crate::library;
+use crate::measure::Timed;
+use guvrendik_model::model::{paths as model_paths, Model, Sound};
+use guvrendik_model::types::*;
+use std::fmt::Debug;
+use std::hint::black_box;
+use std::mem::MaybeUninit;
+use std::ptr;
+
+const MODEL: Model = Model { fault: None };
+
+/// One call on one sort of input, on both sides.
+pub struct Case {
+    pub name: String,
+    /// `None` where there is no register.
+    pub shape: Option<Shape>,
+    /// The bytes of text or of paths that one call goes through.
+    pub bytes: Option<usize>,
+    pub library: Timed<'static>,
+    pub model: Timed<'static>,
+    /// Of the gate: the model's gate on a register that is known to be sound, and the library's soundness alone.
+    pub parts: Option<[Timed<'static>; 2]>,
+}
+
+/// The inputs live as long as the run.
+fn leak<T>(value: T) -> &'static T {
+    Box::leak(Box::new(value))
+}
+
+fn same<T: PartialEq + Debug>(name: &str, input: usize, library: &T, model: &T) {
+    if library != model {
+        eprintln!("{name}, input {input}: the library answers\n{library:?}\nand the model\n{model:?}");
+        std::process::exit(1);
+    }
+}
+
+/// The model's grant as the library has it: from a register that stays to an answer with a register of its own.
+fn model_grant(answer: &mut MaybeUninit<Granted>, register: &Register, claim: &Claim) {
+    let answer = answer.as_mut_ptr();
+    // SAFETY: the place is large enough, and each field is written before it is read.
+    unsafe {
+        ptr::copy_nonoverlapping(register, &raw mut (*answer).state, 1);
+        let result = MODEL.grant(&mut (*answer).state, claim, NOW);
+        (*answer).accepted = result.is_ok().into();
+        (*answer).refusal = result.map_or_else(|refusal| refusal as u32, |()| 0);
+    }
+}
+
+fn model_revoke(answer: &mut MaybeUninit<Revoked>, register: &Register, (revoker, claim): (u32, u32)) {
+    let answer = answer.as_mut_ptr();
+    // SAFETY: as above.
+    unsafe {
+        ptr::copy_nonoverlapping(register, &raw mut (*answer).state, 1);
+        let result = MODEL.revoke(&mut (*answer).state, revoker, claim);
+        (*answer).accepted = result.is_ok().into();
+        (*answer).refusal = result.map_or_else(|refusal| refusal as u32, |_| 0);
+        (*answer).removed = result.unwrap_or(0);
+    }
+}
+
+fn model_read(answer: &mut MaybeUninit<RegisterRead>, text: &[u8]) {
+    let answer = answer.as_mut_ptr();
+    // SAFETY: a register of all zeros is one, and each field is written before it is read.
+    unsafe {
+        (&raw mut (*answer).state).write_bytes(0, 1);
+        let result = MODEL.read_register(text, &mut (*answer).state);
+        (*answer).accepted = result.is_ok().into();
+        (*answer).refusal = result.map_or_else(|unread| unread.refusal as u32, |()| 0);
+        (*answer).line = result.map_or_else(|unread| unread.line, |()| 0);
+    }
+}
+
+fn model_read_action(text: &[u8]) -> ActionRead {
+    match MODEL.read_action(text) {
+        Ok(action) => ActionRead { action, accepted: 1, refusal: 0, line: 0 },
+        Err(unread) => {
+            ActionRead { action: Action::ZERO, accepted: 0, refusal: unread.refusal as u32, line: unread.line }
+        }
+    }
+}
+
+fn place<T>() -> MaybeUninit<T> {
+    MaybeUninit::uninit()
+}
+
+pub fn sound(shape: Shape, world: &World, name: &str) -> Case {
+    let register = leak(*world.register.clone());
+    let name = name.to_owned();
+    same(&name, 0, &library::sound(register).sound, &MODEL.sound(register).into());
+    Case {
+        name,
+        shape: Some(shape),
+        bytes: None,
+        library: Box::new(|_| {
+            black_box(library::sound(black_box(register)));
+        }),
+        model: Box::new(|_| {
+            black_box(MODEL.sound(black_box(register)));
+        }),
+        parts: None,
+    }
+}
+
+pub fn grant(shape: Shape, world: &World) -> Case {
+    let register = leak(*world.register.clone());
+    let grants = leak(world.grants());
+    let name = "grant".to_owned();
+    let (mut ours, mut theirs) = (Box::new(place()), Box::new(place()));
+    for (at, claim) in grants.iter().enumerate() {
+        model_grant(&mut theirs, register, claim);
+        // SAFETY: it was filled by the line before.
+        same(&name, at, library::grant(&mut ours, register, claim, NOW), unsafe { theirs.assume_init_ref() });
+    }
+    Case {
+        name,
+        shape: Some(shape),
+        bytes: None,
+        library: Box::new(move |at| {
+            black_box(library::grant(&mut ours, black_box(register), &grants[at % VARIED], NOW));
+        }),
+        model: Box::new(move |at| {
+            model_grant(&mut theirs, black_box(register), &grants[at % VARIED]);
+            black_box(&mut theirs);
+        }),
+        parts: None,
+    }
+}
+
+pub fn revoke(shape: Shape, world: &World) -> Case {
+    let register = leak(*world.register.clone());
+    let revocations = leak(world.revocations());
+    let name = "revoke".to_owned();
+    let (mut ours, mut theirs) = (Box::new(place()), Box::new(place()));
+    for (at, &(revoker, claim)) in revocations.iter().enumerate() {
+        model_revoke(&mut theirs, register, (revoker, claim));
+        // SAFETY: it was filled by the line before.
+        same(&name, at, library::revoke(&mut ours, register, revoker, claim), unsafe { theirs.assume_init_ref() });
+    }
+    Case {
+        name,
+        shape: Some(shape),
+        bytes: None,
+        library: Box::new(move |at| {
+            let (revoker, claim) = revocations[at % VARIED];
+            black_box(library::revoke(&mut ours, black_box(register), revoker, claim));
+        }),
+        model: Box::new(move |at| {
+            model_revoke(&mut theirs, black_box(register), revocations[at % VARIED]);
+            black_box(&mut theirs);
+        }),
+        parts: None,
+    }
+}
+
+pub fn gate(shape: Shape, world: &World, what: &str, actions: Vec<Action>) -> Case {
+    let register = leak(*world.register.clone());
+    let actions = leak(actions);
+    let known = leak(Sound::of(register).expect("it is sound"));
+    let name = format!("gate, {what}");
+    let mut ours = Box::new(place());
+    for (at, action) in actions.iter().enumerate() {
+        same(&name, at, library::gate(&mut ours, register, action), &MODEL.gate(register, action));
+    }
+    Case {
+        name,
+        shape: Some(shape),
+        bytes: None,
+        library: Box::new(move |at| {
+            black_box(library::gate(&mut ours, black_box(register), &actions[at % VARIED]));
+        }),
+        model: Box::new(|at| {
+            black_box(MODEL.gate(black_box(register), &actions[at % VARIED]));
+        }),
+        parts: Some([
+            Box::new(move |at| {
+                let action = &actions[at % VARIED];
+                let sound = black_box(known);
+                black_box(MODEL.acting(sound, action).map(|actor| MODEL.judge(sound, action, actor)).ok());
+            }),
+            Box::new(|_| {
+                black_box(library::sound(black_box(register)));
+            }),
+        ]),
+    }
+}
+
+pub fn plan(shape: Shape, world: &World, used: usize) -> Case {
+    let register = leak(*world.register.clone());
+    let plans = leak(world.plans(used));
+    let name = format!("plan of 16, {used} uses each");
+    let mut ours = Box::new(place());
+    for (at, plan) in plans.iter().enumerate() {
+        same(&name, at, library::judge_plan(&mut ours, register, plan), &MODEL.judge_plan(register, plan));
+    }
+    Case {
+        name,
+        shape: Some(shape),
+        bytes: None,
+        library: Box::new(move |at| {
+            black_box(library::judge_plan(&mut ours, black_box(register), &plans[at % VARIED]));
+        }),
+        model: Box::new(|at| {
+            black_box(MODEL.judge_plan(black_box(register), &plans[at % VARIED]));
+        }),
+        parts: None,
+    }
+}
+
+pub fn read(shape: Shape, world: &World) -> Case {
+    let text = leak(register_text(&world.register));
+    let name = "read register".to_owned();
+    let (mut ours, mut theirs) = (Box::new(place()), Box::new(place()));
+    model_read(&mut theirs, text);
+    // SAFETY: it was filled by the line before.
+    same(&name, 0, library::read_register(&mut ours, text), unsafe { theirs.assume_init_ref() });
+    Case {
+        name,
+        shape: Some(shape),
+        bytes: Some(text.len()),
+        library: Box::new(move |_| {
+            black_box(library::read_register(&mut ours, black_box(text)));
+        }),
+        model: Box::new(move |_| {
+            model_read(&mut theirs, black_box(text));
+            black_box(&mut theirs);
+        }),
+        parts: None,
+    }
+}
+
+pub fn write(shape: Shape, world: &World) -> Case {
+    let register = leak(*world.register.clone());
+    let text = register_text(register);
+    let name = "write register".to_owned();
+    let (mut ours, mut theirs) = (vec![0; REGISTER_TEXT], vec![0; REGISTER_TEXT]);
+    same(&name, 0, &library::write_register(register, &mut ours).length, &text.len());
+    same(&name, 0, &ours[..text.len()].to_vec(), &text);
+    Case {
+        name,
+        shape: Some(shape),
+        bytes: Some(text.len()),
+        library: Box::new(move |_| {
+            black_box(library::write_register(black_box(register), black_box(&mut ours)));
+        }),
+        model: Box::new(move |_| {
+            black_box(MODEL.write_register(black_box(register), black_box(&mut theirs)).ok());
+        }),
+        parts: None,
+    }
+}
+
+pub fn read_action(used: usize) -> Case {
+    let action = &world(FULL, Holding { human: 64, machine: 0 }).actions(1, used, Covered::All)[0];
+    let text = leak(action_text(action));
+    let name = format!("read action, {used} uses");
+    let mut ours = Box::new(place());
+    same(&name, 0, library::read_action(&mut ours, text), &model_read_action(text));
+    Case {
+        name,
+        shape: None,
+        bytes: Some(text.len()),
+        library: Box::new(move |_| {
+            black_box(library::read_action(&mut ours, black_box(text)));
+        }),
+        model: Box::new(|_| {
+            black_box(model_read_action(black_box(text)));
+        }),
+        parts: None,
+    }
+}
+
+pub fn contains(what: &str, outer: Vec<u8>, inner: Vec<u8>) -> Case {
+    let (outer, inner) = (leak(outer), leak(inner));
+    let name = format!("contains, {what}");
+    let contained: u32 = model_paths::contains(outer, inner).into();
+    same(&name, 0, &library::contains(outer, inner).contained, &contained);
+    Case {
+        name,
+        shape: None,
+        bytes: Some(outer.len() + inner.len()),
+        library: Box::new(|_| {
+            black_box(library::contains(black_box(outer), black_box(inner)));
+        }),
+        model: Box::new(|_| {
+            black_box(model_paths::contains(black_box(outer), black_box(inner)));
+        }),
+        parts: None,
+    }
+}
+
+/// A copy of a register.
+pub fn copy() -> Timed<'static> {
+    let from = leak(*world(FULL, Holding { human: 8, machine: 8 }).register);
+    let mut to = Box::new(place::<Register>());
+    Box::new(move |_| {
+        // SAFETY: one register to the place of another.
+        unsafe { ptr::copy_nonoverlapping(black_box(from), to.as_mut_ptr(), 1) };
+        black_box(&mut to);
+    })
+}
+
+/// Every case but those of the growth.
+pub fn all() -> Vec<Case> {
+    let mut cases = Vec::new();
+    for shape in SHAPES {
+        let usual =
+            || world(shape, Holding { human: 8.min(shape.claims), machine: if shape == SMALL { 0 } else { 8 } });
+        // Where every claim stands, a grant is refused.
+        let roomy = || if shape == FULL { usual().cut(CLAIMS - 1) } else { usual() };
+        cases.push(sound(shape, &usual(), "sound"));
+        if shape == FULL {
+            cases.push(sound(shape, &deep(), "sound, chains of 16 hops"));
+        }
+        cases.push(grant(shape, &roomy()));
+        cases.push(revoke(shape, &usual()));
+        let mut gates = |world: World, human: &str, machine: Option<&str>| {
+            for (used, uses) in [(1, "1 use"), (USES, "32 uses")] {
+                let actions = world.actions(world.human, used, Covered::All);
+                cases.push(gate(shape, &world, &format!("{uses}, {human}"), actions));
+            }
+            let actions = world.actions(world.human, USES, Covered::None);
+            cases.push(gate(shape, &world, &format!("32 uses not covered, {human}"), actions));
+            if let Some(machine) = machine {
+                let actions = world.actions(world.machine, USES, Covered::All);
+                cases.push(gate(shape, &world, &format!("32 uses, {machine}"), actions));
+            }
+        };
+        gates(usual(), "8 claims", (shape != SMALL).then_some("machine and owner with 8 claims each"));
+        if shape == FULL {
+            gates(world(shape, Holding { human: CLAIMS, machine: 0 }), "256 claims", None);
+            let halves = world(shape, Holding { human: CLAIMS / 2, machine: CLAIMS / 2 });
+            let actions = halves.actions(halves.machine, USES, Covered::All);
+            cases.push(gate(shape, &halves, "32 uses, machine and owner with 128 claims each", actions));
+        }
+        cases.push(plan(shape, &usual(), 4));
+        cases.push(plan(shape, &usual(), USES));
+        cases.push(read(shape, &usual()));
+        cases.push(write(shape, &usual()));
+    }
+    cases.push(read_action(USES));
+    cases.extend(paths().into_iter().map(|(what, outer, inner)| contains(what, outer, inner)));
+    cases
+}
+
+/// The cases of a register with so many claims, 64 actors and 64 resources.
+pub fn grown(claims: usize) -> Vec<Case> {
+    let shape = Shape { claims, ..FULL };
+    let cut = || world(FULL, Holding { human: 8, machine: 8 }).cut(claims);
+    let roomy = || world(FULL, Holding { human: 8, machine: 8 }).cut(claims.min(CLAIMS - 1));
+    let uses = {
+        let world = cut();
+        world.actions(world.human, USES, Covered::All)
+    };
+    let mut cases = vec![sound(shape, &cut(), "sound"), grant(shape, &roomy())];
+    if claims > 0 {
+        cases.push(revoke(shape, &cut()));
+    }
+    cases.push(gate(shape, &cut(), "32 uses", uses));
+    cases.push(plan(shape, &cut_for_plan(claims), 4));
+    cases.push(read(shape, &cut()));
+    cases.push(write(shape, &cut()));
+    cases
+}
+
+/// A plan's actors are holders: there is one at least.
+fn cut_for_plan(claims: usize) -> World {
+    world(FULL, Holding { human: 8, machine: 8 }).cut(claims.max(1))
+}

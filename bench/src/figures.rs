@@ -1,0 +1,89 @@
+//! What was measured, and the goals it is held to.
+
+use crate::cases::{self, Case};
+use crate::inputs::{Shape, FULL};
+use crate::measure;
+use guvrendik_model::types::CLAIMS;
+
+/// Turns of each case. The least of so many is steady also where others use the machine.
+const TURNS: usize = 400;
+
+/// Times in nanoseconds.
+pub struct Row {
+    pub name: String,
+    pub shape: Option<Shape>,
+    pub bytes: Option<usize>,
+    pub library: f64,
+    pub model: f64,
+    /// Of the gate: the library's soundness and the model's gate without it.
+    pub parts: Option<[f64; 2]>,
+    /// One copy of a register, taken in the same turns.
+    pub copy: f64,
+}
+
+/// What a call may take.
+pub enum Goal {
+    TwiceTheModel,
+    TwiceTheModelAndFourCopies,
+    /// 1.5 times our soundness and the model's gate without soundness.
+    SoundnessAndGate,
+}
+
+impl Row {
+    fn of(case: Case, copy: &mut measure::Timed<'static>) -> Row {
+        let mut calls = vec![case.library, case.model, std::mem::replace(copy, Box::new(|_| ()))];
+        calls.extend(case.parts.into_iter().flatten());
+        let times = measure::least(&mut calls, TURNS);
+        *copy = calls.swap_remove(2);
+        let (name, shape, bytes) = (case.name, case.shape, case.bytes);
+        let parts = times.get(3).map(|&gate| [times[4], gate]);
+        Row { name, shape, bytes, library: times[0], model: times[1], parts, copy: times[2] }
+    }
+
+    pub fn ratio(&self) -> f64 {
+        self.library / self.model
+    }
+
+    pub fn goal(&self) -> Goal {
+        match (self.shape, self.parts) {
+            (Some(FULL), Some(_)) => Goal::SoundnessAndGate,
+            (None | Some(FULL), _) => Goal::TwiceTheModel,
+            _ => Goal::TwiceTheModelAndFourCopies,
+        }
+    }
+
+    /// The most that the call may take.
+    pub fn allowed(&self) -> f64 {
+        match (self.goal(), self.parts) {
+            (Goal::SoundnessAndGate, Some([soundness, gate])) => 1.5 * (soundness + gate),
+            (Goal::TwiceTheModelAndFourCopies, _) => 2.0 * self.model + 4.0 * self.copy,
+            _ => 2.0 * self.model,
+        }
+    }
+
+    /// Whether the goal is reached, judged as it is shown: to the second place.
+    pub fn reached(&self) -> bool {
+        (self.library / self.allowed() * 100.0).round() <= 100.0
+    }
+}
+
+/// The cases by their number of claims.
+pub struct Growth {
+    pub claims: usize,
+    pub rows: Vec<Row>,
+}
+
+pub struct Figures {
+    pub rows: Vec<Row>,
+    pub growth: Vec<Growth>,
+}
+
+impl Figures {
+    pub fn measure() -> Figures {
+        let copy = &mut cases::copy();
+        let mut rows = |cases: Vec<Case>| -> Vec<Row> { cases.into_iter().map(|case| Row::of(case, copy)).collect() };
+        let growth =
+            (0..=CLAIMS).step_by(32).map(|claims| Growth { claims, rows: rows(cases::grown(claims)) }).collect();
+        Figures { rows: rows(cases::all()), growth }
+    }
+}

@@ -1,0 +1,296 @@
+//! What the calls are timed on, the same in every run.
+
+use crate::random::Random;
+use guvrendik_model::model::{Model, Sound};
+use guvrendik_model::types::*;
+
+/// How many different inputs a call goes through in turn.
+pub const VARIED: usize = 16;
+
+/// The moment of every grant and action. Every claim is live then.
+pub const NOW: u64 = 1_700_000_000;
+
+#[derive(Clone, Copy, PartialEq, Eq)]
+pub struct Shape {
+    pub actors: usize,
+    pub resources: usize,
+    pub claims: usize,
+}
+
+pub const SMALL: Shape = Shape { actors: 4, resources: 4, claims: 8 };
+pub const MEDIUM: Shape = Shape { actors: 16, resources: 16, claims: 64 };
+pub const FULL: Shape = Shape { actors: ACTORS, resources: RESOURCES, claims: CLAIMS };
+pub const SHAPES: [Shape; 3] = [SMALL, MEDIUM, FULL];
+
+impl Shape {
+    pub fn name(&self) -> String {
+        format!("({}, {}, {})", self.actors, self.resources, self.claims)
+    }
+}
+
+/// How many claims the acting human and the acting machine hold.
+#[derive(Clone, Copy)]
+pub struct Holding {
+    pub human: usize,
+    pub machine: usize,
+}
+
+/// A sound register, and who acts in it.
+pub struct World {
+    pub register: Box<Register>,
+    pub human: u32,
+    /// Owned by the human.
+    pub machine: u32,
+    /// What the human holds, in the order of the list. The machine holds the same where it holds as many.
+    held: Vec<Usage>,
+}
+
+fn ids(random: &mut Random, count: usize) -> Vec<u32> {
+    let mut ids = Vec::with_capacity(count);
+    while ids.len() < count {
+        let id = random.between(1, ID_MAX as usize) as u32;
+        if !ids.contains(&id) {
+            ids.push(id);
+        }
+    }
+    ids
+}
+
+/// Folders in folders: four to a laboratory.
+fn path(at: usize) -> Vec<u8> {
+    let folders = ["", "/reports", "/reports/2024", "/reports/2024/blood-panel"];
+    format!("/delivery/site-{:02}{}", at / folders.len(), folders[at % folders.len()]).into_bytes()
+}
+
+/// A register of this shape. The claims of the acting two stand evenly among those of the others, which are in chains.
+pub fn world(shape: Shape, holding: Holding) -> World {
+    let random = &mut Random::new(7);
+    let mut register = Box::new(Register::EMPTY);
+    let actors = ids(random, shape.actors);
+    let [keeper, human, machine] = [actors[0], actors[1], actors[2]];
+    for (at, &id) in actors.iter().enumerate() {
+        let is_machine = at == 2 || at > 3 && random.chance(40);
+        let (kind, owner) = if is_machine { (MACHINE, human) } else { (HUMAN, 0) };
+        register.actors.push(Actor { id, kind, owner });
+    }
+    for (at, id) in ids(random, shape.resources).into_iter().enumerate() {
+        let path = path(at);
+        let mut resource = Resource { id, is_public: 0, keeper, len: path.len(), ..Resource::ZERO };
+        resource.path[..path.len()].copy_from_slice(&path);
+        register.resources.push(resource);
+    }
+    let mut held = Vec::new();
+    let mut machine_held = 0;
+    for (at, id) in ids(random, shape.claims).into_iter().enumerate() {
+        let claim = if (at + 1) * holding.human / shape.claims > held.len() {
+            let usage = usage(&register, held.len());
+            held.push(usage);
+            root(&register, id, human, usage)
+        } else if ((at + 1) * holding.machine).div_ceil(shape.claims) > machine_held {
+            machine_held += 1;
+            root(&register, id, machine, usage(&register, machine_held - 1))
+        } else {
+            others(random, &register, id, &actors[3..])
+        };
+        register.claims.push(claim);
+    }
+    assert_eq!((held.len(), machine_held), (holding.human, holding.machine));
+    assert!(Sound::of(&register).is_some() && register.claims.count == shape.claims);
+    World { register, human, machine, held }
+}
+
+/// The use that the holder's claim of this number is for: by resource, then by right.
+fn usage(register: &Register, number: usize) -> Usage {
+    let resources = register.resources.count;
+    Usage { resource: register.resources.list[number % resources].id, right: 1 + (number / resources) as u32 }
+}
+
+fn root(register: &Register, id: u32, holder: u32, usage: Usage) -> Claim {
+    Claim {
+        id,
+        parent: 0,
+        grantor: register.actors.list[0].id,
+        holder,
+        resource: usage.resource,
+        rights: 1 << usage.right,
+        weight: 500,
+        expiry: if id & 1 == 0 { 0 } else { MOMENT_MAX },
+    }
+}
+
+/// A claim of someone else: one in five a root, the others under one that stands, where the rules leave some.
+fn others(random: &mut Random, register: &Register, id: u32, actors: &[u32]) -> Claim {
+    let claims = &register.claims.list[..register.claims.count];
+    let tries = if random.chance(20) { 0 } else { 40 };
+    for _ in 0..tries {
+        // Under one of the last, so that chains are long.
+        let Some(parent) = claims.len().checked_sub(1 + random.below(6)).map(|at| &claims[at]) else {
+            break;
+        };
+        let claim = Claim {
+            id,
+            parent: parent.id,
+            grantor: parent.holder,
+            holder: *random.pick(actors),
+            rights: parent.rights & !NOT_BY_MACHINE,
+            ..*parent
+        };
+        if Model::default().grantable(register, &claim, NOW).is_ok() {
+            return claim;
+        }
+    }
+    let resource = random.pick(&register.resources.list[..register.resources.count]).id;
+    let holder = *random.pick(actors);
+    Claim { rights: RIGHTS_MAX & !(1 << 16), ..root(register, id, holder, Usage { resource, right: 0 }) }
+}
+
+/// A full register whose chains are as long as the rules allow, and stand in each other's way: the first of each, then the second
+/// of each, and so on.
+pub fn deep() -> World {
+    const CHAINS: usize = CLAIMS / (HOPS + 1);
+    let mut world = world(FULL, Holding { human: 1, machine: 0 }).cut(0);
+    let humans: Vec<u32> =
+        world.register.actors.list.iter().filter(|actor| actor.kind == HUMAN).map(|actor| actor.id).collect();
+    for (at, id) in ids(&mut Random::new(17), CLAIMS).into_iter().enumerate() {
+        // The first human is the keeper, who grants the roots.
+        let holder = humans[1 + at / CHAINS % (HOPS + 1)];
+        let claim = match at.checked_sub(CHAINS).filter(|_| at / CHAINS <= HOPS) {
+            Some(above) => {
+                let parent = &world.register.claims.list[above];
+                Claim { id, parent: parent.id, grantor: parent.holder, holder, ..*parent }
+            }
+            None => {
+                let resource = world.register.resources.list[at % RESOURCES].id;
+                Claim { rights: RIGHTS_MAX, ..root(&world.register, id, holder, Usage { resource, right: 0 }) }
+            }
+        };
+        world.register.claims.push(claim);
+    }
+    assert!(Sound::of(&world.register).is_some_and(|sound| sound.hops(CHAINS * HOPS) == HOPS));
+    world
+}
+
+/// Whether the uses of an action are covered.
+#[derive(Clone, Copy, PartialEq, Eq)]
+pub enum Covered {
+    All,
+    None,
+}
+
+impl World {
+    /// Actions with this many uses, spread over what the human holds.
+    pub fn actions(&self, actor: u32, used: usize, covered: Covered) -> Vec<Action> {
+        let action = |number: usize| {
+            let mut action = Action { actor, now: NOW, used, ..Action::ZERO };
+            for (at, usage) in action.uses[..used].iter_mut().enumerate() {
+                // A single use is of the last ones held.
+                let step = if used == 1 { self.held.len() - 1 } else { at * self.held.len() / used };
+                *usage = self.held[(step + self.held.len() - number % self.held.len()) % self.held.len()];
+                if covered == Covered::None {
+                    usage.right = RIGHT_MAX;
+                }
+            }
+            action
+        };
+        (0..VARIED).map(action).collect()
+    }
+
+    /// Plans of sixteen actions of all sorts of actors.
+    pub fn plans(&self, used: usize) -> Vec<Plan> {
+        let random = &mut Random::new(11);
+        let register = &self.register;
+        let plan = |_| {
+            let mut plan = Plan { count: ACTIONS, ..Plan::EMPTY };
+            for action in &mut plan.actions {
+                let claim = random.pick(&register.claims.list[..register.claims.count]);
+                *action = Action { actor: claim.holder, now: NOW, used, ..Action::ZERO };
+                for usage in &mut action.uses[..used] {
+                    let resource = random.pick(&register.resources.list[..register.resources.count]).id;
+                    let right = random.below(17) as u32;
+                    *usage = if random.chance(50) {
+                        Usage { resource: claim.resource, right }
+                    } else {
+                        Usage { resource, right }
+                    };
+                }
+            }
+            plan
+        };
+        (0..VARIED).map(plan).collect()
+    }
+
+    /// Grants that are accepted: under claims that stand where the rules leave some, else roots.
+    pub fn grants(&self) -> Vec<Claim> {
+        let random = &mut Random::new(13);
+        let register = &self.register;
+        let actors: Vec<u32> = register.actors.list[..register.actors.count].iter().map(|actor| actor.id).collect();
+        let grant = |number| loop {
+            let id = random.between(1, ID_MAX as usize) as u32;
+            let holder = *random.pick(&actors);
+            let claims = &register.claims.list[..register.claims.count];
+            let mut claim = root(register, id, holder, usage(register, number % 4));
+            if number % 4 != 0 && random.chance(99) && !claims.is_empty() {
+                let parent = random.pick(claims);
+                let rights = parent.rights & !NOT_BY_MACHINE;
+                claim = Claim { id, parent: parent.id, grantor: parent.holder, holder, rights, ..*parent };
+            }
+            if Model::default().grantable(register, &claim, NOW).is_ok() {
+                return claim;
+            }
+        };
+        (0..VARIED).map(grant).collect()
+    }
+
+    /// Revocations that are accepted, as (revoker, claim): of claims all over the list.
+    pub fn revocations(&self) -> Vec<(u32, u32)> {
+        let claims = &self.register.claims.list[..self.register.claims.count];
+        let revocation = |number: usize| {
+            let claim = &claims[number * claims.len() / VARIED];
+            (claim.grantor, claim.id)
+        };
+        (0..VARIED).map(revocation).collect()
+    }
+
+    /// The register without the claims from this number on.
+    pub fn cut(mut self, claims: usize) -> World {
+        self.register.claims.count = claims;
+        self.register.claims.list[claims..].fill(Claim::ZERO);
+        self
+    }
+}
+
+pub fn register_text(register: &Register) -> Vec<u8> {
+    let mut text = vec![0; REGISTER_TEXT];
+    let length = Model::default().write_register(register, &mut text).expect("it is sound and fits");
+    text.truncate(length);
+    text
+}
+
+pub fn action_text(action: &Action) -> Vec<u8> {
+    let mut text =
+        format!("now={}\nactor={}\nflags={}\nuses={}\n", action.now, action.actor, action.flags, action.used);
+    for usage in &action.uses[..action.used] {
+        text += &format!("use={}\nright={}\n", usage.resource, usage.right);
+    }
+    text += &format!("governs={}\n", action.governed);
+    for governed in &action.governs[..action.governed] {
+        text += &format!("govern={governed}\n");
+    }
+    text.into_bytes()
+}
+
+/// Pairs of paths for containment, by name: (name, outer, inner).
+pub fn paths() -> Vec<(&'static str, Vec<u8>, Vec<u8>)> {
+    let folders = |length: usize| -> Vec<u8> { b"/reports-and-more".iter().copied().cycle().take(length).collect() };
+    let within = |length: usize| [&folders(length)[..], b"/x"].concat();
+    let climbing = |length: usize| [&folders(length)[..], b"/.."].concat();
+    vec![
+        ("7 bytes, contained", b"/site-1".to_vec(), b"/site-1/reports".to_vec()),
+        ("16 in 18 bytes, contained", folders(16), within(16)),
+        ("62 in 64 bytes, contained", folders(62), within(62)),
+        ("64 bytes, another folder", folders(64), [&b"/b"[..], &folders(62)].concat()),
+        ("61 in 64 bytes, climbing", folders(61), climbing(61)),
+        ("4,096 bytes, contained", folders(4_096), within(4_096)),
+        ("4,096 slashes", vec![b'/'; 4_096], vec![b'/'; 4_096]),
+    ]
+}

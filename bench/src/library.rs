@@ -1,0 +1,72 @@
+//! The library's calls through shim.c. A large answer's place is the first argument: so it is in x86-64's convention, and in the
+//! library's own code on another processor.
+
+use guvrendik_model::types::*;
+use std::mem::MaybeUninit;
+
+extern "C" {
+    fn bench_sound(register: *const Register) -> Soundness;
+    fn bench_grant(answer: *mut Granted, register: *const Register, claim: *const Claim, now: u64);
+    fn bench_revoke(answer: *mut Revoked, register: *const Register, revoker: u32, claim: u32);
+    fn bench_gate(answer: *mut Verdict, register: *const Register, action: *const Action);
+    fn bench_judge_plan(answer: *mut PlanVerdict, register: *const Register, plan: *const Plan);
+    fn bench_contains(outer: *const u8, outer_len: usize, inner: *const u8, inner_len: usize) -> Containment;
+    fn bench_read_register(answer: *mut RegisterRead, text: *const u8, text_len: usize);
+    fn bench_write_register(register: *const Register, buffer: *mut u8, buffer_len: usize) -> Written;
+    fn bench_read_action(answer: *mut ActionRead, text: *const u8, text_len: usize);
+}
+
+pub fn sound(register: &Register) -> Soundness {
+    // SAFETY: here and below, every pointer is a reference's or a slice's, and the library fills its answer whole.
+    unsafe { bench_sound(register) }
+}
+
+pub fn grant<'a>(answer: &'a mut MaybeUninit<Granted>, register: &Register, claim: &Claim, now: u64) -> &'a Granted {
+    unsafe {
+        bench_grant(answer.as_mut_ptr(), register, claim, now);
+        answer.assume_init_ref()
+    }
+}
+
+pub fn revoke<'a>(answer: &'a mut MaybeUninit<Revoked>, register: &Register, revoker: u32, claim: u32) -> &'a Revoked {
+    unsafe {
+        bench_revoke(answer.as_mut_ptr(), register, revoker, claim);
+        answer.assume_init_ref()
+    }
+}
+
+pub fn gate<'a>(answer: &'a mut MaybeUninit<Verdict>, register: &Register, action: &Action) -> &'a Verdict {
+    unsafe {
+        bench_gate(answer.as_mut_ptr(), register, action);
+        answer.assume_init_ref()
+    }
+}
+
+pub fn judge_plan<'a>(answer: &'a mut MaybeUninit<PlanVerdict>, register: &Register, plan: &Plan) -> &'a PlanVerdict {
+    unsafe {
+        bench_judge_plan(answer.as_mut_ptr(), register, plan);
+        answer.assume_init_ref()
+    }
+}
+
+pub fn contains(outer: &[u8], inner: &[u8]) -> Containment {
+    unsafe { bench_contains(outer.as_ptr(), outer.len(), inner.as_ptr(), inner.len()) }
+}
+
+pub fn read_register<'a>(answer: &'a mut MaybeUninit<RegisterRead>, text: &[u8]) -> &'a RegisterRead {
+    unsafe {
+        bench_read_register(answer.as_mut_ptr(), text.as_ptr(), text.len());
+        answer.assume_init_ref()
+    }
+}
+
+pub fn write_register(register: &Register, buffer: &mut [u8]) -> Written {
+    unsafe { bench_write_register(register, buffer.as_mut_ptr(), buffer.len()) }
+}
+
+pub fn read_action<'a>(answer: &'a mut MaybeUninit<ActionRead>, text: &[u8]) -> &'a ActionRead {
+    unsafe {
+        bench_read_action(answer.as_mut_ptr(), text.as_ptr(), text.len());
+        answer.assume_init_ref()
+    }
+}
