@@ -2,6 +2,7 @@
 
 use crate::random::Random;
 use guvrendik_model::model::{Model, Sound};
+pub use guvrendik_model::shapes::*;
 use guvrendik_model::types::*;
 
 /// How many different inputs a call goes through in turn.
@@ -10,23 +11,7 @@ pub const VARIED: usize = 16;
 /// The moment of every grant and action. Every claim is live then.
 pub const NOW: u64 = 1_700_000_000;
 
-#[derive(Clone, Copy, PartialEq, Eq)]
-pub struct Shape {
-    pub actors: usize,
-    pub resources: usize,
-    pub claims: usize,
-}
-
-pub const SMALL: Shape = Shape { actors: 4, resources: 4, claims: 8 };
-pub const MEDIUM: Shape = Shape { actors: 16, resources: 16, claims: 64 };
-pub const FULL: Shape = Shape { actors: ACTORS, resources: RESOURCES, claims: CLAIMS };
 pub const SHAPES: [Shape; 3] = [SMALL, MEDIUM, FULL];
-
-impl Shape {
-    pub fn name(&self) -> String {
-        format!("({}, {}, {})", self.actors, self.resources, self.claims)
-    }
-}
 
 /// How many claims the acting human and the acting machine hold.
 #[derive(Clone, Copy)]

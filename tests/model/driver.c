@@ -335,6 +335,21 @@ static void do_read_action(payload *p) {
     answer_marked(marks | errno_mark(), got, sizeof *got);
 }
 
+/* Keeps what a call wrote at the first placement, and marks where it wrote something else at the second. */
+static uint32_t written_mark(uint8_t *first, const uint8_t *buffer, size_t room, placement where) {
+    if (where == AT_END) {
+        memcpy(first, buffer, room);
+        return 0;
+    }
+    return room > 0 && memcmp(first, buffer, room) != 0 ? PLACES_DIFFER : 0;
+}
+
+static void answer_written(uint32_t marks, const guvrendik_written got[2], const uint8_t *first, size_t room) {
+    marks |= memcmp(&got[0], &got[1], sizeof *got) == 0 ? 0 : PLACES_DIFFER;
+    answer_marked(marks | errno_mark(), got, sizeof *got);
+    answer(first, room);
+}
+
 static void do_write_register(payload *p) {
     static uint8_t first[ROOM];
     size_t room = take64(p);
@@ -345,15 +360,9 @@ static void do_write_register(payload *p) {
         uint8_t *buffer = lend_buffer(arena_one, room, fill, where);
         got[where] = guvrendik_write_register(current, buffer, room);
         marks |= buffer_mark(arena_one, buffer, room, where);
-        if (where == AT_END) {
-            memcpy(first, buffer, room);
-        } else if (room > 0 && memcmp(first, buffer, room) != 0) {
-            marks |= PLACES_DIFFER;
-        }
+        marks |= written_mark(first, buffer, room, where);
     }
-    marks |= memcmp(&got[0], &got[1], sizeof *got) == 0 ? 0 : PLACES_DIFFER;
-    answer_marked(marks | errno_mark(), got, sizeof *got);
-    answer(first, room);
+    answer_written(marks, got, first, room);
 }
 
 static void do_verdict_text(payload *p) {
@@ -370,15 +379,9 @@ static void do_verdict_text(payload *p) {
         got[where] = guvrendik_verdict_text(one, register_len, two, action_len, buffer, room);
         marks |= input_mark(one, register_text, register_len) | input_mark(two, action_text, action_len);
         marks |= buffer_mark(arena_three, buffer, room, where);
-        if (where == AT_END) {
-            memcpy(first, buffer, room);
-        } else if (room > 0 && memcmp(first, buffer, room) != 0) {
-            marks |= PLACES_DIFFER;
-        }
+        marks |= written_mark(first, buffer, room, where);
     }
-    marks |= memcmp(&got[0], &got[1], sizeof *got) == 0 ? 0 : PLACES_DIFFER;
-    answer_marked(marks | errno_mark(), got, sizeof *got);
-    answer(first, room);
+    answer_written(marks, got, first, room);
 }
 
 /* ---- Structs passed through and back ---- */

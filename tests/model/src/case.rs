@@ -2,15 +2,16 @@
 
 use guvrendik_model::model::paths::contains;
 use guvrendik_model::model::{Model, Refusal};
+use guvrendik_model::requests::{put_request, Request};
 use guvrendik_model::types::*;
 use guvrendik_model::wire::Wire;
 use std::mem::size_of;
 
-/// A call. Those about a register are made on the session's register as it stands.
+/// A call. Those about a register are made on the script's register as it stands.
 #[derive(Clone, Debug, PartialEq, Eq)]
 pub enum Call {
     Sound,
-    /// With `keep`, the answer's register is the session's from then on.
+    /// With `keep`, the answer's register is the script's from then on.
     Grant {
         claim: Claim,
         now: u64,
@@ -44,7 +45,7 @@ pub enum Call {
 
 /// Calls in order, on a register where one is given.
 #[derive(Clone, Debug, PartialEq, Eq)]
-pub struct Session {
+pub struct Script {
     pub register: Option<Box<Register>>,
     pub calls: Vec<Call>,
 }
@@ -91,39 +92,9 @@ pub fn outcome_name(outcome: Outcome) -> String {
     }
 }
 
-/// The requests of the driver, by the numbers of `driver.c`.
-#[derive(Clone, Copy)]
-#[repr(u32)]
-pub enum Request {
-    Load = 1,
-    Sound,
-    Grant,
-    Revoke,
-    Gate,
-    Plan,
-    Contains,
-    ReadRegister,
-    WriteRegister,
-    ReadAction,
-    VerdictText,
-    Boundary,
-    Threads,
-    Stack,
-}
-
-/// Appends a request whose bytes the closure puts.
-pub fn put_request(out: &mut Vec<u8>, request: Request, put: impl FnOnce(&mut Vec<u8>)) {
-    (request as u32).put(out);
-    0u32.put(out);
-    let start = out.len();
-    put(out);
-    let size = (out.len() - start) as u32;
-    out[start - 4..start].copy_from_slice(&size.to_le_bytes());
-}
-
-impl Session {
+impl Script {
     pub fn alone(call: Call) -> Self {
-        Session { register: None, calls: vec![call] }
+        Script { register: None, calls: vec![call] }
     }
 
     pub fn request(&self, out: &mut Vec<u8>) {

@@ -1,11 +1,13 @@
-//! The comparison: sessions go to the driver in batches, and each whole answer is held against the model's.
+//! The comparison: scripts go to the driver in batches, and each whole answer is held against the model's.
 
-use crate::case::{outcome_name, put_request, Call, Outcome, Request, Session, CALLS, NAMES};
+use crate::case::{outcome_name, Call, Outcome, Script, CALLS, NAMES};
 use crate::driver::Driver;
 use crate::generate::random::Random;
 use crate::generate::{actions, changes, registers, texts};
 use crate::{saved, shrink};
 use guvrendik_model::model::Model;
+use guvrendik_model::requests::{put_request, Request, STACK_ORDER};
+use guvrendik_model::shapes::*;
 use guvrendik_model::types::*;
 use guvrendik_model::wire::Wire;
 use std::collections::BTreeMap;
@@ -19,18 +21,18 @@ const BATCH: usize = 2 << 20;
 /// How many differences are made smaller and saved; the rest are only counted.
 const SHOWN: usize = 5;
 
-/// Where a session's answer was not the model's.
+/// Where a script's answer was not the model's.
 pub struct Difference {
-    /// The call's position in the session.
+    /// The call's position in the script.
     pub call: usize,
     pub expected: Vec<u8>,
     /// `None` where the driver died.
     pub got: Option<Vec<u8>>,
 }
 
-/// A session that showed a difference.
+/// A script that showed a difference.
 pub struct Finding {
-    pub session: Session,
+    pub script: Script,
     pub difference: Difference,
 }
 
@@ -51,16 +53,16 @@ pub struct Comparison<'c> {
     pub tally: Tally,
 }
 
-/// The next sessions, up to a batch.
-fn next_batch(sessions: &mut impl Iterator<Item = Session>) -> Vec<Session> {
+/// The next scripts, up to a batch.
+fn next_batch(scripts: &mut impl Iterator<Item = Script>) -> Vec<Script> {
     let mut size = 0;
     let mut batch = Vec::new();
     while size < BATCH {
-        let Some(session) = sessions.next() else {
+        let Some(script) = scripts.next() else {
             break;
         };
-        size += size_of::<Register>() + session.calls.iter().map(Call::answer_size).sum::<usize>();
-        batch.push(session);
+        size += size_of::<Register>() + script.calls.iter().map(Call::answer_size).sum::<usize>();
+        batch.push(script);
     }
     batch
 }
@@ -70,14 +72,14 @@ impl<'c> Comparison<'c> {
         Ok(Comparison { model, command, driver: Driver::start(command)?, tally: Tally::default() })
     }
 
-    /// Compares the sessions until there are `most` findings, and answers these. While the driver works on one batch, the model
+    /// Compares the scripts until there are `most` findings, and answers these. While the driver works on one batch, the model
     /// works on the one before.
-    pub fn run(&mut self, mut sessions: impl Iterator<Item = Session>, most: usize) -> io::Result<Vec<Finding>> {
+    pub fn run(&mut self, mut scripts: impl Iterator<Item = Script>, most: usize) -> io::Result<Vec<Finding>> {
         let mut findings = Vec::new();
-        let mut sent = next_batch(&mut sessions);
+        let mut sent = next_batch(&mut scripts);
         self.send(&sent);
         while !sent.is_empty() {
-            let next = next_batch(&mut sessions);
+            let next = next_batch(&mut scripts);
             self.send(&next);
             if !self.check(&sent, &mut findings)? {
                 // The next one was lost with the driver.
@@ -92,20 +94,20 @@ impl<'c> Comparison<'c> {
         Ok(findings)
     }
 
-    fn send(&self, sessions: &[Session]) {
+    fn send(&self, scripts: &[Script]) {
         let mut requests = Vec::new();
-        sessions.iter().for_each(|session| session.request(&mut requests));
+        scripts.iter().for_each(|script| script.request(&mut requests));
         self.driver.send(requests);
     }
 
-    /// Reads the answers to a batch that was sent. `false` where the driver died over it; then each session was tried alone.
-    fn check(&mut self, batch: &[Session], findings: &mut Vec<Finding>) -> io::Result<bool> {
+    /// Reads the answers to a batch that was sent. `false` where the driver died over it; then each script was tried alone.
+    fn check(&mut self, batch: &[Script], findings: &mut Vec<Finding>) -> io::Result<bool> {
         let before = (self.tally.passed, self.tally.failed, self.tally.calls);
         let known = findings.len();
-        for session in batch {
-            match self.check_answers(session) {
+        for script in batch {
+            match self.check_answers(script) {
                 Ok(None) => (),
-                Ok(Some(difference)) => findings.push(Finding { session: session.clone(), difference }),
+                Ok(Some(difference)) => findings.push(Finding { script: script.clone(), difference }),
                 Err(_) => {
                     (self.tally.passed, self.tally.failed, self.tally.calls) = before;
                     findings.truncate(known);
@@ -118,11 +120,11 @@ impl<'c> Comparison<'c> {
         Ok(true)
     }
 
-    /// Sends each session of a batch alone, to find those that the driver dies of.
-    fn check_singly(&mut self, batch: &[Session], findings: &mut Vec<Finding>) -> io::Result<()> {
-        for session in batch {
-            if let Some(difference) = self.ask(session)? {
-                findings.push(Finding { session: session.clone(), difference });
+    /// Sends each script of a batch alone, to find those that the driver dies of.
+    fn check_singly(&mut self, batch: &[Script], findings: &mut Vec<Finding>) -> io::Result<()> {
+        for script in batch {
+            if let Some(difference) = self.ask(script)? {
+                findings.push(Finding { script: script.clone(), difference });
             }
         }
         Ok(())
@@ -133,26 +135,26 @@ impl<'c> Comparison<'c> {
         Ok(())
     }
 
-    /// Sends one session and compares its answers. A driver that dies is a difference too.
-    pub fn ask(&mut self, session: &Session) -> io::Result<Option<Difference>> {
-        self.send(std::slice::from_ref(session));
-        match self.check_answers(session) {
+    /// Sends one script and compares its answers. A driver that dies is a difference too.
+    pub fn ask(&mut self, script: &Script) -> io::Result<Option<Difference>> {
+        self.send(std::slice::from_ref(script));
+        match self.check_answers(script) {
             Ok(difference) => Ok(difference),
             Err(call) => {
                 self.tally.failed += 1;
                 self.restart()?;
-                Ok(Some(Difference { call, expected: self.expected(session, call), got: None }))
+                Ok(Some(Difference { call, expected: self.expected(script, call), got: None }))
             }
         }
     }
 
-    /// Reads the answers to a session that was sent, all of them, and answers the first that differs: after it the two may stand
+    /// Reads the answers to a script that was sent, all of them, and answers the first that differs: after it the two may stand
     /// at different registers. `Err` with the call's position where the driver died.
-    fn check_answers(&mut self, session: &Session) -> Result<Option<Difference>, usize> {
-        let mut state = session.start();
+    fn check_answers(&mut self, script: &Script) -> Result<Option<Difference>, usize> {
+        let mut state = script.start();
         let mut found: Option<Difference> = None;
         let (mut expected, mut got) = (Vec::new(), Vec::new());
-        for (position, call) in session.calls.iter().enumerate() {
+        for (position, call) in script.calls.iter().enumerate() {
             self.driver.receive(call.answer_size(), &mut got).map_err(|_| position)?;
             if found.is_some() {
                 continue;
@@ -171,11 +173,11 @@ impl<'c> Comparison<'c> {
         Ok(found)
     }
 
-    /// The model's answer to one call of a session.
-    fn expected(&self, session: &Session, position: usize) -> Vec<u8> {
-        let mut state = session.start();
+    /// The model's answer to one call of a script.
+    fn expected(&self, script: &Script, position: usize) -> Vec<u8> {
+        let mut state = script.start();
         let mut answer = Vec::new();
-        for call in &session.calls[..=position] {
+        for call in &script.calls[..=position] {
             answer.clear();
             call.answer(&self.model, &mut state, &mut answer);
         }
@@ -186,21 +188,21 @@ impl<'c> Comparison<'c> {
     /// the difference does not show again.
     pub fn reduce(&mut self, finding: Finding) -> io::Result<Finding> {
         let tally = std::mem::take(&mut self.tally);
-        let alone = self.alone(&finding.session, finding.difference.call);
-        let start = if self.ask(&alone)?.is_some() { alone } else { finding.session.clone() };
+        let alone = self.alone(&finding.script, finding.difference.call);
+        let start = if self.ask(&alone)?.is_some() { alone } else { finding.script.clone() };
         let mut broken = None;
-        let session = shrink::shrink(start, |smaller| match self.ask(smaller) {
+        let script = shrink::shrink(start, |smaller| match self.ask(smaller) {
             Ok(difference) => difference.is_some(),
             Err(error) => {
                 broken = Some(error);
                 false
             }
         });
-        let again = self.ask(&session)?;
+        let again = self.ask(&script)?;
         self.tally = tally;
         match (broken, again) {
             (Some(error), _) => Err(error),
-            (None, Some(difference)) => Ok(Finding { session, difference }),
+            (None, Some(difference)) => Ok(Finding { script, difference }),
             (None, None) => {
                 println!("a difference that did not show again:");
                 Ok(finding)
@@ -208,19 +210,19 @@ impl<'c> Comparison<'c> {
         }
     }
 
-    /// One call of a session with the register that it is made on.
-    fn alone(&self, session: &Session, position: usize) -> Session {
-        let mut state = session.start();
+    /// One call of a script with the register that it is made on.
+    fn alone(&self, script: &Script, position: usize) -> Script {
+        let mut state = script.start();
         let mut answer = Vec::new();
-        for call in &session.calls[..position] {
+        for call in &script.calls[..position] {
             answer.clear();
             call.answer(&self.model, &mut state, &mut answer);
         }
-        let register = session.register.as_ref().map(|_| Box::new(state));
-        Session { register, calls: vec![session.calls[position].clone()] }
+        let register = script.register.as_ref().map(|_| Box::new(state));
+        Script { register, calls: vec![script.calls[position].clone()] }
     }
 
-    /// Replays the saved sessions of a folder, in the order of their names.
+    /// Replays the saved scripts of a folder, in the order of their names.
     pub fn replay(&mut self, folder: &Path) -> io::Result<()> {
         let mut files: Vec<PathBuf> = match std::fs::read_dir(folder) {
             Ok(entries) => entries.map(|entry| Ok(entry?.path())).collect::<io::Result<_>>()?,
@@ -232,14 +234,14 @@ impl<'c> Comparison<'c> {
         for file in &files {
             let failed = self.tally.failed;
             match saved::read(&std::fs::read_to_string(file)?) {
-                Ok(session) if saved::read(&saved::write(&session)).as_ref() != Ok(&session) => {
+                Ok(script) if saved::read(&saved::write(&script)).as_ref() != Ok(&script) => {
                     println!("{}: not read as it is written", file.display());
                     self.tally.failed += 1;
                 }
-                Ok(session) => {
-                    if let Some(difference) = self.ask(&session)? {
+                Ok(script) => {
+                    if let Some(difference) = self.ask(&script)? {
                         println!("{}: still differs", file.display());
-                        print!("{}", remarks(&session, &difference));
+                        print!("{}", remarks(&script, &difference));
                         self.tally.failed = failed + 1;
                     }
                 }
@@ -257,10 +259,10 @@ impl<'c> Comparison<'c> {
     pub fn report(&mut self, findings: Vec<Finding>, folder: &Path, seed: u64) -> io::Result<()> {
         let more = findings.len().saturating_sub(SHOWN);
         for finding in findings.into_iter().take(SHOWN) {
-            let Finding { session, difference } = self.reduce(finding)?;
-            let text = saved::write(&session);
-            let remarks = remarks(&session, &difference);
-            let name = format!("{}-{:08x}.case", session.calls[difference.call].name(), hash(&text));
+            let Finding { script, difference } = self.reduce(finding)?;
+            let text = saved::write(&script);
+            let remarks = remarks(&script, &difference);
+            let name = format!("{}-{:08x}.case", script.calls[difference.call].name(), hash(&text));
             let file = folder.join(name);
             std::fs::create_dir_all(folder)?;
             std::fs::write(&file, format!("# Found with seed {seed}.\n{remarks}{text}"))?;
@@ -268,7 +270,7 @@ impl<'c> Comparison<'c> {
             print!("{remarks}{text}");
         }
         if more > 0 {
-            println!("and {more} sessions more with a difference");
+            println!("and {more} scripts more with a difference");
         }
         Ok(())
     }
@@ -303,7 +305,7 @@ impl<'c> Comparison<'c> {
 
     /// Structs with a number of its own in every field, passed through and back.
     pub fn boundary(&mut self, random: &mut Random) -> io::Result<()> {
-        let register = texts::register_text(&registers::sound(random, registers::FULL, false));
+        let register = texts::register_text(&registers::sound(random, FULL, false));
         let action = texts::action_text(&Action {
             actor: 60_001,
             flags: 777,
@@ -327,7 +329,7 @@ impl<'c> Comparison<'c> {
         self.counted("eight threads", Request::Threads, |out| {
             [ROUNDS, INPUTS].put(out);
             for input in 0..INPUTS {
-                let shape = if input == 0 { registers::FULL } else { registers::MEDIUM };
+                let shape = if input == 0 { FULL } else { MEDIUM };
                 put_input(random, shape, out);
             }
         })
@@ -335,25 +337,13 @@ impl<'c> Comparison<'c> {
 
     /// Prints how much stack each call took at most, over inputs from small to full, and counts it where it is no more than the header says.
     pub fn stack(&mut self, random: &mut Random) -> io::Result<()> {
-        const ORDER: [&str; CALLS] = [
-            "sound",
-            "grant",
-            "revoke",
-            "gate",
-            "judge_plan",
-            "contains",
-            "write_register",
-            "read_register",
-            "read_action",
-            "verdict_text",
-        ];
         let mut most = [0; CALLS];
-        for shape in [registers::SMALL, registers::MEDIUM, registers::FULL].repeat(8) {
+        for shape in [SMALL, MEDIUM, FULL].repeat(8) {
             let answer = self.special(Request::Stack, CALLS * size_of::<u64>(), |out| put_input(random, shape, out))?;
             let used = <[u64; CALLS]>::take(&mut &answer[..]);
             most = std::array::from_fn(|call| most[call].max(used[call]));
         }
-        for (name, used) in ORDER.iter().zip(most) {
+        for (name, used) in STACK_ORDER.iter().zip(most) {
             let said = said_stack(name);
             println!("stack of guvrendik_{name}: {used} bytes, and the header says {said}");
             self.tally.passed += u64::from(used <= said);
@@ -372,7 +362,7 @@ fn said_stack(name: &str) -> u64 {
 }
 
 /// An input for all ten calls at once.
-fn put_input(random: &mut Random, shape: registers::Shape, out: &mut Vec<u8>) {
+fn put_input(random: &mut Random, shape: Shape, out: &mut Vec<u8>) {
     let register = registers::sound(random, shape, false);
     let action = actions::action(random, &register);
     let text = texts::action_text(&action);
@@ -415,10 +405,10 @@ impl Tally {
 }
 
 /// What differs, as remarks for a saved file.
-fn remarks(session: &Session, difference: &Difference) -> String {
+fn remarks(script: &Script, difference: &Difference) -> String {
     const LINES: usize = 12;
-    let call = &session.calls[difference.call];
-    let mut out = format!("# Call {} of {}, guvrendik_{}:\n", difference.call + 1, session.calls.len(), call.name());
+    let call = &script.calls[difference.call];
+    let mut out = format!("# Call {} of {}, guvrendik_{}:\n", difference.call + 1, script.calls.len(), call.name());
     let Some(got) = &difference.got else {
         out.push_str("# the driver died.\n");
         return out;

@@ -5,5 +5,7 @@
 pub mod exports;
 pub mod layout;
 pub mod model;
+pub mod requests;
+pub mod shapes;
 pub mod types;
 pub mod wire;

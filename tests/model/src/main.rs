@@ -23,7 +23,7 @@ const SEED: u64 = 20_260_101;
 const ROUNDS: usize = 1_800;
 /// A fault has to be found in so many rounds.
 const FAULT_ROUNDS: usize = 60;
-/// After so many sessions with a difference, a run ends.
+/// After so many scripts with a difference, a run ends.
 const ENOUGH: usize = 40;
 
 struct Options {
@@ -90,7 +90,7 @@ fn main() -> ExitCode {
     }
 }
 
-/// Everything: the boundary, what was found before, the fixed and the random sessions, and the faults.
+/// Everything: the boundary, what was found before, the fixed and the random scripts, and the faults.
 fn run(options: &Options) -> io::Result<(u64, u64)> {
     println!("seed {}, {} rounds", options.seed, options.rounds);
     if let Some((header, model)) = layout::difference() {
@@ -135,7 +135,7 @@ fn find_fault(options: &Options, fault: Fault) -> io::Result<(Option<&'static st
     let mut generator = Generator::new(options.seed);
     let rounds = (0..FAULT_ROUNDS).flat_map(move |round| generator.round(round));
     let findings = comparison.run(rounds, 1)?;
-    let first = findings.first().map(|finding| finding.session.calls[finding.difference.call].name());
+    let first = findings.first().map(|finding| finding.script.calls[finding.difference.call].name());
     Ok((first, comparison.tally.passed + comparison.tally.failed))
 }
 

@@ -1,21 +1,21 @@
-//! Sessions as readable files: what a difference is saved as, and replayed from.
+//! Scripts as readable files: what a difference is saved as, and replayed from.
 //!
 //! One thing to a line, `#` before a remark. Entries of a list have their position and are left out where all zero, so that also
 //! what stands past a count is there. Bytes are quoted, one line of the file to a line of a text.
 
-use crate::case::{Call, Session};
+use crate::case::{Call, Script};
 use guvrendik_model::types::*;
 use std::fmt::Write as _;
 
 /// A line's `name=value` parts.
 type Parts<'l> = Vec<(&'l str, &'l str)>;
 
-pub fn write(session: &Session) -> String {
+pub fn write(script: &Script) -> String {
     let mut out = String::new();
-    if let Some(register) = &session.register {
+    if let Some(register) = &script.register {
         write_register(register, &mut out);
     }
-    for call in &session.calls {
+    for call in &script.calls {
         write_call(call, &mut out);
     }
     out
@@ -156,20 +156,20 @@ fn unquoted(text: &str) -> Result<Vec<u8>, String> {
 }
 
 /// Reads what `write` wrote. Remarks and empty lines are passed over.
-pub fn read(text: &str) -> Result<Session, String> {
-    let mut session = Session { register: None, calls: Vec::new() };
+pub fn read(text: &str) -> Result<Script, String> {
+    let mut script = Script { register: None, calls: Vec::new() };
     // How many actions of the plan at hand were read.
     let mut planned = 0;
     for (number, line) in text.lines().enumerate() {
         let line = line.trim();
         if !line.is_empty() && !line.starts_with('#') {
-            read_line(line, &mut session, &mut planned).map_err(|why| format!("line {}: {why}", number + 1))?;
+            read_line(line, &mut script, &mut planned).map_err(|why| format!("line {}: {why}", number + 1))?;
         }
     }
-    Ok(session)
+    Ok(script)
 }
 
-fn read_line(line: &str, session: &mut Session, planned: &mut usize) -> Result<(), String> {
+fn read_line(line: &str, script: &mut Script, planned: &mut usize) -> Result<(), String> {
     let mut words = line.split_ascii_whitespace();
     let kind = words.next().unwrap_or_default();
     let name = if kind == "call" { words.next().ok_or("a call without a name")? } else { "" };
@@ -180,14 +180,14 @@ fn read_line(line: &str, session: &mut Session, planned: &mut usize) -> Result<(
             register.actors.count = number(&parts, "actors")?;
             register.resources.count = number(&parts, "resources")?;
             register.claims.count = number(&parts, "claims")?;
-            session.register = Some(register);
+            script.register = Some(register);
         }
         "actor" => {
-            *at(&parts, &mut register(session)?.actors.list)? =
+            *at(&parts, &mut register(script)?.actors.list)? =
                 Actor { id: number(&parts, "id")?, kind: number(&parts, "kind")?, owner: number(&parts, "owner")? };
         }
         "resource" => {
-            let resource: &mut Resource = at(&parts, &mut register(session)?.resources.list)?;
+            let resource: &mut Resource = at(&parts, &mut register(script)?.resources.list)?;
             resource.id = number(&parts, "id")?;
             resource.is_public = number(&parts, "public")?;
             resource.keeper = number(&parts, "keeper")?;
@@ -195,10 +195,10 @@ fn read_line(line: &str, session: &mut Session, planned: &mut usize) -> Result<(
             let path = unquoted(value(&parts, "path")?)?;
             resource.path.get_mut(..path.len()).ok_or("a path too long")?.copy_from_slice(&path);
         }
-        "claim" => *at(&parts, &mut register(session)?.claims.list)? = claim(&parts)?,
+        "claim" => *at(&parts, &mut register(script)?.claims.list)? = claim(&parts)?,
         "call" => {
             *planned = 0;
-            session.calls.push(call(name, &parts)?);
+            script.calls.push(call(name, &parts)?);
         }
         "action" => {
             let read = Action {
@@ -210,16 +210,16 @@ fn read_line(line: &str, session: &mut Session, planned: &mut usize) -> Result<(
                 ..Action::ZERO
             };
             *planned += 1;
-            *action(session, *planned)? = read;
+            *action(script, *planned)? = read;
         }
         "use" => {
-            *at(&parts, &mut action(session, *planned)?.uses)? =
+            *at(&parts, &mut action(script, *planned)?.uses)? =
                 Usage { resource: number(&parts, "resource")?, right: number(&parts, "right")? };
         }
-        "govern" => *at(&parts, &mut action(session, *planned)?.governs)? = number(&parts, "actor")?,
+        "govern" => *at(&parts, &mut action(script, *planned)?.governs)? = number(&parts, "actor")?,
         "text" | "register-text" | "action-text" => {
             let bytes = unquoted(value(&parts, "bytes")?)?;
-            text(session, kind)?.extend(bytes);
+            text(script, kind)?.extend(bytes);
         }
         _ => return Err(format!("unknown: {kind}")),
     }
@@ -240,13 +240,13 @@ fn at<'e, T>(parts: &Parts, list: &'e mut [T]) -> Result<&'e mut T, String> {
     list.get_mut(position).ok_or_else(|| "at is too large".to_owned())
 }
 
-fn register(session: &mut Session) -> Result<&mut Register, String> {
-    session.register.as_deref_mut().ok_or_else(|| "no register line before it".to_owned())
+fn register(script: &mut Script) -> Result<&mut Register, String> {
+    script.register.as_deref_mut().ok_or_else(|| "no register line before it".to_owned())
 }
 
 /// The action that the last call's lines are about: of a plan, the `planned`th.
-fn action(session: &mut Session, planned: usize) -> Result<&mut Action, String> {
-    match session.calls.last_mut() {
+fn action(script: &mut Script, planned: usize) -> Result<&mut Action, String> {
+    match script.calls.last_mut() {
         Some(Call::Gate(action)) => Ok(action),
         Some(Call::Plan(plan)) => {
             let position = planned.checked_sub(1).ok_or("no action line before it")?;
@@ -256,8 +256,8 @@ fn action(session: &mut Session, planned: usize) -> Result<&mut Action, String> 
     }
 }
 
-fn text<'s>(session: &'s mut Session, kind: &str) -> Result<&'s mut Vec<u8>, String> {
-    match (session.calls.last_mut(), kind) {
+fn text<'s>(script: &'s mut Script, kind: &str) -> Result<&'s mut Vec<u8>, String> {
+    match (script.calls.last_mut(), kind) {
         (Some(Call::ReadRegister(text) | Call::ReadAction(text)), "text") => Ok(text),
         (Some(Call::VerdictText { register, .. }), "register-text") => Ok(register),
         (Some(Call::VerdictText { action, .. }), "action-text") => Ok(action),
@@ -307,12 +307,12 @@ mod tests {
     use crate::generate::Generator;
 
     #[test]
-    fn a_session_is_read_as_it_was_written() {
+    fn a_script_is_read_as_it_was_written() {
         let mut generator = Generator::new(7);
         for round in 0..40 {
-            for session in generator.round(round) {
-                let text = super::write(&session);
-                assert_eq!(super::read(&text).as_ref(), Ok(&session), "{text}");
+            for script in generator.round(round) {
+                let text = super::write(&script);
+                assert_eq!(super::read(&text).as_ref(), Ok(&script), "{text}");
             }
         }
     }

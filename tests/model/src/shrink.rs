@@ -1,14 +1,14 @@
-//! Makes a session that shows a difference smaller, as long as it still does.
+//! Makes a script that shows a difference smaller, as long as it still does.
 
-use crate::case::{Call, Session};
+use crate::case::{Call, Script};
 use guvrendik_model::types::*;
 
-/// How often a smaller session is tried at most.
+/// How often a smaller script is tried at most.
 const TRIES: usize = 3_000;
 
-/// The smallest session found, by dropping and shortening greedily. `differs` says whether a session still shows a difference.
-pub fn shrink(session: Session, mut differs: impl FnMut(&Session) -> bool) -> Session {
-    let mut best = session;
+/// The smallest script found, by dropping and shortening greedily. `differs` says whether a script still shows a difference.
+pub fn shrink(script: Script, mut differs: impl FnMut(&Script) -> bool) -> Script {
+    let mut best = script;
     let mut tries = 0;
     loop {
         let mut smaller_found = false;
@@ -32,26 +32,26 @@ pub fn shrink(session: Session, mut differs: impl FnMut(&Session) -> bool) -> Se
     }
 }
 
-/// The session after the step with this number, or `None` past the last.
-fn nth_step(session: &Session, mut step: usize) -> Option<Session> {
-    if session.calls.len() > 1 {
-        if step < session.calls.len() {
-            let mut smaller = session.clone();
+/// The script after the step with this number, or `None` past the last.
+fn nth_step(script: &Script, mut step: usize) -> Option<Script> {
+    if script.calls.len() > 1 {
+        if step < script.calls.len() {
+            let mut smaller = script.clone();
             smaller.calls.remove(step);
             return Some(smaller);
         }
-        step -= session.calls.len();
+        step -= script.calls.len();
     }
-    let steps = session.register.as_ref().map_or(0, |register| register_steps(register));
+    let steps = script.register.as_ref().map_or(0, |register| register_steps(register));
     if step < steps {
-        let mut smaller = session.clone();
+        let mut smaller = script.clone();
         step_register(smaller.register.as_deref_mut()?, step);
         return Some(smaller);
     }
     step -= steps;
-    for (at, call) in session.calls.iter().enumerate() {
+    for (at, call) in script.calls.iter().enumerate() {
         if step < call_steps(call) {
-            let mut smaller = session.clone();
+            let mut smaller = script.clone();
             step_call(&mut smaller.calls[at], step);
             return Some(smaller);
         }
@@ -228,10 +228,10 @@ mod tests {
     use crate::generate::Generator;
     use guvrendik_model::model::{Fault, Model};
 
-    /// Whether a model with the fault answers anything in the session otherwise.
-    fn differs(session: &Session, fault: Fault) -> bool {
-        let (mut right, mut wrong) = (session.start(), session.start());
-        session.calls.iter().any(|call| {
+    /// Whether a model with the fault answers anything in the script otherwise.
+    fn differs(script: &Script, fault: Fault) -> bool {
+        let (mut right, mut wrong) = (script.start(), script.start());
+        script.calls.iter().any(|call| {
             let (mut one, mut two) = (Vec::new(), Vec::new());
             call.answer(&Model::default(), &mut right, &mut one);
             call.answer(&Model { fault: Some(fault) }, &mut wrong, &mut two);
@@ -243,8 +243,8 @@ mod tests {
     fn faults_shrink_to_a_few_entries() {
         for (name, fault) in Fault::ALL {
             let mut generator = Generator::new(11);
-            let found = (0..200).flat_map(|round| generator.round(round)).find(|session| differs(session, fault));
-            let small = shrink(found.expect("found in 200 rounds"), |session| differs(session, fault));
+            let found = (0..200).flat_map(|round| generator.round(round)).find(|script| differs(script, fault));
+            let small = shrink(found.expect("found in 200 rounds"), |script| differs(script, fault));
             let claims = small.register.as_ref().map_or(0, |register| register.claims.count);
             assert!(small.calls.len() <= 3 && claims <= 4, "{name}: {}", crate::saved::write(&small));
         }

@@ -456,9 +456,10 @@ fn machine_grants(register: &mut Register, random: &mut Random, right: u32) -> b
 
 #[cfg(test)]
 mod tests {
-    use super::super::registers::{self, MEDIUM, SMALL};
+    use super::super::registers;
     use super::*;
     use guvrendik_model::model::Model;
+    use guvrendik_model::shapes::*;
 
     #[test]
     fn every_defect_fits_and_is_one() {
@@ -466,8 +467,7 @@ mod tests {
         for (name, defect) in DEFECTS {
             let mut fitted = 0;
             for round in 0..60 {
-                let shape =
-                    [SMALL, MEDIUM, registers::FULL, registers::Shape { claims: 200, ..registers::FULL }][round % 4];
+                let shape = [SMALL, MEDIUM, FULL, Shape { claims: 200, ..FULL }][round % 4];
                 let mut register = registers::sound(&mut random, shape, round % 2 == 0);
                 let before = register.clone();
                 if defect(&mut register, &mut random) {

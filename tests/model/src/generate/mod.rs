@@ -1,4 +1,4 @@
-//! What is compared: sessions made from a seed, in rounds that each have something of every kind, so that a run may stop early.
+//! What is compared: scripts made from a seed, in rounds that each have something of every kind, so that a run may stop early.
 
 pub mod actions;
 pub mod changes;
@@ -8,12 +8,13 @@ pub mod random;
 pub mod registers;
 pub mod texts;
 
-use crate::case::{Call, Session};
+use crate::case::{Call, Script};
 use defects::DEFECTS;
 use guvrendik_model::model::Model;
+use guvrendik_model::shapes::*;
 use guvrendik_model::types::*;
 use random::Random;
-use registers::{standing, Shape, EMPTY, FULL, MEDIUM, SMALL};
+use registers::{standing, EMPTY};
 
 pub struct Generator {
     pub random: Random,
@@ -24,25 +25,25 @@ impl Generator {
         Generator { random: Random::new(seed) }
     }
 
-    /// The sessions that are the same in every run: the rule book's texts and all that lies beside them.
-    pub fn fixed(&mut self) -> Vec<Session> {
+    /// The scripts that are the same in every run: the rule book's texts and all that lies beside them.
+    pub fn fixed(&mut self) -> Vec<Script> {
         let (register, action) = texts::case_r();
-        let mut sessions: Vec<Session> = paths::all_short().collect();
-        sessions.push(paths::long());
-        sessions.push(texts::neighbours(&register, Call::ReadRegister));
-        sessions.push(texts::neighbours(&action, Call::ReadAction));
-        sessions.push(texts::counts());
-        sessions.push(texts::large(&mut self.random));
-        sessions.push(Session {
+        let mut scripts: Vec<Script> = paths::all_short().collect();
+        scripts.push(paths::long());
+        scripts.push(texts::neighbours(&register, Call::ReadRegister));
+        scripts.push(texts::neighbours(&action, Call::ReadAction));
+        scripts.push(texts::counts());
+        scripts.push(texts::large(&mut self.random));
+        scripts.push(Script {
             register: Some(registers::longest()),
             calls: [REGISTER_TEXT, 37_731, 37_730, 0].map(|room| Call::WriteRegister { room, fill: 0xEE }).to_vec(),
         });
-        sessions.push(Session::alone(Call::VerdictText { register, action, room: 100, fill: b'#' }));
-        sessions
+        scripts.push(Script::alone(Call::VerdictText { register, action, room: 100, fill: b'#' }));
+        scripts
     }
 
-    /// The sessions of one round.
-    pub fn round(&mut self, round: usize) -> Vec<Session> {
+    /// The scripts of one round.
+    pub fn round(&mut self, round: usize) -> Vec<Script> {
         let shape = self.shape(round);
         let litter = self.random.chance(50);
         let register = registers::sound(&mut self.random, shape, litter);
@@ -51,7 +52,7 @@ impl Generator {
             self.calls(register.clone()),
             self.defect(round),
             self.sequence(register),
-            Session { register: None, calls: (0..18).map(|_| paths::pair(&mut self.random)).collect() },
+            Script { register: None, calls: (0..18).map(|_| paths::pair(&mut self.random)).collect() },
         ]
     }
 
@@ -73,7 +74,7 @@ impl Generator {
     }
 
     /// Calls of every kind that leave the register as it was.
-    fn calls(&mut self, register: Box<Register>) -> Session {
+    fn calls(&mut self, register: Box<Register>) -> Script {
         let random = &mut self.random;
         let mut calls = vec![Call::Sound];
         calls.extend((0..22).map(|_| Call::Gate(actions::action(random, &register))));
@@ -85,11 +86,11 @@ impl Generator {
             let room = texts::room(random, length, REGISTER_TEXT);
             Call::WriteRegister { room, fill: random.word() as u8 }
         }));
-        Session { register: Some(register), calls }
+        Script { register: Some(register), calls }
     }
 
     /// Every call on a register with one defect.
-    fn defect(&mut self, round: usize) -> Session {
+    fn defect(&mut self, round: usize) -> Script {
         let random = &mut self.random;
         let (_, defect) = DEFECTS[round % DEFECTS.len()];
         let register = loop {
@@ -117,11 +118,11 @@ impl Generator {
         if register.actors.count <= ACTORS && register.resources.count <= RESOURCES && register.claims.count <= CLAIMS {
             calls.push(Call::ReadRegister(texts::register_text(&register)));
         }
-        Session { register: Some(register), calls }
+        Script { register: Some(register), calls }
     }
 
     /// Grants and revocations one after the other, each on what the last one left; clocks go back, ids come again.
-    fn sequence(&mut self, register: Box<Register>) -> Session {
+    fn sequence(&mut self, register: Box<Register>) -> Script {
         let random = &mut self.random;
         let model = Model::default();
         let mut state = register.clone();
@@ -138,11 +139,11 @@ impl Generator {
             call.answer(&model, &mut state, &mut answer);
             calls.push(call);
         }
-        Session { register: Some(register), calls }
+        Script { register: Some(register), calls }
     }
 
     /// Readings and printings about the register's text.
-    fn texts(&mut self, register: &Register, round: usize) -> Session {
+    fn texts(&mut self, register: &Register, round: usize) -> Script {
         let random = &mut self.random;
         let base = texts::register_text(register);
         // Fewer of the long ones.
@@ -166,6 +167,6 @@ impl Generator {
             }
             calls.push(texts::verdict_text(random, text, action));
         }
-        Session { register: None, calls }
+        Script { register: None, calls }
     }
 }

@@ -1,10 +1,10 @@
 //! Pairs of paths.
 
 use super::random::Random;
-use crate::case::{Call, Session};
+use crate::case::{Call, Script};
 
 /// Every pair of the paths of up to four bytes out of a letter, a slash and a dot.
-pub fn all_short() -> impl Iterator<Item = Session> {
+pub fn all_short() -> impl Iterator<Item = Script> {
     let mut paths = vec![Vec::new()];
     let mut start = 0;
     for _ in 0..4 {
@@ -21,12 +21,12 @@ pub fn all_short() -> impl Iterator<Item = Session> {
     let inners = paths.clone();
     paths.into_iter().map(move |outer| {
         let calls = inners.iter().map(|inner| Call::Contains { outer: outer.clone(), inner: inner.clone() });
-        Session { register: None, calls: calls.collect() }
+        Script { register: None, calls: calls.collect() }
     })
 }
 
 /// Long ones: of one component, of slashes, of dots, and with a `..` at the very end.
-pub fn long() -> Session {
+pub fn long() -> Script {
     let mut calls = Vec::new();
     for length in [63, 64, 65, 4_096, 65_536] {
         let same = vec![b'a'; length];
@@ -54,7 +54,7 @@ pub fn long() -> Session {
             calls.push(Call::Contains { outer: outer.clone(), inner: inner.clone() });
         }
     }
-    Session { register: None, calls }
+    Script { register: None, calls }
 }
 
 const PARTS: [&[u8]; 14] =

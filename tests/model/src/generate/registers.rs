@@ -1,20 +1,10 @@
 //! Sound registers.
 
 use super::random::Random;
+use guvrendik_model::shapes::*;
 use guvrendik_model::types::*;
 
-/// How many actors, resources and claims a register is to have. Where the rules leave no further claim, it has fewer.
-#[derive(Clone, Copy, Debug)]
-pub struct Shape {
-    pub actors: usize,
-    pub resources: usize,
-    pub claims: usize,
-}
-
 pub const EMPTY: Shape = Shape { actors: 0, resources: 0, claims: 0 };
-pub const SMALL: Shape = Shape { actors: 4, resources: 4, claims: 8 };
-pub const MEDIUM: Shape = Shape { actors: 16, resources: 16, claims: 64 };
-pub const FULL: Shape = Shape { actors: ACTORS, resources: RESOURCES, claims: CLAIMS };
 
 /// The moments that most expiries lie around.
 pub const ABOUT_NOW: u64 = 2_000;

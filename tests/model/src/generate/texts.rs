@@ -2,7 +2,7 @@
 
 use super::random::Random;
 use super::registers::{self, standing};
-use crate::case::{Call, Session};
+use crate::case::{Call, Script};
 use guvrendik_model::types::*;
 use std::io::Write as _;
 
@@ -229,7 +229,7 @@ pub fn spoil(random: &mut Random, text: &mut Vec<u8>) {
 }
 
 /// Every text one step from this one: cut at every byte, each byte changed, each line dropped, doubled and swapped with the next.
-pub fn neighbours(text: &[u8], call: fn(Vec<u8>) -> Call) -> Session {
+pub fn neighbours(text: &[u8], call: fn(Vec<u8>) -> Call) -> Script {
     let mut calls = vec![call(text.to_vec())];
     calls.extend((0..text.len()).map(|at| call(text[..at].to_vec())));
     for at in 0..text.len() {
@@ -246,11 +246,11 @@ pub fn neighbours(text: &[u8], call: fn(Vec<u8>) -> Call) -> Session {
         calls.push(call([before, one, one, two, after].concat()));
         calls.push(call([before, two, one, after].concat()));
     }
-    Session { register: None, calls }
+    Script { register: None, calls }
 }
 
 /// Counts of any length, on a line and at the end of the text.
-pub fn counts() -> Session {
+pub fn counts() -> Script {
     let mut calls = Vec::new();
     let register_starts: [&[u8]; 3] =
         [b"register=1\nactors=", b"register=1\nactors=0\nresources=", b"register=1\nactors=0\nresources=0\nclaims="];
@@ -270,7 +270,7 @@ pub fn counts() -> Session {
             calls.extend(action_starts.map(|start| Call::ReadAction([start, value, end].concat())));
         }
     }
-    Session { register: None, calls }
+    Script { register: None, calls }
 }
 
 /// A register's text, mostly with something wrong.
@@ -304,12 +304,12 @@ pub fn room(random: &mut Random, length: usize, most: usize) -> usize {
 }
 
 /// A full register's text cut and spoiled in some places, and the longest one whole.
-pub fn large(random: &mut Random) -> Session {
+pub fn large(random: &mut Random) -> Script {
     let longest = register_text(&registers::longest());
     let mut calls = vec![Call::ReadRegister(longest.clone())];
     for _ in 0..60 {
         calls.push(Call::ReadRegister(longest[..random.below(longest.len())].to_vec()));
         calls.push(Call::ReadRegister(some_register(random, &longest)));
     }
-    Session { register: None, calls }
+    Script { register: None, calls }
 }
