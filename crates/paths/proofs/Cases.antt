@@ -5,6 +5,8 @@ use mathlib.Core.Bool.{true, false}
 use mathlib.Core.List.{[], _∷_}
 use Rattle.paths.specs.Containment.{slash, dot, same, isEmpty, joined, components, climbing, trimmed, starting, slashed, contained}
 use Rattle.paths.specs.Components.{written, unslashed}
+use Rattle.paths.specs.Pairs.{dotted, paired}
+use Rattle.paths.specs.Trimming.{beneath}
 
 -- `a` is `a`, and neither `b` nor `ab`
 same-cases : (same (97 ∷ []) (97 ∷ []) ≡ true) × (same (97 ∷ []) (98 ∷ []) ≡ false) × (same (97 ∷ []) (97 ∷ 98 ∷ []) ≡ false)
@@ -45,6 +47,19 @@ climbing-no :
 unfolding climbing components same
 climbing-no = (refl, refl, refl, refl, refl)
 
+dotted-cases : (dotted (dot ∷ 97 ∷ []) ≡ true) × (dotted (97 ∷ dot ∷ []) ≡ false) × (dotted [] ≡ false)
+dotted-cases = (refl, refl, refl)
+
+-- in `a..b` and `..` two dots stand next to each other; in `.a.`, `.` and the empty path they do not
+paired-cases :
+    (paired (97 ∷ dot ∷ dot ∷ 98 ∷ []) ≡ true)
+    × (paired (dot ∷ dot ∷ []) ≡ true)
+    × (paired (dot ∷ 97 ∷ dot ∷ []) ≡ false)
+    × (paired (dot ∷ []) ≡ false)
+    × (paired [] ≡ false)
+unfolding paired
+paired-cases = (refl, refl, refl, refl, refl)
+
 -- `a//` is trimmed to `a`, `/` to nothing, and `/a` stays
 trimmed-cases : (trimmed (97 ∷ slash ∷ slash ∷ []) ≡ 97 ∷ []) × (trimmed (slash ∷ []) ≡ []) × (trimmed (slash ∷ 97 ∷ []) ≡ slash ∷ 97 ∷ [])
 unfolding trimmed
@@ -61,6 +76,15 @@ starting-cases = (refl, refl, refl, refl)
 
 slashed-cases : (slashed (slash ∷ 97 ∷ []) ≡ true) × (slashed (97 ∷ slash ∷ []) ≡ false) × (slashed [] ≡ false)
 slashed-cases = (refl, refl, refl)
+
+-- `a` and `a/b` are beneath `a`; `ab` and `b` are not
+beneath-cases :
+    (beneath (97 ∷ []) (97 ∷ []) ≡ true)
+    × (beneath (97 ∷ []) (97 ∷ slash ∷ 98 ∷ []) ≡ true)
+    × (beneath (97 ∷ []) (97 ∷ 98 ∷ []) ≡ false)
+    × (beneath (97 ∷ []) (98 ∷ []) ≡ false)
+unfolding starting
+beneath-cases = (refl, refl, refl, refl)
 
 -- the empty path contains `x`, `a` contains `a` and `a/b`, `a//` contains `a`, and `/` contains `/x`
 contained-yes :

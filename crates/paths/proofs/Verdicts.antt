@@ -1,38 +1,61 @@
--- Containment by the tests that the code makes behind those on `..`, in their order: an empty outer path, how inner starts, and what
--- follows from the outer path's trimmed length on. Assumes nothing.
+-- Containment by the tests that the code makes, in their order: an empty outer path, the inner path's length, what follows from the outer
+-- path's trimmed length on, how inner starts, and `..` components last. Assumes nothing.
 use mathlib.Core.Path.{_≡_, refl, _∙_}
-use mathlib.Core.Bool.{true, false, _&&_, _||_}
+use mathlib.Core.Bool.{true, false, not, _&&_, _||_, and-true, and-false}
 use mathlib.Core.List.{List, [], _∷_}
-use Prim.Native.Nat.{ℕ, _-_, _≤_}
+use Prim.Native.Nat.{ℕ, _-_, _≤_, _<_}
 use native.Mathlib.Omega.{arith}
 use lib.ListN.{length, take, drop, length-drop}
 use lib.Seq.{length-take-le, take-all}
 use Rattle.paths.specs.Containment.{isEmpty, slashed, climbing, trimmed, starting, contained}
-use Rattle.paths.specs.Trimming.{starting-length}
-use Rattle.paths.specs.Laws.{contained-empty, contained-same}
+use Rattle.paths.specs.Trimming.{beneath}
+use Rattle.paths.specs.Laws.{contained-parts}
+use Rattle.paths.proofs.Walks.{starting-short}
 
-pub outer-empty : (p q : List ℕ) → climbing q ≡ false → length p ≡ 0 → contained p q ≡ true
-outer-empty [] q clean none = contained-empty q clean
-outer-empty (b ∷ p) q clean none = absurd (omega arith)
+pub outer-empty : (p q : List ℕ) → length p ≡ 0 → isEmpty p || beneath (trimmed p) q ≡ true
+outer-empty [] q none = refl
+outer-empty (b ∷ p) q none = absurd (omega arith)
 
 not-empty : (p : List ℕ) → (length p ≡ 0 → ⊥) → isEmpty p ≡ false
 not-empty [] some = absurd (some refl)
 not-empty (b ∷ p) some = refl
 
-module _ (p q : List ℕ) (n : ℕ) (short : n ≤ length p) where
-  -- a path that starts with the first n bytes of another is at least n bytes long
-  pub long-enough : starting (take n p) q ≡ true → n ≤ length q
-  long-enough begins = omega (arith, starting-length (take n p) q begins, length-take-le n p short)
+-- what follows the first n bytes, as it is lent
+tail : (q : List ℕ) (n : ℕ) → n ≤ length q → take (length q - n) (drop n q) ≡ drop n q
+tail q n long = take-all (length q - n) (drop n q) (omega (arith, length-drop n q))
 
-  module _ (trim : take n p ≡ trimmed p) (clean-p : climbing p ≡ false) (clean-q : climbing q ≡ false) (some : length p ≡ 0 → ⊥) where
-    judged : contained p q ≡ starting (take n p) q && (isEmpty (drop n q) || slashed (drop n q))
-    judged = contained-same p q clean-p clean-q (not-empty p some) ∙ rw (← trim, length-take-le n p short)
+-- an outer path that is not empty, n bytes of it left when it is trimmed
+module _ (p q : List ℕ) (n : ℕ) (some : length p ≡ 0 → ⊥) (trim : take n p ≡ trimmed p) (short : n ≤ length p) where
+  judged : isEmpty p || beneath (trimmed p) q ≡ starting (take n p) q && (isEmpty (drop n q) || slashed (drop n q))
+  judged = rw (not-empty p some, ← trim, length-take-le n p short)
 
-    pub tail-judged : starting (take n p) q ≡ true →
-        contained p q ≡ isEmpty (take (length q - n) (drop n q)) || slashed (take (length q - n) (drop n q))
-    tail-judged begins =
-        let whole : take (length q - n) (drop n q) ≡ drop n q = take-all (length q - n) (drop n q) (omega (arith, length-drop n q)) in
-        judged ∙ rw (begins, whole)
+  -- an inner path that is shorter does not start with them
+  pub too-short : length q < n → isEmpty p || beneath (trimmed p) q ≡ false
+  too-short less = judged ∙ rw (starting-short (take n p) q (omega (arith, length-take-le n p short)))
 
-    pub apart : starting (take n p) q ≡ false → contained p q ≡ false
-    apart other = judged ∙ rw other
+  module _ (long : n ≤ length q) where
+    pub apart : isEmpty (take (length q - n) (drop n q)) || slashed (take (length q - n) (drop n q)) ≡ false →
+        isEmpty p || beneath (trimmed p) q ≡ false
+    apart other = judged ∙ rw (rw (tail q n long) at other) (and-false (starting (take n p) q))
+
+    pub parted : isEmpty (take (length q - n) (drop n q)) || slashed (take (length q - n) (drop n q)) ≡ true →
+        isEmpty p || beneath (trimmed p) q ≡ starting (take n p) q
+    parted follows = judged ∙ rw (rw (tail q n long) at follows) (and-true (starting (take n p) q))
+
+module _ (p q : List ℕ) where
+  -- `..` is asked of the outer path, then of the inner one
+  pub outer-climbing : climbing p ≡ true → not (climbing p) && not (climbing q) ≡ false
+  outer-climbing climbs = rw climbs
+
+  pub inner-climbing : climbing q ≡ true → not (climbing p) && not (climbing q) ≡ false
+  inner-climbing climbs = rw climbs (and-false (not (climbing p)))
+
+  pub none-climbing : climbing p ≡ false → climbing q ≡ false → not (climbing p) && not (climbing q) ≡ true
+  none-climbing clean-p clean-q = rw (clean-p, clean-q)
+
+  -- where inner stands is settled: it is left whether there is a `..` component
+  pub stands : isEmpty p || beneath (trimmed p) q ≡ true → contained p q ≡ not (climbing p) && not (climbing q)
+  stands here = contained-parts p q ∙ rw here (and-true (not (climbing p) && not (climbing q)))
+
+  pub elsewhere : isEmpty p || beneath (trimmed p) q ≡ false → contained p q ≡ false
+  elsewhere away = contained-parts p q ∙ rw away (and-false (not (climbing p) && not (climbing q)))

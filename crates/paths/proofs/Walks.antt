@@ -1,16 +1,16 @@
 -- The definitions at a place of a path: what one byte more of a walk makes of them. Assumes nothing.
 use mathlib.Core.Path.{_≡_, refl, ap, _∙_}
-use mathlib.Core.Bool.{true, false, _&&_, _||_, cond}
+use mathlib.Core.Bool.{true, false, _&&_, _||_, cond, and-false, or-false}
 use mathlib.Core.List.{List, [], _∷_, _++_}
 use Prim.Native.Nat.{ℕ, suc, _+_, _-_, _≤_, _<_}
 use native.Mathlib.Omega.{arith}
 use lib.Dec.{eqb, ltb}
-use lib.ListN.{length, take, drop, getD, replicate, drop-of-length-le}
+use lib.ListN.{length, take, drop, getD, replicate, drop-of-length-le, length-drop}
 use lib.Seq.{take-suc}
-use borrow.Author.Tests.{eq-eqb, ne-eqb}
 use Rattle.lists.specs.Tests.{cases}
 use Rattle.lists.specs.Loops.{drop-next}
 use Rattle.paths.specs.Containment.{slash, dot, isEmpty, slashed, climbing, trimmed, starting}
+use Rattle.paths.specs.Pairs.{paired}
 use Rattle.paths.specs.Trimming.{starting-length, trimmed-slash, trimmed-other}
 use Rattle.paths.proofs.Dots.{dots-end, dots-slash, dots-byte}
 
@@ -27,6 +27,26 @@ module _ (p : List ℕ) (d i : ℕ) (few : d ≤ 3) where
         climbing (replicate d dot ++ drop i p) ≡ climbing (replicate (cond (eqb (getD p i 0) dot && ltb d 3) (d + 1) 3) dot ++ drop (i + 1) p)
     climbing-byte kept = rw (drop-next p i 0 within) (dots-byte d (getD p i 0) (drop (i + 1) p) few kept)
 
+-- ---- two dots next to each other, from the place before i on
+-- one byte, or none, is no two dots
+paired-few : (p : List ℕ) → length p ≤ 1 → paired p ≡ false
+unfolding paired
+paired-few [] few = refl
+paired-few (b ∷ []) few = or-false (eqb b dot && false) ∙ and-false (eqb b dot)
+paired-few (b ∷ c ∷ p) few = absurd (omega arith)
+
+module _ (p : List ℕ) (i : ℕ) where
+  pub paired-end : length p ≤ i → paired (drop (i - 1) p) ≡ false
+  paired-end past = paired-few (drop (i - 1) p) (omega (arith, length-drop (i - 1) p))
+
+  pub paired-next : 0 < i → i < length p →
+      paired (drop (i - 1) p) ≡ (eqb (getD p (i - 1) 0) dot && eqb (getD p i 0) dot) || paired (drop ((i + 1) - 1) p)
+  unfolding paired
+  paired-next some within =
+      let here : (i - 1) + 1 ≡ i = omega arith in
+      let there : (i + 1) - 1 ≡ i = omega arith in
+      rw (drop-next p (i - 1) 0 (omega arith), here, there, drop-next p i 0 within)
+
 -- ---- starting, from place i on
 module _ (o p : List ℕ) where
   -- a shorter path does not start with a longer one
@@ -38,14 +58,10 @@ module _ (o p : List ℕ) (i : ℕ) where
   unfolding starting
   starting-end past = rw (drop-of-length-le o past)
 
-  module _ (in-o : i < length o) (in-p : i < length p) where
-    pub starting-other : (getD o i 0 ≡ getD p i 0 → ⊥) → starting (drop i o) (drop i p) ≡ false
-    unfolding starting
-    starting-other other = rw (drop-next o i 0 in-o, drop-next p i 0 in-p, ne-eqb (getD o i 0) (getD p i 0) other)
-
-    pub starting-next : getD o i 0 ≡ getD p i 0 → starting (drop i o) (drop i p) ≡ starting (drop (i + 1) o) (drop (i + 1) p)
-    unfolding starting
-    starting-next here = rw (drop-next o i 0 in-o, drop-next p i 0 in-p, eq-eqb (getD o i 0) (getD p i 0) here)
+  pub starting-next : i < length o → i < length p →
+      starting (drop i o) (drop i p) ≡ eqb (getD o i 0) (getD p i 0) && starting (drop (i + 1) o) (drop (i + 1) p)
+  unfolding starting
+  starting-next in-o in-p = rw (drop-next o i 0 in-o, drop-next p i 0 in-p)
 
 -- ---- trimming, of the first n bytes
 module _ (p : List ℕ) (n : ℕ) (some : 0 < n) (within : n ≤ length p) where

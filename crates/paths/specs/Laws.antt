@@ -1,7 +1,7 @@
 -- Laws of path containment, for the crates above: it is reflexive on paths without a `..` component, transitive where the middle
 -- path is not empty, and antisymmetric up to trimming. Assumes nothing.
 use mathlib.Core.Path.{_≡_, refl, sym, ap, _∙_}
-use mathlib.Core.Bool.{true, false, not, _&&_, _||_}
+use mathlib.Core.Bool.{true, false, not, _&&_, _||_, or-assoc}
 use mathlib.Core.List.{List, [], _∷_, _++_, append-assoc, append-nil}
 use Prim.Native.Nat.{ℕ, zero, suc}
 use native.Mathlib.Omega.{arith}
@@ -12,7 +12,7 @@ use borrow.Author.Tests.{not-true}
 use Rattle.lists.specs.Tests.{cases, and-left, and-right}
 use Rattle.paths.specs.Containment.{slash, same, isEmpty, components, climbing, trimmed, starting, slashed, contained}
 use Rattle.paths.specs.Components.{climbing-behind}
-use Rattle.paths.specs.Trimming.{isEmpty-sound, starting-sound, starting-complete, trimmed-append, trimmed-twice, trimmed-slashes, trimmed-end, followed}
+use Rattle.paths.specs.Trimming.{isEmpty-sound, starting-sound, starting-complete, trimmed-append, trimmed-twice, trimmed-slashes, trimmed-end, beneath, followed}
 
 -- ---- what containment says
 
@@ -31,14 +31,10 @@ contained-clean p q held =
       not-true (climbing q) (and-right (not (climbing p)) (not (climbing q)) clean),
     )
 
--- a path with a `..` component contains nothing, and nothing contains it
-pub outer-climbs : (p q : List ℕ) → climbing p ≡ true → contained p q ≡ false
+-- a path with a `..` component contains nothing
+outer-climbs : (p q : List ℕ) → climbing p ≡ true → contained p q ≡ false
 unfolding contained
 outer-climbs p q climbs = rw climbs
-
-pub inner-climbs : (p q : List ℕ) → climbing q ≡ true → contained p q ≡ false
-unfolding contained
-inner-climbs p q climbs = cases (climbing p) (λ too. outer-climbs p q too) (λ clean. rw (clean, climbs))
 
 -- the empty path contains every path without a `..` component
 pub contained-empty : (q : List ℕ) → climbing q ≡ false → contained [] q ≡ true
@@ -51,12 +47,17 @@ pub record Under (t q : List ℕ) : Type 0 where
   pub whole : q ≡ t ++ rest
   pub parted : isEmpty rest || slashed rest ≡ true
 
+-- containment as two tests, neither of which looks at the other's part: no `..` component, and where inner stands
+pub contained-parts : (p q : List ℕ) → contained p q ≡ (not (climbing p) && not (climbing q)) && (isEmpty p || beneath (trimmed p) q)
+unfolding contained
+contained-parts p q =
+    ap (λ b. (not (climbing p) && not (climbing q)) && b)
+    (or-assoc (isEmpty p) (same q (trimmed p)) _ ∙ ap (λ b. isEmpty p || b) (followed (trimmed p) q))
+
 -- of paths without a `..` component, the outer one not empty: inner starts with the trimmed outer, and what follows is nothing or
 -- begins with a slash
-pub contained-same : (p q : List ℕ) → climbing p ≡ false → climbing q ≡ false → isEmpty p ≡ false →
-    contained p q ≡ starting (trimmed p) q && (isEmpty (drop (length (trimmed p)) q) || slashed (drop (length (trimmed p)) q))
-unfolding contained
-contained-same p q clean-p clean-q some = rw (clean-p, clean-q, some) (followed (trimmed p) q)
+pub contained-same : (p q : List ℕ) → climbing p ≡ false → climbing q ≡ false → isEmpty p ≡ false → contained p q ≡ beneath (trimmed p) q
+contained-same p q clean-p clean-q some = contained-parts p q ∙ rw (clean-p, clean-q, some)
 
 -- what an outer path that is not empty contains is its trimmed path, or that with a slash and more
 pub contained-sound : (p q : List ℕ) → isEmpty p ≡ false → contained p q ≡ true → Under (trimmed p) q

@@ -1,4 +1,5 @@
 pub mod Containment
 pub mod Components
+pub mod Pairs
 pub mod Trimming
 pub mod Laws

@@ -130,9 +130,12 @@ trimmed-end p q e =
     let short : length (trimmed (trimmed p)) ≤ length q = rw (e, trimmed-slash q) (trimmed-length q) in
     omega (arith, ap length (trimmed-twice p), ap length e, length-append q (slash ∷ []))
 
+-- whether path q starts with t, and what follows is nothing or begins with a slash
+abbrev pub beneath : List ℕ → List ℕ → Bool
+beneath t q = starting t q && (isEmpty (drop (length t) q) || slashed (drop (length t) q))
+
 -- inner is outer, or starts with outer and a slash: inner starts with outer, and what follows is nothing or begins with a slash
-pub followed : (t q : List ℕ) →
-    same q t || (starting t q && slashed (drop (length t) q)) ≡ starting t q && (isEmpty (drop (length t) q) || slashed (drop (length t) q))
+pub followed : (t q : List ℕ) → same q t || (starting t q && slashed (drop (length t) q)) ≡ beneath t q
 unfolding same starting
 followed [] [] = refl
 followed [] (c ∷ q) = refl

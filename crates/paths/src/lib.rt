@@ -1,11 +1,14 @@
 // Path containment of two lent paths, of any length and any bytes. Nothing is copied: the outer path is trimmed by its length,
-// and the inner path's tail from that length on is handed as a part to the judgement of what follows.
+// and the inner path's tail from that length on is handed as a part to the judgement of what follows. All tests must hold, so the
+// cheap ones are made first and `..` is looked for last.
 ghost use mathlib.Core.Path.{_≡_};
-ghost use mathlib.Core.Bool.{_&&_, _||_, cond};
+ghost use mathlib.Core.Bool.{not, _&&_, _||_, cond};
 ghost use Prim.Native.Nat.{_+_, _≤_};
 ghost use lib.Dec.{eqb, ltb};
 ghost use lib.ListN.{length, take};
 ghost use Rattle.paths.specs.Containment.{dot, climbing, trimmed, starting, isEmpty, slashed, contained};
+ghost use Rattle.paths.specs.Pairs.{paired};
+ghost use Rattle.paths.specs.Trimming.{beneath};
 
 const SLASH: u8 = 47;
 
@@ -24,8 +27,22 @@ fn dots_with(dots: u8, b: u8) -> u8
     3
 }
 
-// Whether a component of the path equals `..`.
-fn climbs(p: &[u8]) -> bool
+// Whether two dots stand next to each other anywhere in the path. The loop has no way out before its end, so that it is compiled to
+// steps over many bytes at once.
+fn has_paired_dots(p: &[u8]) -> bool
+    ensures { λ r. ⌜ r ≡ paired (now (p .entry)) ⌝ }
+{
+    let mut hit = false;
+    let mut i: usize = 1;
+    while i < p.len() {
+        hit = hit | ((p[i - 1] == DOT) & (p[i] == DOT));
+        i += 1;
+    }
+    hit
+}
+
+// Whether a component of the path equals `..`, by a walk from byte to byte.
+fn walk_components(p: &[u8]) -> bool
     ensures { λ r. ⌜ r ≡ climbing (now (p .entry)) ⌝ }
 {
     let mut dots: u8 = 0;
@@ -46,6 +63,30 @@ fn climbs(p: &[u8]) -> bool
     dots == 2
 }
 
+// Whether a component of the path equals `..`. Only a path in which two dots stand next to each other is walked.
+fn climbs(p: &[u8]) -> bool
+    ensures { λ r. ⌜ r ≡ climbing (now (p .entry)) ⌝ }
+{
+    if has_paired_dots(p) {
+        walk_components(p)
+    } else {
+        false
+    }
+}
+
+// Whether neither path has a component that equals `..`.
+fn are_clean(outer: &[u8], inner: &[u8]) -> bool
+    ensures { λ r. ⌜ r ≡ (not (climbing (now (outer .entry))) && not (climbing (now (inner .entry)))) ⌝ }
+{
+    if climbs(outer) {
+        return false;
+    }
+    if climbs(inner) {
+        return false;
+    }
+    true
+}
+
 // How long the path is without the slashes at its end.
 fn trimmed_len(p: &[u8]) -> usize
     ensures { λ r. ⌜ (take r (now (p .entry)) ≡ trimmed (now (p .entry))) × (r ≤ length (now (p .entry))) ⌝ }
@@ -61,21 +102,20 @@ fn trimmed_len(p: &[u8]) -> usize
     n
 }
 
-// Whether `p` starts with `o`.
+// Whether `p` starts with `o`. As in `has_paired_dots`, the loop has no way out.
 fn starts(o: &[u8], p: &[u8]) -> bool
     ensures { λ r. ⌜ r ≡ starting (now (o .entry)) (now (p .entry)) ⌝ }
 {
     if p.len() < o.len() {
         return false;
     }
+    let mut alike = true;
     let mut i: usize = 0;
     while i < o.len() {
-        if o[i] != p[i] {
-            return false;
-        }
+        alike = alike & (o[i] == p[i]);
         i += 1;
     }
-    true
+    alike
 }
 
 // Whether what follows the trimmed outer path is nothing, or begins with a slash.
@@ -88,22 +128,31 @@ fn follows(tail: &[u8]) -> bool
     tail[0] == SLASH
 }
 
-// Whether the outer path contains the inner one.
-pub fn contains(outer: &[u8], inner: &[u8]) -> bool
-    ensures { λ r. ⌜ r ≡ contained (now (outer .entry)) (now (inner .entry)) ⌝ }
+// Whether the outer path is empty, or the inner one is the trimmed outer path, or that with a slash and more. What follows the
+// trimmed length is asked before the bytes up to it are compared: it is one byte, and most pairs part there.
+fn is_beneath(outer: &[u8], inner: &[u8]) -> bool
+    ensures { λ r. ⌜ r ≡ (isEmpty (now (outer .entry)) || beneath (trimmed (now (outer .entry))) (now (inner .entry))) ⌝ }
 {
-    if climbs(outer) {
-        return false;
-    }
-    if climbs(inner) {
-        return false;
-    }
     if outer.len() == 0 {
         return true;
     }
     let n = trimmed_len(outer);
-    if starts(&outer[..n], inner) {
-        follows(&inner[n..])
+    if inner.len() < n {
+        return false;
+    }
+    if follows(&inner[n..]) {
+        starts(&outer[..n], inner)
+    } else {
+        false
+    }
+}
+
+// Whether the outer path contains the inner one.
+pub fn contains(outer: &[u8], inner: &[u8]) -> bool
+    ensures { λ r. ⌜ r ≡ contained (now (outer .entry)) (now (inner .entry)) ⌝ }
+{
+    if is_beneath(outer, inner) {
+        are_clean(outer, inner)
     } else {
         false
     }

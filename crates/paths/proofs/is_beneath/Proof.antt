@@ -1,0 +1,84 @@
+-- `paths::is_beneath` meets its contract. Each answer is that of the tests that led to it (`Verdicts`). The inner path's tail is a part of
+-- it, since its length is tested before. Assumes nothing.
+use mathlib.Core.Path.{sym, _∙_}
+use lib.Seq.{length-take-le}
+use borrow.Author.Needs.{needs}
+use Rattle.paths.proofs.Verdicts.{outer-empty, too-short, apart, parted}
+use Rattle.paths.proofs.is_beneath.Statement.{statement}
+use Rattle.paths.proofs.is_beneath.Tie as tie
+
+returns : tie.Need-returns
+returns c =
+    let a = c .before .before .before .args in
+    sym (outer-empty (a .outer .now) (a .inner .now) (c .if1 .taken))
+
+trimmed-len-requires : tie.Need-trimmed-len-requires
+trimmed-len-requires c κs = search needs
+
+returns-2 : tie.Need-returns-2
+returns-2 c =
+    let trim = c .before .trimmed-len in
+    let a = c .before .before .before .before .before .args in
+    sym
+    (too-short (a .outer .now) (a .inner .now) (trim .result) (c .before .before .if1 .left) (trim .ensures .0) (trim .ensures .1)
+    (c .if2 .taken))
+
+sub-follows : tie.Need-sub-follows
+sub-follows c = search needs
+
+part-follows-start : tie.Need-part-follows-start
+part-follows-start c = search needs
+
+part-follows-end : tie.Need-part-follows-end
+part-follows-end c = search needs
+
+follows-requires : tie.Need-follows-requires
+follows-requires c κs = search needs
+
+slice-aggregate-starts : tie.Need-slice-aggregate-starts
+slice-aggregate-starts c =
+    let trimming = c .before .before .before .before .before in
+    let a = trimming .before .before .before .before .args in
+    sym (length-take-le (trimming .trimmed-len .result) (a .outer .now) (trimming .trimmed-len .ensures .1))
+
+starts-requires : tie.Need-starts-requires
+starts-requires c κs = search needs
+
+returns-3 : tie.Need-returns-3
+returns-3 c =
+    let following = c .before .before .before in
+    let trimming = following .before .before .before in
+    let trim = trimming .trimmed-len in
+    let a = trimming .before .before .before .before .args in
+    c .starts .ensures
+    ∙ sym
+    (parted (a .outer .now) (a .inner .now) (trim .result) (trimming .before .if1 .left) (trim .ensures .0) (trim .ensures .1)
+    (following .before .before .if2 .left)
+    (sym (following .follows .ensures) ∙ c .before .before .if3 .taken))
+
+returns-4 : tie.Need-returns-4
+returns-4 c =
+    let following = c .before in
+    let trimming = following .before .before .before in
+    let trim = trimming .trimmed-len in
+    let a = trimming .before .before .before .before .args in
+    sym
+    (apart (a .outer .now) (a .inner .now) (trim .result) (trimming .before .if1 .left) (trim .ensures .0) (trim .ensures .1)
+    (following .before .before .if2 .left)
+    (sym (following .follows .ensures) ∙ c .if3 .left))
+
+pub is-beneath-spec : {M : Type 1} → statement M
+is-beneath-spec =
+    tie.close
+    (tie.spec
+    returns
+    trimmed-len-requires
+    returns-2
+    sub-follows
+    part-follows-start
+    part-follows-end
+    follows-requires
+    slice-aggregate-starts
+    starts-requires
+    returns-3
+    returns-4)
