@@ -1,4 +1,4 @@
--- Which of an actor's, a resource's and a byte's tests decides. Assumes nothing.
+-- Which of an actor's and a resource's tests decides. Assumes nothing.
 use mathlib.Core.Path.{_≡_, refl}
 use mathlib.Core.Bool.{Bool, true, false, _&&_, _||_, and-true, and-false}
 use Prim.Native.Nat.{ℕ, _≤_, _<_}
@@ -77,15 +77,3 @@ module _ (test : ℕ → Bool) (o : Resource) where
           resource-path e =
               rw (numbered, le-leb (o .public) 1 flag, kept, e, le-leb (o .len) pathLimit room)
               (and-true (every (ranged pathByteLeast pathByteGreatest) (pathOf o)))
-
--- a byte of a path
-module _ {byte : ℕ} where
-  pub byte-low : byte < pathByteLeast → ranged pathByteLeast pathByteGreatest byte ≡ false
-  byte-low h = rw (lt-leb pathByteLeast byte h)
-
-  module _ (low : pathByteLeast ≤ byte) where
-    pub byte-high : pathByteGreatest < byte → ranged pathByteLeast pathByteGreatest byte ≡ false
-    byte-high h = rw (le-leb pathByteLeast byte low, lt-leb byte pathByteGreatest h)
-
-    pub byte-fits : byte ≤ pathByteGreatest → ranged pathByteLeast pathByteGreatest byte ≡ true
-    byte-fits h = rw (le-leb pathByteLeast byte low, le-leb byte pathByteGreatest h)

@@ -69,22 +69,20 @@ pub fn actors_sound(k: Actors) -> bool
     is_distinct(&ids, n)
 }
 
-// Whether each byte of a resource's path is one that a path may have.
+// Whether each byte of a resource's path is one that a path may have. Every byte is looked at, without a way out of the loop: so they are
+// compared many at a time.
 pub fn path_fits(o: Resource) -> bool
     ensures { λ r. ⌜ r ≡ every (ranged pathByteLeast pathByteGreatest) (pathOf o) ⌝ }
 {
     let top = columns::least(o.len, Register::PATH);
+    let mut fit = true;
     let mut i: usize = 0;
     while i < top {
-        if o.path[i] < register::PATH_BYTE_LEAST {
-            return false;
-        }
-        if register::PATH_BYTE_GREATEST < o.path[i] {
-            return false;
-        }
+        let b = o.path[i];
+        fit = fit & ((register::PATH_BYTE_LEAST <= b) & (b <= register::PATH_BYTE_GREATEST));
         i += 1;
     }
-    true
+    fit
 }
 
 // Whether a resource's fields are as they should be among the first `n` actors.

@@ -1,42 +1,33 @@
--- `world::path_fits` meets its contract. The loop's invariant: every byte is one that a path may have where every byte of what is left
--- is (Judging). The measure is what is left. Assumes nothing.
-use mathlib.Core.Path.{refl, sym}
+-- `world::path_fits` meets its contract. The loop's invariant: every byte is one that a path may have where those before were and every
+-- byte of what is left is (Loops). The measure is what is left. Assumes nothing.
+use mathlib.Core.Path.{_≡_, refl, sym, _∙_}
+use mathlib.Core.Bool.{_&&_, and-assoc, and-true}
 use Prim.Native.Nat.{_-_}
+use lib.ListN.{length, take}
+use Rattle.lists.specs.Lists.{every}
+use Rattle.lists.specs.Loops.{Loop, start, turn, next, done}
 use Rattle.register.specs.Limits.{ranged, pathByteLeast, pathByteGreatest}
-use Rattle.world.proofs.Judging.{Judging, judging-start, judging-no, judging-next, judging-done}
-use Rattle.world.proofs.Fits.{byte-low, byte-high, byte-fits}
 use borrow.Author.Needs.{needs}
 use Rattle.world.proofs.path_fits.Statement.{statement}
 use Rattle.world.proofs.path_fits.Tie as tie
 
 abbrev Inv-loop : tie.InvT-loop
-Inv-loop o top i₀ i = Judging (ranged pathByteLeast pathByteGreatest) (o .len) (o .path) top i
+Inv-loop o top fit₀ i₀ fit i =
+    Loop (λ at l. fit && every (ranged pathByteLeast pathByteGreatest) l) (o .len) (o .path) top i (every (ranged pathByteLeast pathByteGreatest) (take (o .len) (o .path)))
 
 abbrev μ-loop : tie.MeasureT-loop
-μ-loop o top i₀ i = top - i
+μ-loop o top fit₀ i₀ fit i = top - i
 
 least-requires : tie.Need-least-requires Inv-loop μ-loop
 least-requires c κs = search needs
 
 loop-holds : tie.Need-loop-holds Inv-loop μ-loop
-loop-holds c = judging-start (c .least .ensures) (search needs)
+loop-holds c =
+    let room : length (c .before .args .t1 .path) ≡ 64 = search needs in
+    start (c .least .ensures ∙ rw room) refl
 
-element-copy-out-if1 : tie.Need-element-copy-out-if1 Inv-loop μ-loop
-element-copy-out-if1 c = search needs
-
-returns : tie.Need-returns Inv-loop μ-loop
-returns c =
-    let turn = c .before .before in
-    sym (judging-no (turn .before .loop .inv) 0 (turn .loop-test .taken) refl (byte-low (c .if1 .taken)))
-
-element-copy-out-if2 : tie.Need-element-copy-out-if2 Inv-loop μ-loop
-element-copy-out-if2 c = search needs
-
-returns-2 : tie.Need-returns-2 Inv-loop μ-loop
-returns-2 c =
-    let low = c .before .before in
-    let turn = low .before .before in
-    sym (judging-no (turn .before .loop .inv) 0 (turn .loop-test .taken) refl (byte-high (low .if1 .left) (c .if2 .taken)))
+element-copy-out-b : tie.Need-element-copy-out-b Inv-loop μ-loop
+element-copy-out-b c = search needs
 
 add-i : tie.Need-add-i Inv-loop μ-loop
 add-i c = search needs
@@ -46,12 +37,12 @@ loop-less c = search needs
 
 loop-again : tie.Need-loop-again Inv-loop μ-loop
 loop-again c =
-    let low = c .before .before in
-    let turn = low .before .before in
-    judging-next (turn .before .loop .inv) 0 (turn .loop-test .taken) refl (byte-fits (low .if1 .left) (c .if2 .left))
+    let loop = c .before .before in
+    next (loop .loop .inv) (c .before .loop-test .taken)
+    (turn (loop .loop .inv) 0 (c .before .loop-test .taken) ∙ sym (and-assoc (loop .loop .fit) _ _))
 
-returns-3 : tie.Need-returns-3 Inv-loop μ-loop
-returns-3 c = sym (judging-done (c .before .loop .inv) (c .loop-test .left))
+returns : tie.Need-returns Inv-loop μ-loop
+returns c = sym (done (c .before .loop .inv) (c .loop-test .left) ∙ and-true (c .before .loop .fit))
 
 pub path-fits-spec : {M : Type 1} → statement M
 path-fits-spec =
@@ -61,11 +52,8 @@ path-fits-spec =
     μ-loop
     least-requires
     loop-holds
-    element-copy-out-if1
-    returns
-    element-copy-out-if2
-    returns-2
+    element-copy-out-b
     add-i
     loop-less
     loop-again
-    returns-3)
+    returns)
