@@ -2,8 +2,8 @@
 -- byte of what is left is (Loops). The measure is what is left. Assumes nothing.
 use mathlib.Core.Path.{_≡_, refl, sym, _∙_}
 use mathlib.Core.Bool.{_&&_, and-assoc, and-true}
-use Prim.Native.Nat.{_-_}
-use lib.ListN.{length, take}
+use Prim.Native.Nat.{_+_, _-_}
+use lib.ListN.{length, take, drop, getD}
 use Rattle.lists.specs.Lists.{every}
 use Rattle.lists.specs.Loops.{Loop, start, turn, next, done}
 use Rattle.register.specs.Limits.{ranged, pathByteLeast, pathByteGreatest}
@@ -38,8 +38,13 @@ loop-less c = search needs
 loop-again : tie.Need-loop-again Inv-loop μ-loop
 loop-again c =
     let loop = c .before .before in
-    next (loop .loop .inv) (c .before .loop-test .taken)
-    (turn (loop .loop .inv) 0 (c .before .loop-test .taken) ∙ sym (and-assoc (loop .loop .fit) _ _))
+    let o = loop .before .before .args .t1 in
+    let i = loop .loop .i in
+    let test = ranged pathByteLeast pathByteGreatest in
+    let behind = every test (drop (i + 1) (take (o .len) (o .path))) in
+    let told : every test (take (o .len) (o .path)) ≡ (loop .loop .fit && test (getD (o .path) i 0)) && behind =
+    turn (loop .loop .inv) 0 (c .before .loop-test .taken) ∙ sym (and-assoc (loop .loop .fit) (test (getD (o .path) i 0)) behind) in
+    next (loop .loop .inv) (c .before .loop-test .taken) told
 
 returns : tie.Need-returns Inv-loop μ-loop
 returns c = sym (done (c .before .loop .inv) (c .loop-test .left) ∙ and-true (c .before .loop .fit))
