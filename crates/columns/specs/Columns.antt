@@ -1,7 +1,7 @@
 -- Working definitions: the columns of a register's lists, and chains as places of columns. They are shaped for the code; what they
 -- are in 01's words is proved in Laws (`chain-natural`).
 use mathlib.Core.Bool.{Bool, false, _&&_, _||_, cond}
-use mathlib.Core.List.{List, [], _∷_}
+use mathlib.Core.List.{List, [], _∷_, map}
 use Prim.Native.Nat.{ℕ, zero, suc}
 use lib.Dec.{eqb, ltb, leb}
 use lib.ListN.{length, getD}
@@ -10,6 +10,9 @@ use Rattle.register.specs.Chain.{chain}
 use Rattle.register.specs.declared.Actor.{Actor}
 use Rattle.register.specs.declared.Resource.{Resource}
 use Rattle.register.specs.declared.Claim.{Claim}
+use Rattle.columns.specs.declared.ActorColumns.{ActorColumns}
+use Rattle.columns.specs.declared.ResourceColumns.{ResourceColumns}
+use Rattle.columns.specs.declared.ClaimColumns.{ClaimColumns}
 use Rattle.columns.specs.declared.Hops.{Hops}
 use Rattle.columns.specs.declared.Hops.the-variants.{Up, Beyond}
 use Rattle.columns.specs.declared.Place.{Place}
@@ -29,6 +32,9 @@ resourceId o = o .id
 
 abbrev pub keeperOf : Resource → ℕ
 keeperOf o = o .keeper
+
+abbrev pub publicOf : Resource → ℕ
+publicOf o = o .public
 
 abbrev pub claimId : Claim → ℕ
 claimId c = c .id
@@ -50,6 +56,28 @@ rightsOf c = c .rights
 
 abbrev pub weightOf : Claim → ℕ
 weightOf c = c .weight
+
+abbrev pub expiryOf : Claim → ℕ
+expiryOf c = c .expiry
+
+-- the columns of a list of actors, of resources, of claims
+abbrev pub actorColumns : List Actor → ActorColumns
+actorColumns l = record { ids = map actorId l; kinds = map kindOf l; owners = map ownerOf l }
+
+abbrev pub resourceColumns : List Resource → ResourceColumns
+resourceColumns l = record { ids = map resourceId l; keepers = map keeperOf l; publics = map publicOf l }
+
+abbrev pub claimColumns : List Claim → ClaimColumns
+claimColumns l = record {
+  ids = map claimId l;
+  parents = map parentOf l;
+  grantors = map grantorOf l;
+  holders = map holderOf l;
+  claimed = map claimedOf l;
+  rights = map rightsOf l;
+  weights = map weightOf l;
+  expiries = map expiryOf l;
+}
 
 -- the places below n of an array, the latest first
 unfoldable pub places : ℕ → List ℕ

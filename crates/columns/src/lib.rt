@@ -10,6 +10,7 @@ ghost use Rattle.lists.specs.Lists.{any};
 ghost use Rattle.register.specs.Chain.{circling};
 ghost use Rattle.columns.specs.Columns.{actorId, kindOf, ownerOf, resourceId, keeperOf, claimId, parentOf, grantorOf, holderOf, claimedOf, rightsOf, weightOf};
 ghost use Rattle.columns.specs.Columns.{latestPlace, chainPlaces, stepsUp, beside};
+ghost use Rattle.columns.specs.Columns.{actorColumns, resourceColumns, claimColumns};
 use register::Actors;
 use register::Claims;
 use register::Register;
@@ -25,6 +26,106 @@ pub enum Place {
 pub enum Hops {
     Up(usize),
     Beyond,
+}
+
+// The columns of a list of actors.
+pub struct ActorColumns {
+    pub ids: [u32; Register::ACTORS],
+    pub kinds: [u32; Register::ACTORS],
+    pub owners: [u32; Register::ACTORS],
+}
+
+// The columns of a list of resources.
+pub struct ResourceColumns {
+    pub ids: [u32; Register::RESOURCES],
+    pub keepers: [u32; Register::RESOURCES],
+    pub publics: [u32; Register::RESOURCES],
+}
+
+// The columns of a list of claims.
+pub struct ClaimColumns {
+    pub ids: [u32; Register::CLAIMS],
+    pub parents: [u32; Register::CLAIMS],
+    pub grantors: [u32; Register::CLAIMS],
+    pub holders: [u32; Register::CLAIMS],
+    pub claimed: [u32; Register::CLAIMS],
+    pub rights: [u32; Register::CLAIMS],
+    pub weights: [u32; Register::CLAIMS],
+    pub expiries: [u64; Register::CLAIMS],
+}
+
+// The actors' columns, in one pass.
+pub fn actor_columns(k: Actors) -> ActorColumns
+    ensures { λ r. ⌜ r ≡ actorColumns (k .list) ⌝ }
+{
+    let mut ids = [0u32; Register::ACTORS];
+    let mut kinds = [0u32; Register::ACTORS];
+    let mut owners = [0u32; Register::ACTORS];
+    let mut i: usize = 0;
+    while i < Register::ACTORS {
+        ids[i] = k.list[i].id;
+        kinds[i] = k.list[i].kind;
+        owners[i] = k.list[i].owner;
+        i += 1;
+    }
+    ActorColumns { ids, kinds, owners }
+}
+
+// The resources' columns, in one pass.
+pub fn resource_columns(k: Resources) -> ResourceColumns
+    ensures { λ r. ⌜ r ≡ resourceColumns (k .list) ⌝ }
+{
+    let mut ids = [0u32; Register::RESOURCES];
+    let mut keepers = [0u32; Register::RESOURCES];
+    let mut publics = [0u32; Register::RESOURCES];
+    let mut i: usize = 0;
+    while i < Register::RESOURCES {
+        ids[i] = k.list[i].id;
+        keepers[i] = k.list[i].keeper;
+        publics[i] = k.list[i].public;
+        i += 1;
+    }
+    ResourceColumns {
+        ids,
+        keepers,
+        publics,
+    }
+}
+
+// The claims' columns, in one pass.
+pub fn claim_columns(k: Claims) -> ClaimColumns
+    ensures { λ r. ⌜ r ≡ claimColumns (k .list) ⌝ }
+{
+    let mut ids = [0u32; Register::CLAIMS];
+    let mut parents = [0u32; Register::CLAIMS];
+    let mut grantors = [0u32; Register::CLAIMS];
+    let mut holders = [0u32; Register::CLAIMS];
+    let mut claimed = [0u32; Register::CLAIMS];
+    let mut rights = [0u32; Register::CLAIMS];
+    let mut weights = [0u32; Register::CLAIMS];
+    let mut expiries = [0u64; Register::CLAIMS];
+    let mut i: usize = 0;
+    while i < Register::CLAIMS {
+        ids[i] = k.list[i].id;
+        parents[i] = k.list[i].parent;
+        grantors[i] = k.list[i].grantor;
+        holders[i] = k.list[i].holder;
+        claimed[i] = k.list[i].resource;
+        rights[i] = k.list[i].rights;
+        weights[i] = k.list[i].weight;
+        expiries[i] = k.list[i].expiry;
+        i += 1;
+    }
+    ClaimColumns {
+        ids,
+        parents,
+        grantors,
+        holders,
+        claimed,
+        rights,
+        weights,
+        expiries,
+    }
 }
 
 pub fn actor_ids(k: Actors) -> [u32; Register::ACTORS]

@@ -1,0 +1,101 @@
+-- `columns::claim_columns` meets its contract: each column is filled from the front (Filling). Assumes nothing.
+use mathlib.Core.Path.{_≡_, refl}
+use Prim.Native.Nat.{_-_}
+use native.Mathlib.Omega.{arith}
+use lib.ListN.{length}
+use borrow.Author.Needs.{needs}
+use Rattle.lists.specs.Loops.{length-mapped}
+use Rattle.register.specs.Limits.{claimLimit}
+use Rattle.columns.specs.Columns.{claimId, parentOf, grantorOf, holderOf, claimedOf, rightsOf, weightOf, expiryOf}
+use Rattle.columns.proofs.Filling.{Filling, empty, fill, full}
+use Rattle.columns.proofs.claim_columns.Statement.{statement}
+use Rattle.columns.proofs.claim_columns.Tie as tie
+
+abbrev Inv-loop : tie.InvT-loop
+Inv-loop k ids₀ parents₀ grantors₀ holders₀ claimed₀ rights₀ weights₀ expiries₀ i₀ ids parents grantors holders claimed rights weights expiries i =
+    Filling claimId (k .list) claimLimit i ids
+    × Filling parentOf (k .list) claimLimit i parents
+    × Filling grantorOf (k .list) claimLimit i grantors
+    × Filling holderOf (k .list) claimLimit i holders
+    × Filling claimedOf (k .list) claimLimit i claimed
+    × Filling rightsOf (k .list) claimLimit i rights
+    × Filling weightOf (k .list) claimLimit i weights
+    × Filling expiryOf (k .list) claimLimit i expiries
+
+abbrev μ-loop : tie.MeasureT-loop
+μ-loop k ids₀ parents₀ grantors₀ holders₀ claimed₀ rights₀ weights₀ expiries₀ i₀ ids parents grantors holders claimed rights weights expiries i = claimLimit - i
+
+loop-holds : tie.Need-loop-holds Inv-loop μ-loop
+loop-holds c =
+    let places : length (c .args .t1 .list) ≡ claimLimit = search (needs, length-mapped) in (
+      empty places refl,
+      empty places refl,
+      empty places refl,
+      empty places refl,
+      empty places refl,
+      empty places refl,
+      empty places refl,
+      empty places refl,
+    )
+
+pub claim-columns-spec : {M : Type 1} → statement M
+claim-columns-spec =
+    tie.close
+    (tie.spec
+    Inv-loop
+    μ-loop
+    loop-holds
+    (λ c. omega arith)
+    (λ c. omega arith)
+    (λ c. omega arith)
+    (λ c. omega arith)
+    (λ c. omega arith)
+    (λ c. omega arith)
+    (λ c. omega arith)
+    (λ c. omega arith)
+    (λ c. omega arith)
+    (λ c. omega arith)
+    (λ c. omega arith)
+    (λ c. omega arith)
+    (λ c. omega arith)
+    (λ c. omega arith)
+    (λ c. omega arith)
+    (λ c. omega arith)
+    (λ c. omega arith)
+    (λ c. omega arith)
+    (λ c. omega arith)
+    (λ c. omega arith)
+    (λ c. omega arith)
+    (λ c. omega arith)
+    (λ c. omega arith)
+    (λ c. omega arith)
+    (λ c. omega arith)
+    (λ c. omega arith)
+    (λ c. omega arith)
+    (λ c. omega arith)
+    (λ c. omega arith)
+    (λ c. omega arith)
+    (λ c. omega arith)
+    (λ c. omega arith)
+    (λ c. omega arith)
+    (λ c. omega arith)
+    (λ c. (
+      fill (c .before .loop .inv .0) _ (c .loop-test .taken),
+      fill (c .before .loop .inv .1) _ (c .loop-test .taken),
+      fill (c .before .loop .inv .2) _ (c .loop-test .taken),
+      fill (c .before .loop .inv .3) _ (c .loop-test .taken),
+      fill (c .before .loop .inv .4) _ (c .loop-test .taken),
+      fill (c .before .loop .inv .5) _ (c .loop-test .taken),
+      fill (c .before .loop .inv .6) _ (c .loop-test .taken),
+      fill (c .before .loop .inv .7) _ (c .loop-test .taken),
+    ))
+    (λ c. let inv = c .before .loop .inv in rw (
+      full (inv .0) (c .loop-test .left),
+      full (inv .1) (c .loop-test .left),
+      full (inv .2) (c .loop-test .left),
+      full (inv .3) (c .loop-test .left),
+      full (inv .4) (c .loop-test .left),
+      full (inv .5) (c .loop-test .left),
+      full (inv .6) (c .loop-test .left),
+      full (inv .7) (c .loop-test .left),
+    )))
