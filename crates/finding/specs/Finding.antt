@@ -1,0 +1,30 @@
+-- Where many numbers stand in a column. Working definitions, by places as numbers; `none` is the number that says nowhere.
+use Prim.Native.Nat.{ℕ, _-_, min}
+use mathlib.Core.List.{List, _++_, map}
+use lib.ListN.{length, getD, replicate}
+use Rattle.lists.specs.Counts.{counted}
+use Rattle.register.specs.Limits.{claimLimit}
+use Rattle.columns.specs.Columns.{latestPlace}
+use Rattle.columns.specs.declared.Place.{Place}
+use Rattle.columns.specs.declared.Place.the-variants.{At, Nowhere}
+
+-- a place as a number
+abbrev pub numberOf : ℕ → Place → ℕ
+numberOf none (At j) = j
+numberOf none Nowhere = none
+
+-- an array whose first places hold f of the place, and those behind them `none`
+abbrev pub tabled : (ℕ → ℕ) → ℕ → ℕ → List ℕ
+tabled f top none = map f (counted 0 top) ++ replicate (claimLimit - top) none
+
+-- as many places as are asked for, where there are so many
+abbrev pub asked : ℕ → List ℕ → ℕ
+asked m wanted = min m (min claimLimit (length wanted))
+
+-- the latest place of each of the first m wanted numbers among the first n of a column
+unfoldable pub placesOf : List ℕ → ℕ → List ℕ → ℕ → ℕ → List ℕ
+placesOf column n wanted m none = tabled (λ i. numberOf none (latestPlace column (min n claimLimit) (getD wanted i 0))) (asked m wanted) none
+
+-- the latest place before i of the number wanted at i, for each of the first m
+unfoldable pub earlierPlaces : List ℕ → List ℕ → ℕ → ℕ → List ℕ
+earlierPlaces column wanted m none = tabled (λ i. numberOf none (latestPlace column i (getD wanted i 0))) (asked m wanted) none
