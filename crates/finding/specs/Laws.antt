@@ -1,6 +1,6 @@
 -- What the places of many numbers say of each of them. Assumes nothing.
-use mathlib.Core.Path.{_≡_, refl, sym, ap, _∙_}
-use mathlib.Core.List.{List, [], _∷_, _++_, map}
+use mathlib.Core.Path.{_≡_, refl, ap, _∙_}
+use mathlib.Core.List.{List, [], _∷_, map}
 use Prim.Native.Nat.{ℕ, zero, suc, _+_, _-_, _≤_, _<_, min}
 use native.Mathlib.Nat.{zero-add}
 use native.Mathlib.Omega.{arith}
@@ -16,7 +16,7 @@ counted-read (suc n) i zero d h = omega arith
 counted-read (suc n) i (suc j) d h = counted-read n (suc i) j d (omega arith) ∙ omega arith
 
 -- inside a list the default is not looked at
-getD-inside : (l : List ℕ) (i d e : ℕ) → i < length l → getD l i d ≡ getD l i e
+pub getD-inside : (l : List ℕ) (i d e : ℕ) → i < length l → getD l i d ≡ getD l i e
 getD-inside [] i d e h = absurd (omega arith)
 getD-inside (x ∷ l) zero d e h = refl
 getD-inside (x ∷ l) (suc i) d e h = getD-inside l i d e (omega arith)

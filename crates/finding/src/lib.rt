@@ -1,17 +1,68 @@
 // Where each of many numbers stands in a column, for every column and count; at most the first 256 places are looked at.
 ghost use mathlib.Core.Path.{_≡_};
+ghost use Prim.Native.Nat.{min};
+ghost use lib.ListN.{length};
+ghost use Rattle.register.specs.Limits.{claimLimit};
+ghost use Rattle.columns.specs.Columns.{latestPlace};
 ghost use Rattle.finding.specs.Finding.{numberOf, placesOf, earlierPlaces};
-use columns::Place;
+ghost use Rattle.finding.specs.Tables.{bucketOf, Indexing, Sought};
 use register::Register;
 
-// A place as a number.
-fn number_of(place: Place, none: usize) -> usize
-    ensures { λ r. ⌜ r ≡ numberOf none place ⌝ }
+// How many buckets a table has.
+const BUCKETS: usize = 512;
+
+// The places of a column by buckets, so that few places are looked at for a number. A link is 0 for none, else a place and 1: a
+// bucket's head links to its latest place, and each place to the latest before it in its bucket.
+struct Table {
+    heads: [u16; BUCKETS],
+    nexts: [u16; Register::CLAIMS],
+}
+
+// The bucket of a number.
+fn bucket_of(x: u32) -> usize
+    ensures { λ r. ⌜ r ≡ bucketOf x ⌝ }
 {
-    match place {
-        Place::At(at) => at,
-        Place::Nowhere => none,
+    x as usize % BUCKETS
+}
+
+// The table of the first `n` of a column.
+fn tabulate(column: &[u32], n: usize) -> Table
+    ensures { λ r. ⌜ Indexing (now (column .entry)) (min n (min claimLimit (length (now (column .entry))))) (r .heads) (r .nexts) ⌝ }
+{
+    let count = columns::least(n, columns::least(Register::CLAIMS, column.len()));
+    let mut heads = [0u16; BUCKETS];
+    let mut nexts = [0u16; Register::CLAIMS];
+    let mut i: usize = 0;
+    while i < count {
+        let bucket = bucket_of(column[i]);
+        nexts[i] = heads[bucket];
+        heads[bucket] = (i + 1) as u16;
+        i += 1;
     }
+    Table { heads, nexts }
+}
+
+// The latest place below `below` at which a column holds `x`, by a table that has all of these places; `none` where there is none.
+fn seek<'a>(
+    heads: &'a [u16],
+    nexts: &'a [u16],
+    column: &'a [u32],
+    below: usize,
+    x: u32,
+    none: usize,
+) -> usize
+    requires { ⌜ Sought (now column) below (now heads) (now nexts) ⌝ }
+    ensures { λ r. ⌜ r ≡ numberOf none (latestPlace (now (column .entry)) below x) ⌝ }
+{
+    let mut link = heads[bucket_of(x)];
+    while link != 0 {
+        let at = (link - 1) as usize;
+        if (at < below) & (column[at] == x) {
+            return at;
+        }
+        link = nexts[at];
+    }
+    none
 }
 
 // The latest place of each of the first `m` wanted numbers among the first `n` of a column; `none` where there is none, and past them.
@@ -25,12 +76,14 @@ pub fn places_of<'a>(
     ensures { λ r. ⌜ r ≡ placesOf (now (column .entry)) n (now (wanted .entry)) m none ⌝ }
 {
     let below = columns::least(n, Register::CLAIMS);
+    let t = tabulate(column, below);
+    let heads = t.heads;
+    let nexts = t.nexts;
     let top = columns::least(m, columns::least(Register::CLAIMS, wanted.len()));
     let mut places = [none; Register::CLAIMS];
     let mut i: usize = 0;
     while i < top {
-        let place = columns::latest_place(column, below, wanted[i]);
-        places[i] = number_of(place, none);
+        places[i] = seek(&heads, &nexts, column, below, wanted[i], none);
         i += 1;
     }
     places
@@ -46,11 +99,13 @@ pub fn earlier_places<'a>(
     ensures { λ r. ⌜ r ≡ earlierPlaces (now (column .entry)) (now (wanted .entry)) m none ⌝ }
 {
     let top = columns::least(m, columns::least(Register::CLAIMS, wanted.len()));
+    let t = tabulate(column, top);
+    let heads = t.heads;
+    let nexts = t.nexts;
     let mut places = [none; Register::CLAIMS];
     let mut i: usize = 0;
     while i < top {
-        let place = columns::latest_place(column, i, wanted[i]);
-        places[i] = number_of(place, none);
+        places[i] = seek(&heads, &nexts, column, i, wanted[i], none);
         i += 1;
     }
     places

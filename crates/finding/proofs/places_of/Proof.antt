@@ -1,5 +1,6 @@
--- `finding::places_of` meets its contract: the array is filled from the front (Filling). The measure is what is left to fill. Assumes nothing.
-use mathlib.Core.Path.{refl, ap, _∙_}
+-- `finding::places_of` meets its contract: the array is filled from the front (Filling), each place by a table that has all the places asked for
+-- (`sought-below`). The measure is what is left to fill. Assumes nothing.
+use mathlib.Core.Path.{refl, _∙_}
 use Prim.Native.Nat.{_-_, min}
 use native.Mathlib.Omega.{arith}
 use lib.ListN.{getD}
@@ -8,14 +9,15 @@ use Rattle.register.specs.Limits.{claimLimit}
 use Rattle.columns.specs.Columns.{latestPlace}
 use Rattle.finding.specs.Finding.{numberOf, placesOf}
 use Rattle.finding.proofs.Filling.{Filling, empty, fill, full}
+use Rattle.finding.proofs.Seeking.{sought-below}
 use Rattle.finding.proofs.places_of.Statement.{statement}
 use Rattle.finding.proofs.places_of.Tie as tie
 
 abbrev Inv-loop : tie.InvT-loop
-Inv-loop column n wanted m none below top places₀ i₀ places i = Filling (λ j. numberOf none (latestPlace column (min n claimLimit) (getD wanted j 0))) top none i places
+Inv-loop column n wanted m none below heads nexts top places₀ i₀ places i = Filling (λ j. numberOf none (latestPlace column (min n claimLimit) (getD wanted j 0))) top none i places
 
 abbrev μ-loop : tie.MeasureT-loop
-μ-loop column n wanted m none below top places₀ i₀ places i = top - i
+μ-loop column n wanted m none below heads nexts top places₀ i₀ places i = top - i
 
 least-requires : tie.Need-least-requires Inv-loop μ-loop
 least-requires c κs = search needs
@@ -26,20 +28,28 @@ least-requires-2 c κs = search needs
 least-requires-3 : tie.Need-least-requires-3 Inv-loop μ-loop
 least-requires-3 c κs = search needs
 
+tabulate-requires : tie.Need-tabulate-requires Inv-loop μ-loop
+tabulate-requires c κs = search needs
+
 loop-holds : tie.Need-loop-holds Inv-loop μ-loop
 loop-holds c = empty (omega arith) refl
 
-mul-latest-place : tie.Need-mul-latest-place Inv-loop μ-loop
-mul-latest-place c = search needs
+slice-aggregate-seek : tie.Need-slice-aggregate-seek Inv-loop μ-loop
+slice-aggregate-seek c = search needs
 
-shared-slice-read-latest-place : tie.Need-shared-slice-read-latest-place Inv-loop μ-loop
-shared-slice-read-latest-place c = omega arith
+slice-aggregate-seek-2 : tie.Need-slice-aggregate-seek-2 Inv-loop μ-loop
+slice-aggregate-seek-2 c = search needs
 
-latest-place-requires : tie.Need-latest-place-requires Inv-loop μ-loop
-latest-place-requires c κs = search needs
+mul-seek : tie.Need-mul-seek Inv-loop μ-loop
+mul-seek c = search needs
 
-number-of-requires : tie.Need-number-of-requires Inv-loop μ-loop
-number-of-requires c κs = search needs
+shared-slice-read-seek : tie.Need-shared-slice-read-seek Inv-loop μ-loop
+shared-slice-read-seek c = omega arith
+
+seek-requires : tie.Need-seek-requires Inv-loop μ-loop
+seek-requires c κs =
+    let made = c .before .before .before .before .before .before .before .before .before in
+    sought-below (made .tabulate .ensures) (made .before .least .result) (omega arith) (omega (arith, made .before .least .ensures))
 
 mul-places : tie.Need-mul-places Inv-loop μ-loop
 mul-places c = search needs
@@ -55,8 +65,9 @@ loop-less c = omega arith
 
 loop-again : tie.Need-loop-again Inv-loop μ-loop
 loop-again c =
-    let entry = c .before .before .before .before .before .before .before .before .before .before .args in
-    fill (c .before .before .before .before .loop .inv) (c .number-of .result) (c .before .before .before .loop-test .taken) (c .number-of .ensures ∙ ap (numberOf _) (c .before .latest-place .ensures ∙ ap (λ b. latestPlace (entry .column .now) b (getD (entry .wanted .now) (c .before .before .before .before .loop .i) 0)) (c .before .before .before .before .before .before .before .least .ensures)))
+    let turn = c .before .before .before .before in
+    let first = turn .before .before .before .before .before .before .before in
+    fill (turn .before .loop .inv) (c .seek .result) (turn .loop-test .taken) (rw (first .least .ensures) at (c .seek .ensures))
 
 returns : tie.Need-returns Inv-loop μ-loop
 unfolding placesOf
@@ -69,13 +80,15 @@ places-of-spec =
     Inv-loop
     μ-loop
     least-requires
+    tabulate-requires
     least-requires-2
     least-requires-3
     loop-holds
-    mul-latest-place
-    shared-slice-read-latest-place
-    latest-place-requires
-    number-of-requires
+    slice-aggregate-seek
+    slice-aggregate-seek-2
+    mul-seek
+    shared-slice-read-seek
+    seek-requires
     mul-places
     array-write-places
     add-i
