@@ -69,9 +69,9 @@ module _ {column : List ℕ} {n : ℕ} {heads nexts : List ℕ} (s : Indexing co
       }
 
 -- the table of the first n has every place below one of them
-pub sought-below : {column heads nexts : List ℕ} {n : ℕ} → Indexing column (min n (min claimLimit (length column))) heads nexts
-    → (below : ℕ) → below ≤ n → n ≤ claimLimit → Sought column below heads nexts
-sought-below {column} {heads} {nexts} {n} s below h room = record { count = min n (min claimLimit (length column)); reached = omega arith; indexing = s }
+pub sought-below : {column heads nexts : List ℕ} {n below : ℕ} → Indexing column (min n (min claimLimit (length column))) heads nexts
+    → below ≤ n → n ≤ claimLimit → Sought column below heads nexts
+sought-below {column} {heads} {nexts} {n} {below} s h room = record { count = min n (min claimLimit (length column)); reached = omega arith; indexing = s }
 
 -- a number is sought from a link on: the link is the latest place of its bucket among the first places of the table, and what is
 -- sought below a place stands among them

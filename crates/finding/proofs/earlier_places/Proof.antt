@@ -44,9 +44,8 @@ shared-slice-read-seek c = omega arith
 
 seek-requires : tie.Need-seek-requires Inv-loop μ-loop
 seek-requires c κs =
-    let loop = c .before .before .before .before in
-    let made = loop .before .before .before in
-    sought-below (made .tabulate .ensures) (loop .loop .i) (omega arith) (omega arith)
+    let made = c .before .before .before .before .before .before .before in
+    sought-below (made .tabulate .ensures) (omega arith) (omega arith)
 
 mul-places : tie.Need-mul-places Inv-loop μ-loop
 mul-places c = search needs

@@ -49,7 +49,7 @@ shared-slice-read-seek c = omega arith
 seek-requires : tie.Need-seek-requires Inv-loop μ-loop
 seek-requires c κs =
     let made = c .before .before .before .before .before .before .before .before .before in
-    sought-below (made .tabulate .ensures) (made .before .least .result) (omega arith) (omega (arith, made .before .least .ensures))
+    sought-below (made .tabulate .ensures) (omega arith) (omega arith)
 
 mul-places : tie.Need-mul-places Inv-loop μ-loop
 mul-places c = search needs
