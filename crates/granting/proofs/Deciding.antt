@@ -1,17 +1,18 @@
 -- The outcome of each part of a grant's tests: which of them decides, by what was found of those before it. Assumes nothing.
 use mathlib.Core.Path.{_≡_, sym, ap, _∙_}
-use mathlib.Core.Bool.{true, false}
+use mathlib.Core.Bool.{Bool, true, false}
 use mathlib.Core.List.{List, [], _∷_, _++_}
 use Prim.Native.Nat.{ℕ, _<_}
 use lib.Dec.{eqb, leb, ltb}
 use lib.ListN.{length}
 use borrow.Author.Tests.{eq-eqb, ne-eqb, ltb-true}
+use Rattle.lists.specs.Lists.{any}
 use Rattle.rights.specs.Rights.{delegating, hasRight, hasRights, barsMachine}
 use Rattle.register.specs.Limits.{claimLimit, hopLimit, momentEnd}
 use Rattle.register.specs.Chain.{above, circling, live}
 use Rattle.register.specs.declared.Claim.{Claim}
 use Rattle.register.specs.declared.Register.{Register}
-use Rattle.rules.specs.Sound.{World, sound, claimFits, namesStand, fresh, rootKept}
+use Rattle.rules.specs.Sound.{World, sound, claimFits, namesStand, rootKept}
 use Rattle.changes.specs.Refusals.{outcomeOf}
 use Rattle.changes.specs.Changes.{worldIn, standing, worldTests, parentTests, grantTests, appended, granted}
 use Rattle.changes.specs.Laws.{outcome-first, outcome-append, outcome-append-refused}
@@ -19,49 +20,48 @@ use Rattle.changes.specs.declared.Refusal.{Refusal}
 use Rattle.changes.specs.declared.Refusal.the-variants.{Unsound, OutOfRange, Unknown, IdStands, Full, NotKeeper, Ownerless, MachineBarred, ParentAbsent}
 use Rattle.changes.specs.declared.Refusal.the-variants.{ParentNotHeld, ParentDead, NoDelegate, RightLacking, WeightAbove, TooManyHops, Circle}
 use Rattle.changes.specs.declared.Outcome.{Outcome}
-use Rattle.changes.specs.declared.Granted.{Granted}
 use Rattle.changes.specs.declared.Outcome.the-variants.{Accepted, Refused}
-use Rattle.granting.specs.Drawn.{drawnTests, chainTests, parent-tests}
+use Rattle.granting.specs.Drawn.{toldTests, drawnTests, chainTests, world-tests, parent-tests}
 
 -- tests 3 to 8
-module _ (w : World) (earlier : List Claim) (n : ℕ) (c : Claim) where
-  pub unknown : namesStand w c ≡ false → outcomeOf (worldTests w earlier n c) ≡ Refused Unknown
-  unfolding worldTests outcomeOf
+module _ (w : World) (stands : Bool) (n : ℕ) (c : Claim) where
+  pub unknown : namesStand w c ≡ false → outcomeOf (toldTests w stands n c) ≡ Refused Unknown
+  unfolding toldTests outcomeOf
   unknown e = rw e
 
   module _ (names : namesStand w c ≡ true) where
-    pub id-stands : fresh earlier c ≡ false → outcomeOf (worldTests w earlier n c) ≡ Refused IdStands
-    unfolding worldTests outcomeOf
+    pub id-stands : stands ≡ true → outcomeOf (toldTests w stands n c) ≡ Refused IdStands
+    unfolding toldTests outcomeOf
     id-stands e = rw (names, e)
 
-    module _ (unused : fresh earlier c ≡ true) where
-      pub full : ltb n claimLimit ≡ false → outcomeOf (worldTests w earlier n c) ≡ Refused Full
-      unfolding worldTests outcomeOf
+    module _ (unused : stands ≡ false) where
+      pub full : ltb n claimLimit ≡ false → outcomeOf (toldTests w stands n c) ≡ Refused Full
+      unfolding toldTests outcomeOf
       full e = rw (names, unused, e)
 
       module _ (room : ltb n claimLimit ≡ true) where
-        pub not-keeper : rootKept w c ≡ false → outcomeOf (worldTests w earlier n c) ≡ Refused NotKeeper
-        unfolding worldTests outcomeOf
+        pub not-keeper : rootKept w c ≡ false → outcomeOf (toldTests w stands n c) ≡ Refused NotKeeper
+        unfolding toldTests outcomeOf
         not-keeper e = rw (names, unused, room, e)
 
         module _ (kept : rootKept w c ≡ true) where
           -- who is no machine is not asked further
-          pub no-machine : w .machine (c .grantor) ≡ false → outcomeOf (worldTests w earlier n c) ≡ Accepted
-          unfolding worldTests outcomeOf
+          pub no-machine : w .machine (c .grantor) ≡ false → outcomeOf (toldTests w stands n c) ≡ Accepted
+          unfolding toldTests outcomeOf
           no-machine e = rw (names, unused, room, kept, e)
 
           module _ (machine : w .machine (c .grantor) ≡ true) where
-            pub ownerless : w .ownerless (c .grantor) ≡ true → outcomeOf (worldTests w earlier n c) ≡ Refused Ownerless
-            unfolding worldTests outcomeOf
+            pub ownerless : w .ownerless (c .grantor) ≡ true → outcomeOf (toldTests w stands n c) ≡ Refused Ownerless
+            unfolding toldTests outcomeOf
             ownerless e = rw (names, unused, room, kept, machine, e)
 
             module _ (owned : w .ownerless (c .grantor) ≡ false) where
-              pub machine-barred : barsMachine (c .rights) ≡ true → outcomeOf (worldTests w earlier n c) ≡ Refused MachineBarred
-              unfolding worldTests outcomeOf
+              pub machine-barred : barsMachine (c .rights) ≡ true → outcomeOf (toldTests w stands n c) ≡ Refused MachineBarred
+              unfolding toldTests outcomeOf
               machine-barred e = rw (names, unused, room, kept, machine, owned, e)
 
-              pub machine-grants : barsMachine (c .rights) ≡ false → outcomeOf (worldTests w earlier n c) ≡ Accepted
-              unfolding worldTests outcomeOf
+              pub machine-grants : barsMachine (c .rights) ≡ false → outcomeOf (toldTests w stands n c) ≡ Accepted
+              unfolding toldTests outcomeOf
               machine-grants e = rw (names, unused, room, kept, machine, owned, e)
 
 -- tests 10 to 14
@@ -100,17 +100,17 @@ module _ (now : ℕ) (p c : Claim) where
             drawn-well e = rw (held, same, living, delegates, contains, e)
 
 -- tests 15 and 16
-module _ (l : List Claim) (c : Claim) where
-  pub too-many-hops : leb (length l) hopLimit ≡ false → outcomeOf (chainTests l c) ≡ Refused TooManyHops
+module _ {A : Type 0} (grantor holder : A → ℕ) (l : List A) (h : ℕ) where
+  pub too-many-hops : leb (length l) hopLimit ≡ false → outcomeOf (chainTests grantor holder l h) ≡ Refused TooManyHops
   unfolding chainTests outcomeOf
   too-many-hops e = rw e
 
   module _ (within : leb (length l) hopLimit ≡ true) where
-    pub circle : circling (λ d. d .grantor) (λ d. d .holder) l (c .holder) ≡ true → outcomeOf (chainTests l c) ≡ Refused Circle
+    pub circle : circling grantor holder l h ≡ true → outcomeOf (chainTests grantor holder l h) ≡ Refused Circle
     unfolding chainTests outcomeOf
     circle e = rw (within, e)
 
-    pub no-circle : circling (λ d. d .grantor) (λ d. d .holder) l (c .holder) ≡ false → outcomeOf (chainTests l c) ≡ Accepted
+    pub no-circle : circling grantor holder l h ≡ false → outcomeOf (chainTests grantor holder l h) ≡ Accepted
     unfolding chainTests outcomeOf
     no-circle e = rw (within, e)
 
@@ -120,16 +120,10 @@ module _ (now : ℕ) (l : List Claim) (c : Claim) where
   unfolding parentTests outcomeOf
   parent-absent e = rw e
 
-  -- the parent p stands
-  module _ {p : Claim} {higher : List Claim} (stands : l ≡ p ∷ higher) where
-    in-parts : outcomeOf (parentTests now l c) ≡ outcomeOf (drawnTests now p c ++ chainTests l c)
-    in-parts = rw stands (ap outcomeOf (parent-tests now p higher c))
-
-    pub not-drawn : {why : Refusal} → outcomeOf (drawnTests now p c) ≡ Refused why → outcomeOf (parentTests now l c) ≡ Refused why
-    not-drawn {why} e = in-parts ∙ outcome-append-refused (drawnTests now p c) (chainTests l c) why e
-
-    pub chain-decides : {y : Outcome} → outcomeOf (drawnTests now p c) ≡ Accepted → y ≡ outcomeOf (chainTests l c) → outcomeOf (parentTests now l c) ≡ y
-    chain-decides e q = in-parts ∙ outcome-append (drawnTests now p c) (chainTests l c) e ∙ sym q
+  -- the parent p stands: its tests, and then those of the chain
+  pub parent-present : {p : Claim} {higher : List Claim} → l ≡ p ∷ higher
+      → outcomeOf (parentTests now l c) ≡ outcomeOf (drawnTests now p c ++ chainTests (λ d. d .grantor) (λ d. d .holder) l (c .holder))
+  parent-present {p} {higher} stands = rw stands (ap outcomeOf (parent-tests now p higher c))
 
 -- tests 1 to 16
 module _ (r : Register) (c : Claim) (now : ℕ) where
@@ -147,23 +141,33 @@ module _ (r : Register) (c : Claim) (now : ℕ) where
       unfolding grantTests outcomeOf
       moment-past e = rw (whole, fit, e)
 
-      module _ (timely : ltb now momentEnd ≡ true) where
-        pub world-refuses : {why : Refusal} → outcomeOf (worldTests (worldIn r) (standing r) (r .claims .count) c) ≡ Refused why
+      module _ (timely : ltb now momentEnd ≡ true) {stands : Bool} (told : stands ≡ any (λ d. eqb (c .id) (d .id)) (standing r)) where
+        told-outcome : {y : Outcome} → outcomeOf (toldTests (worldIn r) stands (r .claims .count) c) ≡ y
+            → outcomeOf (worldTests (worldIn r) (standing r) (r .claims .count) c) ≡ y
+        told-outcome e =
+            ap outcomeOf (world-tests (worldIn r) (standing r) (r .claims .count) c)
+            ∙ ap (λ b. outcomeOf (toldTests (worldIn r) b (r .claims .count) c)) (sym told)
+            ∙ e
+
+        pub world-refuses : {why : Refusal} → outcomeOf (toldTests (worldIn r) stands (r .claims .count) c) ≡ Refused why
             → outcomeOf (grantTests r c now) ≡ Refused why
         unfolding grantTests outcomeOf
-        world-refuses {why} e = rw (whole, fit, timely) (outcome-append-refused (worldTests (worldIn r) (standing r) (r .claims .count) c) _ why e)
+        world-refuses {why} e =
+            rw (whole, fit, timely) (outcome-append-refused (worldTests (worldIn r) (standing r) (r .claims .count) c) _ why (told-outcome e))
 
-        module _ (world : outcomeOf (worldTests (worldIn r) (standing r) (r .claims .count) c) ≡ Accepted) where
+        module _ (world : outcomeOf (toldTests (worldIn r) stands (r .claims .count) c) ≡ Accepted) where
           pub root-granted : c .parent ≡ 0 → outcomeOf (grantTests r c now) ≡ Accepted
           unfolding grantTests outcomeOf
-          root-granted o = rw (whole, fit, timely, eq-eqb (c .parent) 0 o) (outcome-append (worldTests (worldIn r) (standing r) (r .claims .count) c) [] world)
+          root-granted o =
+              rw (whole, fit, timely, eq-eqb (c .parent) 0 o)
+              (outcome-append (worldTests (worldIn r) (standing r) (r .claims .count) c) [] (told-outcome world))
 
-          pub parent-decides : {y : Outcome} → (c .parent ≡ 0 → ⊥) → y ≡ outcomeOf (parentTests now (above (standing r) c) c)
+          pub parent-decides : {y : Outcome} → (c .parent ≡ 0 → ⊥) → outcomeOf (parentTests now (above (standing r) c) c) ≡ y
               → outcomeOf (grantTests r c now) ≡ y
           unfolding grantTests outcomeOf
           parent-decides o q =
               rw (whole, fit, timely, ne-eqb (c .parent) 0 o)
-              (outcome-append (worldTests (worldIn r) (standing r) (r .claims .count) c) (parentTests now (above (standing r) c) c) world ∙ sym q)
+              (outcome-append (worldTests (worldIn r) (standing r) (r .claims .count) c) (parentTests now (above (standing r) c) c) (told-outcome world) ∙ q)
 
   -- an accepted claim finds room
   pub accepted-room : outcomeOf (grantTests r c now) ≡ Accepted → r .claims .count < claimLimit
@@ -175,13 +179,12 @@ module _ (r : Register) (c : Claim) (now : ℕ) where
       let behind-fresh = outcome-first _ _ behind-names .1 in
       ltb-true (r .claims .count) claimLimit (outcome-first _ _ behind-fresh .0)
 
-  pub granted-accepted : {y : Outcome} {s : Register} → y ≡ outcomeOf (grantTests r c now) → y ≡ Accepted → s ≡ appended r c
-      → record { register = s; outcome = Accepted } ≡ granted r c now
+  pub granted-accepted : {y : Outcome} → y ≡ outcomeOf (grantTests r c now) → y ≡ Accepted
+      → record { register = appended r c; outcome = Accepted } ≡ granted r c now
   unfolding granted
-  granted-accepted e a t = rw (← e, a, t)
+  granted-accepted e a = rw (← e, a)
 
-  pub granted-refused : {y : Outcome} {why : Refusal} {g : Granted} → y ≡ outcomeOf (grantTests r c now) → y ≡ Refused why
-      → g ≡ record { register = r; outcome = Refused why }
-      → g ≡ granted r c now
+  pub granted-refused : {y : Outcome} {why : Refusal} → y ≡ outcomeOf (grantTests r c now) → y ≡ Refused why
+      → record { register = r; outcome = Refused why } ≡ granted r c now
   unfolding granted
-  granted-refused e a t = rw (← e, a, t)
+  granted-refused e a = rw (← e, a)

@@ -1,18 +1,33 @@
--- Working definitions: the tests of a grant with a parent in two parts, those of the parent and the claim alone, and those of the chain.
--- They are shaped for the code; that 01's tests are the two parts in this order is proved here (`parent-tests`). Assumes nothing.
+-- Working definitions: a grant's tests in the parts that the code decides one by one. Tests 3 to 8 where it is told whether the claim's id
+-- stands; those of the parent and the claim alone; those of the chain, over anything that has grantors and holders. They are shaped for
+-- the code; that 01's tests are these parts in this order is proved here (`world-tests`, `parent-tests`). Assumes nothing.
 use mathlib.Core.Path.{_≡_, refl}
-use mathlib.Core.Bool.{not, _&&_}
+use mathlib.Core.Bool.{Bool, not, _&&_}
 use mathlib.Core.List.{List, [], _∷_, _++_}
 use Prim.Native.Nat.{ℕ}
-use lib.Dec.{eqb, leb}
+use lib.Dec.{eqb, leb, ltb}
 use lib.ListN.{length}
-use Rattle.rights.specs.Rights.{delegating, hasRight, hasRights}
-use Rattle.register.specs.Limits.{hopLimit}
+use Rattle.lists.specs.Lists.{any}
+use Rattle.rights.specs.Rights.{delegating, hasRight, hasRights, barsMachine}
+use Rattle.register.specs.Limits.{claimLimit, hopLimit}
 use Rattle.register.specs.Chain.{circling, live}
 use Rattle.register.specs.declared.Claim.{Claim}
+use Rattle.rules.specs.Sound.{World, namesStand, fresh, rootKept}
 use Rattle.changes.specs.Refusals.{Test}
-use Rattle.changes.specs.Changes.{sourceLive, parentTests}
+use Rattle.changes.specs.Changes.{sourceLive, worldTests, parentTests}
+use Rattle.changes.specs.declared.Refusal.the-variants.{Unknown, IdStands, Full, NotKeeper, Ownerless, MachineBarred}
 use Rattle.changes.specs.declared.Refusal.the-variants.{ParentNotHeld, ParentDead, NoDelegate, RightLacking, WeightAbove, TooManyHops, Circle}
+
+-- tests 3 to 8 in a world, where it is told whether the id of the claim c stands, and that n claims do
+unfoldable pub toldTests : World → Bool → ℕ → Claim → List Test
+toldTests w stands n c =
+    record { passed = namesStand w c; refusal = Unknown }
+    ∷ record { passed = not stands; refusal = IdStands }
+    ∷ record { passed = ltb n claimLimit; refusal = Full }
+    ∷ record { passed = rootKept w c; refusal = NotKeeper }
+    ∷ record { passed = not (w .machine (c .grantor) && w .ownerless (c .grantor)); refusal = Ownerless }
+    ∷ record { passed = not (w .machine (c .grantor) && barsMachine (c .rights)); refusal = MachineBarred }
+    ∷ []
 
 -- tests 10 to 14, of the parent p and the claim c alone
 unfoldable pub drawnTests : ℕ → Claim → Claim → List Test
@@ -24,12 +39,17 @@ drawnTests now p c =
     ∷ record { passed = leb (c .weight) (p .weight); refusal = WeightAbove }
     ∷ []
 
--- tests 15 and 16, of the chain above the claim c
-unfoldable pub chainTests : List Claim → Claim → List Test
-chainTests l c =
+-- tests 15 and 16, of the chain above a claim and its holder h
+unfoldable pub chainTests : {A : Type 0} → (A → ℕ) → (A → ℕ) → List A → ℕ → List Test
+chainTests grantor holder l h =
     record { passed = leb (length l) hopLimit; refusal = TooManyHops }
-    ∷ record { passed = not (circling (λ d. d .grantor) (λ d. d .holder) l (c .holder)); refusal = Circle }
+    ∷ record { passed = not (circling grantor holder l h); refusal = Circle }
     ∷ []
+
+pub world-tests : (w : World) (earlier : List Claim) (n : ℕ) (c : Claim)
+    → worldTests w earlier n c ≡ toldTests w (any (λ d. eqb (c .id) (d .id)) earlier) n c
+unfolding worldTests toldTests fresh
+world-tests w earlier n c = refl
 
 -- the liveness that a grant asks for is the parent's
 pub source-live : (now : ℕ) (p : Claim) (higher : List Claim) → sourceLive now (p ∷ higher) ≡ live now p
@@ -37,6 +57,6 @@ unfolding sourceLive
 source-live now p higher = refl
 
 pub parent-tests : (now : ℕ) (p : Claim) (higher : List Claim) (c : Claim)
-    → parentTests now (p ∷ higher) c ≡ drawnTests now p c ++ chainTests (p ∷ higher) c
+    → parentTests now (p ∷ higher) c ≡ drawnTests now p c ++ chainTests (λ d. d .grantor) (λ d. d .holder) (p ∷ higher) (c .holder)
 unfolding parentTests drawnTests chainTests
 parent-tests now p higher c = rw (source-live now p higher)

@@ -12,26 +12,36 @@ grant-outcome-requires c κs = search needs
 enum-told : tie.Need-enum-told
 enum-told c = search needs
 
-append-requires : tie.Need-append-requires
-append-requires c κs =
-    let given = c .before .before .before .args in
-    accepted-room (given .r) (given .c) (given .now) (sym (c .before .before .grant-outcome .ensures) ∙ c .enum-told .given .1)
+mul-c : tie.Need-mul-c
+mul-c c =
+    let given = c .before .before .before .before .before .before .args in
+    let room = accepted-room (given .r) (given .c) (given .now) (sym (c .before .before .before .before .before .grant-outcome .ensures) ∙ c .before .before .before .enum-told .given .1) in
+    search needs
+
+element-set-from-c : tie.Need-element-set-from-c
+element-set-from-c c =
+    let given = c .before .before .before .before .before .before .args in
+    let room = accepted-room (given .r) (given .c) (given .now) (sym (c .before .before .before .before .before .grant-outcome .ensures) ∙ c .before .before .before .enum-told .given .1) in
+    room
+
+add-claims : tie.Need-add-claims
+add-claims c =
+    let given = c .before .before .before .before .before .before .args in
+    let room = accepted-room (given .r) (given .c) (given .now) (sym (c .before .before .before .before .before .grant-outcome .ensures) ∙ c .before .before .before .enum-told .given .1) in
+    search needs
 
 enum-known-outcome : tie.Need-enum-known-outcome
 enum-known-outcome c = search needs
 
-refused-requires : tie.Need-refused-requires
-refused-requires c κs = search needs
-
 returns : tie.Need-returns
 returns c =
-    let given = c .before .before .before .before .args in
-    granted-accepted (given .r) (given .c) (given .now) (c .before .before .before .grant-outcome .ensures) (c .before .enum-told .given .1) (c .append .ensures)
+    let given = c .before .before .before .before .before .before .args in
+    granted-accepted (given .r) (given .c) (given .now) (c .before .before .before .before .before .grant-outcome .ensures) (c .before .before .before .enum-told .given .1)
 
 returns-2 : tie.Need-returns-2
 returns-2 c =
-    let given = c .before .before .before .before .before .args in
-    granted-refused (given .r) (given .c) (given .now) (c .before .before .before .before .grant-outcome .ensures) (c .before .before .outcome .given .1) (c .refused .ensures)
+    let given = c .before .before .before .before .args in
+    granted-refused (given .r) (given .c) (given .now) (c .before .before .before .grant-outcome .ensures) (c .before .outcome .given .1)
 
 pub grant-spec : {M : Type 1} → statement M
 grant-spec =
@@ -39,8 +49,9 @@ grant-spec =
     (tie.spec
     grant-outcome-requires
     enum-told
-    append-requires
+    mul-c
+    element-set-from-c
+    add-claims
     enum-known-outcome
-    refused-requires
     returns
     returns-2)
