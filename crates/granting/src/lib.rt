@@ -185,9 +185,12 @@ pub fn grant(r: Register, c: Claim, now: u64) -> Granted
                 outcome: Outcome::Accepted,
             }
         }
-        Outcome::Refused(why) => Granted {
-            register: r,
-            outcome: Outcome::Refused(why),
-        },
+        Outcome::Refused(why) => {
+            let unchanged = r;
+            Granted {
+                register: unchanged,
+                outcome: Outcome::Refused(why),
+            }
+        }
     }
 }

@@ -39,9 +39,7 @@ returns c =
     granted-accepted (given .r) (given .c) (given .now) (c .before .before .before .before .before .grant-outcome .ensures) (c .before .before .before .enum-told .given .1)
 
 returns-2 : tie.Need-returns-2
-returns-2 c =
-    let given = c .before .before .before .before .args in
-    granted-refused (given .r) (given .c) (given .now) (c .before .before .before .grant-outcome .ensures) (c .before .outcome .given .1)
+returns-2 c = search (needs, granted-refused)
 
 pub grant-spec : {M : Type 1} → statement M
 grant-spec =
