@@ -120,11 +120,13 @@ fn revoke_outcome(r: Register, who: u32, x: u32) -> Outcome
     }
     let a = r.actors;
     let k = r.claims;
-    let actors = columns::actor_ids(a);
-    let ids = columns::claim_ids(k);
-    let parents = columns::parents(k);
-    let grantors = columns::grantors(k);
-    if !columns::is_among(&actors, a.count, who) {
+    let actors = columns::actor_columns(a);
+    let claims = columns::claim_columns(k);
+    let known = actors.ids;
+    let ids = claims.ids;
+    let parents = claims.parents;
+    let grantors = claims.grantors;
+    if !columns::is_among(&known, a.count, who) {
         return Outcome::Refused(Refusal::Unknown);
     }
     if !columns::is_among(&ids, k.count, x) {
@@ -145,11 +147,15 @@ pub fn revoke(r: Register, who: u32, x: u32) -> Revoked
         Outcome::Accepted => {
             let k = r.claims;
             let struck = strike(k, x);
+            let actors = r.actors;
+            let resources = r.resources;
             let claims = struck.claims;
-            let mut s = r;
-            s.claims = claims;
             Revoked {
-                register: s,
+                register: Register {
+                    actors,
+                    resources,
+                    claims,
+                },
                 outcome: Outcome::Accepted,
                 removed: struck.removed,
             }

@@ -25,10 +25,10 @@ enum-known-outcome c = search needs
 
 returns : tie.Need-returns
 returns c =
-    let asked = c .before .before .before .before .before in
+    let asked = c .before .before .before .before .before .before .before in
     let entry = asked .before .args in
-    revoked-accepted (entry .r) (entry .who) (entry .x) (sym (asked .revoke-outcome .ensures) ∙ c .before .before .before .enum-told .given .1)
-    (c .before .strike .ensures)
+    revoked-accepted (entry .r) (entry .who) (entry .x) (sym (asked .revoke-outcome .ensures) ∙ c .before .before .before .before .before .enum-told .given .1)
+    (c .before .before .before .strike .ensures)
 
 returns-2 : tie.Need-returns-2
 returns-2 c =
