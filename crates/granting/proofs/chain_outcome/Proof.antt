@@ -1,6 +1,8 @@
 -- `granting::chain_outcome` meets its contract: each outcome by the tests that led to it (Deciding). Assumes nothing.
 use mathlib.Core.Path.{sym, _∙_}
+use lib.ListN.{getD}
 use borrow.Author.Tests.{not-true, not-false}
+use Rattle.columns.specs.Columns.{chainPlaces}
 use Rattle.granting.proofs.Deciding.{too-many-hops, circle, no-circle}
 use borrow.Author.Needs.{needs}
 use Rattle.granting.proofs.chain_outcome.Statement.{statement}
@@ -10,22 +12,31 @@ within-hops-requires : tie.Need-within-hops-requires
 within-hops-requires c κs = search needs
 
 returns : tie.Need-returns
-returns c = sym (too-many-hops _ _ _ _ (sym (c .before .within-hops .ensures) ∙ not-true _ (c .if1 .taken)))
+returns c =
+    let given = c .before .before .before .before .before .before .args in
+    sym
+    (too-many-hops (λ j. getD (given .grantors .now) j 0) (λ j. getD (given .holders .now) j 0)
+    (chainPlaces (given .ids .now) (given .parents .now) (given .n) (given .p)) (given .h)
+    (sym (c .before .within-hops .ensures) ∙ not-true _ (c .if1 .taken)))
 
 circles-requires : tie.Need-circles-requires
 circles-requires c κs = search needs
 
 returns-2 : tie.Need-returns-2
 returns-2 c =
+    let given = c .before .before .before .before .before .before .before .before .args in
     sym
-    (circle _ _ _ _
+    (circle (λ j. getD (given .grantors .now) j 0) (λ j. getD (given .holders .now) j 0)
+    (chainPlaces (given .ids .now) (given .parents .now) (given .n) (given .p)) (given .h)
     (sym (c .before .before .before .within-hops .ensures) ∙ not-false _ (c .before .before .if1 .left))
     (sym (c .before .circles .ensures) ∙ c .if2 .taken))
 
 returns-3 : tie.Need-returns-3
 returns-3 c =
+    let given = c .before .before .before .before .before .before .before .before .args in
     sym
-    (no-circle _ _ _ _
+    (no-circle (λ j. getD (given .grantors .now) j 0) (λ j. getD (given .holders .now) j 0)
+    (chainPlaces (given .ids .now) (given .parents .now) (given .n) (given .p)) (given .h)
     (sym (c .before .before .before .within-hops .ensures) ∙ not-false _ (c .before .before .if1 .left))
     (sym (c .before .circles .ensures) ∙ c .if2 .left))
 
