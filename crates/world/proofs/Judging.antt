@@ -2,7 +2,7 @@
 -- columns are in 01's words. Assumes nothing.
 use mathlib.Core.Path.{_≡_, refl, sym, ap, _∙_}
 use mathlib.Core.Bool.{Bool, true, false}
-use mathlib.Core.List.{List, map}
+use mathlib.Core.List.{List}
 use Prim.Native.Nat.{ℕ, _+_, _≤_, _<_, min}
 use lib.ListN.{length, take, getD}
 use Rattle.lists.specs.Lists.{every}
@@ -10,7 +10,9 @@ use Rattle.lists.specs.Loops.{Loop, start, turn, next, done}
 use Rattle.register.specs.declared.Actors.{Actors}
 use Rattle.register.specs.declared.Resources.{Resources}
 use Rattle.register.specs.Register.{actorsOf, resourcesOf}
-use Rattle.columns.specs.Columns.{actorId, kindOf, resourceId}
+use Rattle.columns.specs.Columns.{actorId, resourceId, actorColumns, resourceColumns}
+use Rattle.columns.specs.declared.ActorColumns.{ActorColumns}
+use Rattle.columns.specs.declared.ResourceColumns.{ResourceColumns}
 use Rattle.rules.specs.Sound.{distinct, human, actorFits, resourceFits, soundActors, soundResources}
 use Rattle.world.specs.Judged.{humanIn}
 use Rattle.world.specs.Laws.{take-map, same-humans}
@@ -35,28 +37,29 @@ module _ {A : Type 0} {p : A → Bool} {n : ℕ} {l : List A} {top : ℕ} where
     pub judging-done : top ≤ i → every p (take n l) ≡ true
     judging-done h = done (s .loop) h
 
--- the actors by their columns, whose ids and kinds are those of the actors
-module _ (a : Actors) {ids kinds : List ℕ} (numbers : ids ≡ map actorId (a .list)) (sorts : kinds ≡ map kindOf (a .list)) where
-  by-columns : _≡_ {A = ℕ → Bool} (λ x. humanIn ids kinds (a .count) x) (λ x. human (actorsOf a) x)
-  by-columns = rw (numbers, sorts) (same-humans (a .list) (a .count))
+-- the actors by their columns
+module _ (a : Actors) {people : ActorColumns} (actors : people ≡ actorColumns (a .list)) where
+  by-columns : _≡_ {A = ℕ → Bool} (λ x. humanIn (people .ids) (people .kinds) (a .count) x) (λ x. human (actorsOf a) x)
+  by-columns = rw actors (same-humans (a .list) (a .count))
 
-  pub actors-refused : every (actorFits (humanIn ids kinds (a .count))) (actorsOf a) ≡ false → soundActors (actorsOf a) ≡ false
+  pub actors-refused : every (actorFits (humanIn (people .ids) (people .kinds) (a .count))) (actorsOf a) ≡ false
+      → soundActors (actorsOf a) ≡ false
   unfolding soundActors
   actors-refused e = rw (← by-columns, e)
 
-  pub actors-distinct : every (actorFits (humanIn ids kinds (a .count))) (actorsOf a) ≡ true
-      → soundActors (actorsOf a) ≡ distinct (take (a .count) ids)
+  pub actors-distinct : every (actorFits (humanIn (people .ids) (people .kinds) (a .count))) (actorsOf a) ≡ true
+      → soundActors (actorsOf a) ≡ distinct (take (a .count) (people .ids))
   unfolding soundActors
-  actors-distinct e = rw (← by-columns, e, numbers, take-map actorId (a .count) (a .list))
+  actors-distinct e = rw (← by-columns, e, actors, take-map actorId (a .count) (a .list))
 
   module _ (k : Resources) where
-    pub resources-refused : every (resourceFits (humanIn ids kinds (a .count))) (resourcesOf k) ≡ false
+    pub resources-refused : every (resourceFits (humanIn (people .ids) (people .kinds) (a .count))) (resourcesOf k) ≡ false
         → soundResources (actorsOf a) (resourcesOf k) ≡ false
     unfolding soundResources
     resources-refused e = rw (← by-columns, e)
 
-    pub resources-distinct : {reports : List ℕ} → reports ≡ map resourceId (k .list)
-        → every (resourceFits (humanIn ids kinds (a .count))) (resourcesOf k) ≡ true
-        → soundResources (actorsOf a) (resourcesOf k) ≡ distinct (take (k .count) reports)
+    pub resources-distinct : {things : ResourceColumns} → things ≡ resourceColumns (k .list)
+        → every (resourceFits (humanIn (people .ids) (people .kinds) (a .count))) (resourcesOf k) ≡ true
+        → soundResources (actorsOf a) (resourcesOf k) ≡ distinct (take (k .count) (things .ids))
     unfolding soundResources
-    resources-distinct listed e = rw (← by-columns, e, listed, take-map resourceId (k .count) (k .list))
+    resources-distinct resources e = rw (← by-columns, e, resources, take-map resourceId (k .count) (k .list))

@@ -54,8 +54,9 @@ pub fn actor_fits<'a>(ids: &'a [u32], kinds: &'a [u32], n: usize, a: Actor) -> b
 pub fn actors_sound(k: Actors) -> bool
     ensures { λ r. ⌜ r ≡ soundActors (actorsOf k) ⌝ }
 {
-    let ids = columns::actor_ids(k);
-    let kinds = columns::kinds(k);
+    let actors = columns::actor_columns(k);
+    let ids = actors.ids;
+    let kinds = actors.kinds;
     let n = k.count;
     let top = columns::least(n, Register::ACTORS);
     let mut i: usize = 0;
@@ -111,16 +112,18 @@ pub fn resource_fits<'a>(ids: &'a [u32], kinds: &'a [u32], n: usize, o: Resource
 pub fn resources_sound(a: Actors, k: Resources) -> bool
     ensures { λ r. ⌜ r ≡ soundResources (actorsOf a) (resourcesOf k) ⌝ }
 {
-    let ids = columns::actor_ids(a);
-    let kinds = columns::kinds(a);
-    let reports = columns::resource_ids(k);
-    let actors = a.count;
+    let actors = columns::actor_columns(a);
+    let resources = columns::resource_columns(k);
+    let ids = actors.ids;
+    let kinds = actors.kinds;
+    let reports = resources.ids;
+    let m = a.count;
     let n = k.count;
     let top = columns::least(n, Register::RESOURCES);
     let mut i: usize = 0;
     while i < top {
         let o = k.list[i];
-        if !resource_fits(&ids, &kinds, actors, o) {
+        if !resource_fits(&ids, &kinds, m, o) {
             return false;
         }
         i += 1;

@@ -17,11 +17,8 @@ Inv-loop k ids kinds n top i₀ i = Judging (actorFits (humanIn ids kinds n)) n 
 abbrev μ-loop : tie.MeasureT-loop
 μ-loop k ids kinds n top i₀ i = top - i
 
-actor-ids-requires : tie.Need-actor-ids-requires Inv-loop μ-loop
-actor-ids-requires c κs = search needs
-
-kinds-requires : tie.Need-kinds-requires Inv-loop μ-loop
-kinds-requires c κs = search needs
+actor-columns-requires : tie.Need-actor-columns-requires Inv-loop μ-loop
+actor-columns-requires c κs = search needs
 
 least-requires : tie.Need-least-requires Inv-loop μ-loop
 least-requires c κs = search needs
@@ -47,8 +44,8 @@ actor-fits-requires c κs = search needs
 returns : tie.Need-returns Inv-loop μ-loop
 returns c =
     let turn = c .before .before .before .before .before in
-    let kinds = turn .before .before .before in
-    sym (actors-refused (kinds .before .before .args .t1) (kinds .before .actor-ids .ensures) (kinds .kinds .ensures)
+    let taken = turn .before .before .before .before .before in
+    sym (actors-refused (taken .before .args .t1) (taken .actor-columns .ensures)
     (judging-no (turn .before .loop .inv) _ (turn .loop-test .taken) (c .before .actor-fits .ensures) (not-true _ (c .if1 .taken))))
 
 add-i : tie.Need-add-i Inv-loop μ-loop
@@ -71,9 +68,9 @@ is-distinct-requires c κs = search needs
 returns-2 : tie.Need-returns-2 Inv-loop μ-loop
 returns-2 c =
     let end = c .before .before in
-    let kinds = end .before .before .before in
+    let taken = end .before .before .before .before .before in
     c .is-distinct .ensures
-    ∙ sym (actors-distinct (kinds .before .before .args .t1) (kinds .before .actor-ids .ensures) (kinds .kinds .ensures)
+    ∙ sym (actors-distinct (taken .before .args .t1) (taken .actor-columns .ensures)
     (judging-done (end .before .loop .inv) (end .loop-test .left)))
 
 pub actors-sound-spec : {M : Type 1} → statement M
@@ -82,8 +79,7 @@ actors-sound-spec =
     (tie.spec
     Inv-loop
     μ-loop
-    actor-ids-requires
-    kinds-requires
+    actor-columns-requires
     least-requires
     loop-holds
     mul-a

@@ -12,19 +12,16 @@ use Rattle.world.proofs.resources_sound.Statement.{statement}
 use Rattle.world.proofs.resources_sound.Tie as tie
 
 abbrev Inv-loop : tie.InvT-loop
-Inv-loop k ids kinds reports actors n top i₀ i = Judging (resourceFits (humanIn ids kinds actors)) n (k .list) top i
+Inv-loop k ids kinds reports m n top i₀ i = Judging (resourceFits (humanIn ids kinds m)) n (k .list) top i
 
 abbrev μ-loop : tie.MeasureT-loop
-μ-loop k ids kinds reports actors n top i₀ i = top - i
+μ-loop k ids kinds reports m n top i₀ i = top - i
 
-actor-ids-requires : tie.Need-actor-ids-requires Inv-loop μ-loop
-actor-ids-requires c κs = search needs
+actor-columns-requires : tie.Need-actor-columns-requires Inv-loop μ-loop
+actor-columns-requires c κs = search needs
 
-kinds-requires : tie.Need-kinds-requires Inv-loop μ-loop
-kinds-requires c κs = search needs
-
-resource-ids-requires : tie.Need-resource-ids-requires Inv-loop μ-loop
-resource-ids-requires c κs = search needs
+resource-columns-requires : tie.Need-resource-columns-requires Inv-loop μ-loop
+resource-columns-requires c κs = search needs
 
 least-requires : tie.Need-least-requires Inv-loop μ-loop
 least-requires c κs = search needs
@@ -50,9 +47,9 @@ resource-fits-requires c κs = search needs
 returns : tie.Need-returns Inv-loop μ-loop
 returns c =
     let turn = c .before .before .before .before .before in
-    let kinds = turn .before .before .before .before in
-    let entry = kinds .before .before .args in
-    sym (resources-refused (entry .a) (kinds .before .actor-ids .ensures) (kinds .kinds .ensures) (entry .t2)
+    let taken = turn .before .before .before .before .before .before in
+    let entry = taken .before .before .args in
+    sym (resources-refused (entry .a) (taken .before .actor-columns .ensures) (entry .t2)
     (judging-no (turn .before .loop .inv) _ (turn .loop-test .taken) (c .before .resource-fits .ensures) (not-true _ (c .if1 .taken))))
 
 add-i : tie.Need-add-i Inv-loop μ-loop
@@ -75,11 +72,10 @@ is-distinct-requires c κs = search needs
 returns-2 : tie.Need-returns-2 Inv-loop μ-loop
 returns-2 c =
     let end = c .before .before in
-    let reports = end .before .before .before in
-    let kinds = reports .before in
-    let entry = kinds .before .before .args in
+    let taken = end .before .before .before .before .before .before in
+    let entry = taken .before .before .args in
     c .is-distinct .ensures
-    ∙ sym (resources-distinct (entry .a) (kinds .before .actor-ids .ensures) (kinds .kinds .ensures) (entry .t2) (reports .resource-ids .ensures)
+    ∙ sym (resources-distinct (entry .a) (taken .before .actor-columns .ensures) (entry .t2) (taken .resource-columns .ensures)
     (judging-done (end .before .loop .inv) (end .loop-test .left)))
 
 pub resources-sound-spec : {M : Type 1} → statement M
@@ -88,9 +84,8 @@ resources-sound-spec =
     (tie.spec
     Inv-loop
     μ-loop
-    actor-ids-requires
-    kinds-requires
-    resource-ids-requires
+    actor-columns-requires
+    resource-columns-requires
     least-requires
     loop-holds
     mul-o
