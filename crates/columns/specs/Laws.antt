@@ -1,6 +1,6 @@
 -- What columns say of the lists that they are the columns of, and what the definitions over columns say place by place. Assumes nothing.
 use mathlib.Core.Path.{_≡_, refl, sym, ap, _∙_, fun-ext}
-use mathlib.Core.Bool.{Bool, true, false, _&&_}
+use mathlib.Core.Bool.{Bool, true, false, _&&_, _||_, or-false}
 use mathlib.Core.List.{List, [], _∷_, map, reverse-append}
 use Prim.Native.Nat.{ℕ, zero, suc, _≤_, _<_, min}
 use native.Mathlib.Omega.{arith}
@@ -8,14 +8,15 @@ use borrow.Author.Tests.{lt-ltb, le-ltb, eq-eqb, ne-eqb, le-leb, lt-leb, ltb-tru
 use lib.Dec.{eqb, ltb, leb}
 use lib.ListN.{length, take, getD, length-map, List·getD-map, List·getD-eq-default}
 use lib.Seq.{take-suc, take-all}
-use Rattle.lists.specs.Tests.{cases, and-left, and-right, and-both}
-use Rattle.lists.specs.Lists.{any}
+use Rattle.lists.specs.Tests.{cases, and-left, and-right, and-both, or-left, or-right}
+use Rattle.lists.specs.Lists.{any, any-append}
 use Rattle.register.specs.Limits.{hopLimit}
 use Rattle.register.specs.Register.{noClaim}
 use Rattle.register.specs.Chain.{latest, chain, numbered, circling}
 use Rattle.register.specs.Laws.{chain-nil, chain-hit, chain-miss, chain-zero, chain-map, circling-map}
 use Rattle.register.specs.declared.Claim.{Claim}
 use Rattle.columns.specs.declared.Hops.the-variants.{Up, Beyond}
+use Rattle.columns.specs.declared.Place.{Place}
 use Rattle.columns.specs.declared.Place.the-variants.{At, Nowhere}
 use Rattle.columns.specs.Columns.{claimId, parentOf, grantorOf, holderOf, places, latestPlace, beside, chainPlaces, stepsUp}
 
@@ -72,6 +73,51 @@ module _ (column : List ℕ) (x : ℕ) where
         eqb-true (getD column n 0) x (and-right (ltb n (length column)) (eqb (getD column n 0) x) e),
       ))
       (λ e. let found = place-found n k (sym (place-before n e) ∙ q) in (omega (arith, found .0), found .1, found .2))
+
+-- a place taken apart, with its equation
+pub place-cases : {A : Type 0} (p : Place) → ((j : ℕ) → p ≡ At j → A) → (p ≡ Nowhere → A) → A
+place-cases (At j) f g = f j refl
+place-cases Nowhere f g = g refl
+
+-- a number stands nowhere exactly where it is not among the first n
+module _ (column : List ℕ) (x : ℕ) where
+  any-next : (n : ℕ) → n < length column → any (eqb x) (take (suc n) column) ≡ any (eqb x) (take n column) || eqb x (getD column n 0)
+  any-next n h =
+      rw (take-suc column n 0, any-append (eqb x) (take n column) (getD column n 0 ∷ [])) (ap (λ b. any (eqb x) (take n column) || b) (or-false _))
+
+  any-past : (n : ℕ) → length column ≤ n → any (eqb x) (take (suc n) column) ≡ any (eqb x) (take n column)
+  any-past n h = ap (any (eqb x)) (take-all (suc n) column (omega arith) ∙ sym (take-all n column h))
+
+  pub nowhere-none : (n : ℕ) → latestPlace column n x ≡ Nowhere → any (eqb x) (take n column) ≡ false
+  nowhere-none zero q = refl
+  nowhere-none (suc n) q =
+      cases (ltb n (length column))
+      (λ t. let inside : n < length column = ltb-true n (length column) t in
+      cases (eqb (getD column n 0) x)
+      (λ e. let never : _≡_ {A = ℕ} 0 1 = cc (place-hit column x n inside (eqb-true (getD column n 0) x e)) in absurd (omega arith))
+      (λ e. let other : (getD column n 0 ≡ x → ⊥) = eqb-false (getD column n 0) x e in
+      any-next n inside
+      ∙ rw (nowhere-none n (sym (place-miss column x n inside other) ∙ q)) (ne-eqb x (getD column n 0) (λ same. other (sym same)))))
+      (λ t. let past : length column ≤ n = ltb-false n (length column) t in
+      any-past n past ∙ nowhere-none n (sym (place-past column x n past) ∙ q))
+
+  pub none-nowhere : (n : ℕ) → any (eqb x) (take n column) ≡ false → latestPlace column n x ≡ Nowhere
+  none-nowhere zero q = place-none column x
+  none-nowhere (suc n) q =
+      cases (ltb n (length column))
+      (λ t. let inside : n < length column = ltb-true n (length column) t in
+      let told : any (eqb x) (take n column) || eqb x (getD column n 0) ≡ false = sym (any-next n inside) ∙ q in
+      let before : any (eqb x) (take n column) ≡ false = or-left (any (eqb x) (take n column)) (eqb x (getD column n 0)) told in
+      let other : (x ≡ getD column n 0 → ⊥) =
+      eqb-false x (getD column n 0) (or-right (any (eqb x) (take n column)) (eqb x (getD column n 0)) told) in
+      place-miss column x n inside (λ same. other (sym same)) ∙ none-nowhere n before)
+      (λ t. let past : length column ≤ n = ltb-false n (length column) t in
+      place-past column x n past ∙ none-nowhere n (sym (any-past n past) ∙ q))
+
+  pub place-among : (n k : ℕ) → latestPlace column n x ≡ At k → any (eqb x) (take n column) ≡ true
+  place-among n k q =
+      cases (any (eqb x) (take n column)) (λ t. t)
+      (λ t. let never : _≡_ {A = ℕ} 0 1 = cc (none-nowhere n t) in absurd (omega arith))
 
 -- a chain of places, one place more: it is taken where it holds the number looked for
 module _ (ids parents : List ℕ) where

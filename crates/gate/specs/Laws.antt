@@ -23,7 +23,7 @@ use Rattle.verdicts.specs.Bounds.{violations-most}
 use Rattle.violations.specs.Pushed.{pushedAll}
 use Rattle.violations.specs.Laws.{pushed-all-natural, pushed-all-append}
 use Rattle.sights.specs.Sights.{Typed, ownerAt, ownerIn, sightOf}
-use Rattle.sights.specs.Distinct.{askedAt}
+use Rattle.rules.specs.Distinct.{askedAt}
 use Rattle.sights.specs.Laws.{use-natural, asked-actor}
 use Rattle.uses_judging.specs.Judging.{judgedIn, faultsFrom, usesJudged}
 use Rattle.gate.specs.Judged.{acting, besides, actionJudged}

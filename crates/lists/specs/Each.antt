@@ -4,7 +4,7 @@ use mathlib.Core.Bool.{Bool, true, false, _||_}
 use mathlib.Core.List.{List, [], _∷_, _++_, map}
 use native.Mathlib.Omega.{arith}
 use Prim.Native.Nat.{ℕ}
-use Rattle.lists.specs.Tests.{ands, and-left, and-right, and-both, or-left, or-right, or-middle}
+use Rattle.lists.specs.Tests.{cases, clash, ands, and-left, and-right, and-both, or-left, or-right, or-middle}
 use Rattle.lists.specs.Lists.{any, every}
 
 -- a list taken apart, with its equation
@@ -70,6 +70,12 @@ module _ {C : Type 0} where
   pub all-none : (p : C → Bool) (L : List C) → All (λ c. p c ≡ false) L → any p L ≡ false
   all-none p [] h = refl
   all-none p (c ∷ L) h = rw (h .0) (all-none p L (h .1))
+
+  -- where one test follows from another, none passes the first where none passes the second
+  pub none-weaken : (p q : C → Bool) → ((c : C) → p c ≡ true → q c ≡ true) → (L : List C) → any q L ≡ false → any p L ≡ false
+  none-weaken p q f L h =
+      all-none p L (all-imp (λ c. q c ≡ false) (λ c. p c ≡ false)
+      (λ c e. cases (p c) (λ k. clash (q c) (f c k) e) (λ k. k)) L (none-all q L h))
 
   -- every element passes the test exactly where each passes it
   pub every-all : (p : C → Bool) (L : List C) → every p L ≡ true → All (λ c. p c ≡ true) L

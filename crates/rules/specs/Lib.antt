@@ -1,6 +1,7 @@
 pub mod Sound
 pub mod Laws
 pub mod Registers
+pub mod Distinct
 pub mod Places
 pub mod Chains
 pub mod Striking

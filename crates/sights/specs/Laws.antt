@@ -27,7 +27,7 @@ use Rattle.verdicts.specs.Trace.{place-hops-most}
 use Rattle.use_judging.specs.Uses.{publicOf, openTo, stepsOf, hopsFrom, parentlessAt, coveredBy, faultOf, reliedOn, useJudged}
 use Rattle.gathering.specs.Gathering.{coverPlaces}
 use Rattle.sights.specs.Sights.{Typed, ownerAt, ownerIn, sightOf, spotFor, faultAt}
-use Rattle.sights.specs.Distinct.{askedAt, asked-natural}
+use Rattle.rules.specs.Distinct.{askedAt, asked-natural}
 use Rattle.sights.specs.Relying.{aloneAt, claimAt, claimPlaces, firstPlace, first-any, claims-read, relied-natural, place-natural, covers-natural}
 
 -- ---- the claim relied on: its parent and its hops

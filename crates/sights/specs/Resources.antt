@@ -27,7 +27,7 @@ use Rattle.gathering.specs.Gathering.{spotOf, spotIn}
 use Rattle.coverage.specs.Laws.{containing}
 use Rattle.use_judging.specs.Uses.{publicOf, openTo}
 use Rattle.sights.specs.Sights.{Typed, spotFor}
-use Rattle.sights.specs.Distinct.{askedAt, asked-natural}
+use Rattle.rules.specs.Distinct.{askedAt, asked-natural}
 
 -- what is asked at a place below the limit is asked at its spot
 asked-limited : {A : Type 0} (d : A) (l : List A) (q : A → Bool) (p : Place) → ((j : ℕ) → p ≡ At j → j < resourceLimit)

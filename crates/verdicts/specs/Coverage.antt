@@ -8,7 +8,7 @@ use borrow.Author.Tests.{eqb-false}
 use lib.Dec.{eqb}
 use Rattle.lists.specs.Tests.{cases, clash, and-left, or-right}
 use Rattle.lists.specs.Lists.{any, any-append, any-reverse}
-use Rattle.lists.specs.Each.{ands-out, all-none, each-all}
+use Rattle.lists.specs.Each.{ands-out, all-none, none-weaken, each-all}
 use Rattle.rights.specs.Rights.{reading, hasRight}
 use Rattle.paths.specs.Containment.{contained}
 use Rattle.register.specs.Register.{actorsOf, resourcesOf, claimsOf, pathOf}
@@ -20,7 +20,7 @@ use Rattle.rules.specs.Registers.{sound-out}
 use Rattle.rules.specs.Places.{place-parent}
 use Rattle.actions.specs.declared.Usage.{Usage}
 use Rattle.actions.specs.declared.Violation.the-variants.{NotCovered, OwnerNotCovering}
-use Rattle.verdicts.specs.Places.{Place, none-weaken, latest-split, first-none, first-found}
+use Rattle.verdicts.specs.Places.{Place, latest-split, first-none, first-found}
 use Rattle.verdicts.specs.Gate.{publicRead, contains, covering, covers, ownerLacks, parentless, parentGone, useViolation, hopsFor}
 
 -- what a covering claim is

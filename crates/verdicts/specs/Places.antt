@@ -5,7 +5,7 @@ use mathlib.Core.List.{List, [], _∷_, _++_, reverse-cons, reverse-append, appe
 use mathlib.Core.Logic.{_⊎_, inl, inr}
 use Rattle.lists.specs.Tests.{cases, clash, or-left, or-right, or-second}
 use Rattle.lists.specs.Lists.{any, any-append}
-use Rattle.lists.specs.Each.{All, none-all, all-none, all-imp, all-append}
+use Rattle.lists.specs.Each.{All, none-all, all-imp, all-append}
 use Rattle.register.specs.Chain.{latest}
 use Rattle.verdicts.specs.Gate.{firstOf}
 
@@ -60,12 +60,6 @@ module _ {C : Type 0} where
   pub all-latest : (Q : C → Type 0) (L : List C) → All Q L → All Q (latest L)
   all-latest Q [] h = tt
   all-latest Q (c ∷ L) h = rw (reverse-cons c L) (all-append Q (latest L) (c ∷ []) (all-latest Q L (h .1)) (h .0, tt))
-
-  -- where one test follows from another, none passes the first where none passes the second
-  pub none-weaken : (p q : C → Bool) → ((c : C) → p c ≡ true → q c ≡ true) → (L : List C) → any q L ≡ false → any p L ≡ false
-  none-weaken p q f L h =
-      all-none p L (all-imp (λ c. q c ≡ false) (λ c. p c ≡ false)
-      (λ c e. cases (p c) (λ k. clash (q c) (f c k) e) (λ k. k)) L (none-all q L h))
 
   pub latest-split : (K : List C) (c : C) (M : List C) → latest (K ++ c ∷ M) ≡ latest M ++ c ∷ latest K
   latest-split K c M = reverse-append K (c ∷ M) ∙ rw (reverse-cons c M) (append-assoc (latest M) (c ∷ []) (latest K))
