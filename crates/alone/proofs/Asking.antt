@@ -1,14 +1,15 @@
 -- The rules of a claim by itself, as the code asks them: each from what the tests found. Assumes nothing.
 use mathlib.Core.Path.{_≡_, sym, _∙_}
-use mathlib.Core.Bool.{Bool, true, false, not, _&&_, and-true, and-assoc}
+use mathlib.Core.Bool.{Bool, true, not, _&&_, _||_, and-true, and-assoc}
 use mathlib.Core.List.{List, [], _∷_}
-use lib.Dec.{leb, ltb}
+use lib.Dec.{eqb, leb, ltb}
 use borrow.Author.Tests.{eq-eqb, ne-eqb}
 use Rattle.lists.specs.Tests.{ands}
 use Rattle.rights.specs.Rights.{isRights, barsMachine}
-use Rattle.register.specs.Limits.{idLimit, weightLimit, momentEnd, isId}
+use Rattle.register.specs.Limits.{claimLimit, idLimit, weightLimit, momentEnd, machineKind, isId}
 use Rattle.register.specs.declared.Claim.{Claim}
-use Rattle.rules.specs.Sound.{World, claimFits, namesStand, rootKept, machineMay, alone}
+use Rattle.rules.specs.Sound.{World, claimFits, namesStand, rootKept}
+use Rattle.alone.specs.Judged.{Found, aloneAt}
 
 -- some tests joined from the left
 abbrev joined : Bool → List Bool → Bool
@@ -63,37 +64,26 @@ module _ (w : World) (c : Claim) where
   unfolding rootKept
   root-asked h q = rw (eq-eqb (c .parent) 0 h) q
 
-  -- who is no machine may grant
-  pub machine-none : {machine : Bool} → machine ≡ w .machine (c .grantor) → machine ≡ false → true ≡ machineMay w c
-  unfolding machineMay
-  machine-none m h = rw (← m, h)
-
-  -- a machine without an owner may not
-  pub machine-unowned : {machine ownerless : Bool}
-      → machine ≡ w .machine (c .grantor)
-      → machine ≡ true
-      → ownerless ≡ w .ownerless (c .grantor)
-      → ownerless ≡ true
-      → false ≡ machineMay w c
-  unfolding machineMay
-  machine-unowned m h o q = rw (← m, ← o, h, q)
-
-  -- one with an owner may grant what isn't kept from machines
-  pub machine-asked : {machine ownerless barred : Bool}
-      → machine ≡ w .machine (c .grantor)
-      → machine ≡ true
-      → ownerless ≡ w .ownerless (c .grantor)
-      → ownerless ≡ false
-      → barred ≡ barsMachine (c .rights)
-      → not barred ≡ machineMay w c
-  unfolding machineMay
-  machine-asked m h o q b = rw (← m, ← o, h, q, b)
-
-  pub alone-asked : {fit names root machine : Bool}
+-- a claim by what was looked up of it
+module _ (c : Claim) (f : Found) where
+  pub alone-asked : {fit barred : Bool}
       → fit ≡ claimFits c
-      → names ≡ namesStand w c
-      → root ≡ rootKept w c
-      → machine ≡ machineMay w c
-      → fit && names && root && machine ≡ alone w c
-  unfolding alone
-  alone-asked f n r m = rw (f, n, r, m) (joined-ands (claimFits c) (namesStand w c ∷ rootKept w c ∷ machineMay w c ∷ []))
+      → barred ≡ barsMachine (c .rights)
+      → fit
+      && ltb (f .grantor) claimLimit
+      && ltb (f .holder) claimLimit
+      && ltb (f .report) claimLimit
+      && (not (eqb (c .parent) 0) || eqb (c .grantor) (f .keeper))
+      && (not (eqb machineKind (f .kind)) || (not (eqb 0 (f .owner)) && not barred))
+      ≡ aloneAt c f
+  unfolding aloneAt
+  alone-asked t b =
+      rw (t, b)
+      (joined-ands
+      (claimFits c)
+      (ltb (f .grantor) claimLimit
+      ∷ ltb (f .holder) claimLimit
+      ∷ ltb (f .report) claimLimit
+      ∷ (not (eqb (c .parent) 0) || eqb (c .grantor) (f .keeper))
+      ∷ (not (eqb machineKind (f .kind)) || (not (eqb 0 (f .owner)) && not (barsMachine (c .rights))))
+      ∷ []))

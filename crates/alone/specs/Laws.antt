@@ -1,45 +1,87 @@
--- A claim by itself, judged by columns, is judged as 01 says: by the world of the actors and resources that they are the columns of.
--- Assumes nothing.
-use mathlib.Core.Path.{_≡_}
-use mathlib.Core.List.{List, map}
-use Prim.Native.Nat.{ℕ}
-use lib.ListN.{take}
-use Rattle.register.specs.Limits.{machineKind}
+-- A claim by itself, judged by what is looked up of it in the columns, is judged as 01 says: by the world of the actors and resources
+-- that they are the columns of, where those have distinct ids. Assumes nothing.
+use mathlib.Core.Path.{_≡_, refl, sym, ap, _∙_}
+use mathlib.Core.Bool.{Bool, true, false, not, _&&_, _||_}
+use mathlib.Core.List.{List, [], _∷_, map}
+use Prim.Native.Nat.{ℕ, _≤_}
+use native.Mathlib.Omega.{arith}
+use borrow.Author.Tests.{lt-ltb, ltb-true}
+use lib.Dec.{eqb, ltb}
+use lib.ListN.{take, getD, List·getD-map}
+use Rattle.lists.specs.Tests.{ands}
+use Rattle.lists.specs.Lists.{any}
+use Rattle.rights.specs.Rights.{barsMachine}
+use Rattle.register.specs.Limits.{claimLimit, machineKind}
+use Rattle.register.specs.Register.{noActor, noResource}
 use Rattle.register.specs.declared.Actor.{Actor}
 use Rattle.register.specs.declared.Resource.{Resource}
 use Rattle.register.specs.declared.Claim.{Claim}
-use Rattle.columns.specs.Columns.{actorId, kindOf, ownerOf, resourceId, keeperOf}
-use Rattle.columns.specs.Laws.{among-natural, beside-natural}
-use Rattle.rules.specs.Sound.{World, worldOf, namesStand, rootKept, machineMay, alone}
-use Rattle.alone.specs.Judged.{worldIn}
+use Rattle.columns.specs.Columns.{actorId, kindOf, ownerOf, resourceId, keeperOf, latestPlace}
+use Rattle.columns.specs.Laws.{place-cases, place-found, nowhere-none, place-among, among-natural}
+use Rattle.finding.specs.Finding.{numberOf}
+use Rattle.rules.specs.Sound.{worldOf, distinct, claimFits, namesStand, rootKept, machineMay, alone}
+use Rattle.rules.specs.Distinct.{askedAt, asked-natural}
+use Rattle.alone.specs.Judged.{placeIn, foundIn, aloneAt}
 
--- two worlds say the same of the numbers that a claim names
-record Agreeing (v w : World) (c : Claim) : Type 0 where
-  grantor : v .known (c .grantor) ≡ w .known (c .grantor)
-  holder : v .known (c .holder) ≡ w .known (c .holder)
-  resource : v .listed (c .resource) ≡ w .listed (c .resource)
-  keeper : v .keeps (c .grantor) (c .resource) ≡ w .keeps (c .grantor) (c .resource)
-  machine : v .machine (c .grantor) ≡ w .machine (c .grantor)
-  ownerless : v .ownerless (c .grantor) ≡ w .ownerless (c .grantor)
+-- what is looked up by the number x among the first n of a list
+module _ {A : Type 0} (id : A → ℕ) (l : List A) (n x : ℕ) (short : n ≤ claimLimit) where
+  -- a place is found exactly where x is the number of one of them
+  place-known : ltb (placeIn (map id l) n x) claimLimit ≡ any (λ a. eqb x (id a)) (take n l)
+  place-known =
+      place-cases (latestPlace (map id l) n x)
+      (λ k e. let found = place-found (map id l) x n k e in
+      rw e (lt-ltb k claimLimit (omega (arith, found .0)))
+      ∙ sym (place-among (map id l) x n k e)
+      ∙ among-natural id x n l)
+      (λ e. ap (λ p. ltb (numberOf claimLimit p) claimLimit) e ∙ sym (nowhere-none (map id l) x n e) ∙ among-natural id x n l)
 
--- a claim by itself is judged by what the world says of the numbers that it names
-alone-agrees : (v w : World) (c : Claim) → Agreeing v w c → alone v c ≡ alone w c
-unfolding alone namesStand rootKept machineMay
-alone-agrees v w c s = rw (s .grantor, s .holder, s .resource, s .keeper, s .machine, s .ownerless)
+  -- with distinct numbers, what is asked of the one numbered x is asked of what stands at its place
+  module _ (apart : distinct (map id (take n l)) ≡ true) (d : A) (unnumbered : id d ≡ 0) (field : A → ℕ) (unset : field d ≡ 0) (y : ℕ) where
+    field-asked : ltb (placeIn (map id l) n x) claimLimit ≡ true
+        → eqb y (getD (map field l) (placeIn (map id l) n x) 0) ≡ any (λ a. eqb x (id a) && eqb y (field a)) (take n l)
+    field-asked placed =
+        place-cases (latestPlace (map id l) n x)
+        (λ k e. let read : getD (map field l) k 0 ≡ field (getD l k d) = rw unset at (List·getD-map field l k d) in
+        ap (λ p. eqb y (getD (map field l) (numberOf claimLimit p) 0)) e
+        ∙ ap (eqb y) read
+        ∙ sym (ap (askedAt d l (λ a. eqb y (field a))) e)
+        ∙ sym (asked-natural id d unnumbered l x (λ a. eqb y (field a)) n apart))
+        (λ e. absurd (omega (arith, ltb-true claimLimit claimLimit (sym (ap (λ p. ltb (numberOf claimLimit p) claimLimit) e) ∙ placed))))
 
-pub alone-natural : (actors : List Actor) (resources : List Resource) (n m : ℕ) (c : Claim)
-    → alone (worldIn (map actorId actors) (map kindOf actors) (map ownerOf actors) n (map resourceId resources) (map keeperOf resources) m) c
-    ≡ alone (worldOf (take n actors) (take m resources)) c
-alone-natural actors resources n m c =
-    alone-agrees
-    (worldIn (map actorId actors) (map kindOf actors) (map ownerOf actors) n (map resourceId resources) (map keeperOf resources) m)
-    (worldOf (take n actors) (take m resources))
-    c
-    record {
-      grantor = among-natural actorId (c .grantor) n actors;
-      holder = among-natural actorId (c .holder) n actors;
-      resource = among-natural resourceId (c .resource) m resources;
-      keeper = beside-natural resourceId keeperOf (c .resource) (c .grantor) m resources;
-      machine = beside-natural actorId kindOf (c .grantor) machineKind n actors;
-      ownerless = beside-natural actorId ownerOf (c .grantor) 0 n actors;
-    }
+-- the places are asked one by one and the names together; the tests behind them count where all of those stand
+tests-same : (fits grantor holder report root machine root′ machine′ : Bool)
+    → (grantor ≡ true → machine ≡ machine′) → (report ≡ true → root ≡ root′)
+    → ands (fits ∷ grantor ∷ holder ∷ report ∷ root ∷ machine ∷ [])
+    ≡ ands (fits ∷ ands (grantor ∷ holder ∷ report ∷ []) ∷ root′ ∷ machine′ ∷ [])
+tests-same fits false holder report root machine root′ machine′ h k = refl
+tests-same fits true false report root machine root′ machine′ h k = refl
+tests-same fits true true false root machine root′ machine′ h k = refl
+tests-same fits true true true root machine root′ machine′ h k = rw (h refl, k refl)
+
+pub alone-natural : (actors : List Actor) (n : ℕ) (resources : List Resource) (m : ℕ) (c : Claim)
+    → n ≤ claimLimit → distinct (map actorId (take n actors)) ≡ true
+    → m ≤ claimLimit → distinct (map resourceId (take m resources)) ≡ true
+    → aloneAt c (foundIn actors n resources m c) ≡ alone (worldOf (take n actors) (take m resources)) c
+unfolding aloneAt alone namesStand rootKept machineMay
+alone-natural actors n resources m c few apart short distant =
+    let f = foundIn actors n resources m c in
+    let w = worldOf (take n actors) (take m resources) in
+    rw (
+      ← place-known actorId actors n (c .grantor) few,
+      ← place-known actorId actors n (c .holder) few,
+      ← place-known resourceId resources m (c .resource) short,
+    )
+    (tests-same
+    (claimFits c)
+    (ltb (f .grantor) claimLimit)
+    (ltb (f .holder) claimLimit)
+    (ltb (f .report) claimLimit)
+    (not (eqb (c .parent) 0) || eqb (c .grantor) (f .keeper))
+    (not (eqb machineKind (f .kind)) || (not (eqb 0 (f .owner)) && not (barsMachine (c .rights))))
+    (not (eqb (c .parent) 0) || w .keeps (c .grantor) (c .resource))
+    (not (w .machine (c .grantor)) || (not (w .ownerless (c .grantor)) && not (barsMachine (c .rights))))
+    (λ placed. rw (
+      ← field-asked actorId actors n (c .grantor) few apart noActor refl kindOf refl machineKind placed,
+      ← field-asked actorId actors n (c .grantor) few apart noActor refl ownerOf refl 0 placed,
+    ))
+    (λ placed. rw (← field-asked resourceId resources m (c .resource) short distant noResource refl keeperOf refl (c .grantor) placed)))

@@ -1,11 +1,12 @@
 // Whether a claim is as it should be by itself: its numbers in range, the actors and the resource that it names standing, a root granted
-// by the keeper (a), and what a machine may grant (c). The actors and resources are lent as columns.
+// by the keeper (a), and what a machine may grant (c). The actors and resources are lent as columns, or were looked up in them before.
 ghost use mathlib.Core.Path.{_≡_};
 ghost use mathlib.Core.List.{[]};
-ghost use Rattle.rules.specs.Sound.{claimFits, namesStand, rootKept, machineMay, alone};
-ghost use Rattle.alone.specs.Judged.{worldIn};
+ghost use Rattle.rules.specs.Sound.{claimFits, namesStand, rootKept};
+ghost use Rattle.alone.specs.Judged.{worldIn, aloneAt};
 use register::Actor;
 use register::Claim;
+use register::Register;
 
 // Whether a claim's numbers are in range.
 pub fn claim_fits(c: Claim) -> bool
@@ -40,40 +41,24 @@ pub fn root_kept<'a>(reports: &'a [u32], keepers: &'a [u32], m: usize, c: Claim)
     columns::is_beside(reports, keepers, m, c.resource, c.grantor)
 }
 
+// Whether a claim is as it should be by itself, by what was looked up of it: the places of its grantor and its holder among the actors
+// and of its resource among the resources, the limit of the claims for nowhere; the grantor's kind and owner, and the resource's keeper.
 // (c): a machine grantor has an owner, and none of the claim's rights is kept from machines.
-pub fn machine_may<'a>(
-    ids: &'a [u32],
-    kinds: &'a [u32],
-    owners: &'a [u32],
-    n: usize,
+pub fn stands_alone(
     c: Claim,
+    grantor: usize,
+    holder: usize,
+    report: usize,
+    kind: u32,
+    owner: u32,
+    keeper: u32,
 ) -> bool
-    ensures { λ r. ⌜ r ≡ machineMay (worldIn (now (ids .entry)) (now (kinds .entry)) (now (owners .entry)) n [] [] 0) c ⌝ }
-{
-    if !columns::is_beside(ids, kinds, n, c.grantor, Actor::MACHINE) {
-        return true;
-    }
-    if columns::is_beside(ids, owners, n, c.grantor, 0) {
-        return false;
-    }
-    !rights::bars_machine(c.rights)
-}
-
-// Whether a claim is as it should be by itself, among the first `n` actors and the first `m` resources.
-pub fn stands_alone<'a>(
-    ids: &'a [u32],
-    kinds: &'a [u32],
-    owners: &'a [u32],
-    n: usize,
-    reports: &'a [u32],
-    keepers: &'a [u32],
-    m: usize,
-    c: Claim,
-) -> bool
-    ensures { λ r. ⌜ r ≡ alone (worldIn (now (ids .entry)) (now (kinds .entry)) (now (owners .entry)) n (now (reports .entry)) (now (keepers .entry)) m) c ⌝ }
+    ensures { λ r. ⌜ r ≡ aloneAt c (record { grantor = grantor; holder = holder; report = report; kind = kind; owner = owner; keeper = keeper }) ⌝ }
 {
     claim_fits(c)
-        & names_stand(ids, n, reports, m, c)
-        & root_kept(reports, keepers, m, c)
-        & machine_may(ids, kinds, owners, n, c)
+        & (grantor < Register::CLAIMS)
+        & (holder < Register::CLAIMS)
+        & (report < Register::CLAIMS)
+        & ((c.parent != 0) | (c.grantor == keeper))
+        & ((Actor::MACHINE != kind) | ((0 != owner) & !rights::bars_machine(c.rights)))
 }

@@ -1,24 +1,19 @@
 -- What the definitions answer where a test fails and those before it pass, and where the last one decides. Assumes nothing.
-use mathlib.Core.Path.{_≡_, sym, ap, _∙_}
-use mathlib.Core.Bool.{Bool, true, false, not, _&&_, and-true}
-use mathlib.Core.List.{List, [], _∷_, map}
-use Prim.Native.Nat.{ℕ}
+use mathlib.Core.Path.{_≡_, refl, sym, ap, _∙_}
+use mathlib.Core.Bool.{Bool, true, false, not, _&&_, _||_, and-true}
+use mathlib.Core.List.{List}
+use Prim.Native.Nat.{ℕ, zero, suc, _-_, _≤_, _<_}
 use native.Mathlib.Omega.{arith}
-use borrow.Author.Tests.{eq-eqb, ne-eqb, le-leb, lt-leb}
+use borrow.Author.Tests.{eq-eqb, ne-eqb, le-leb, lt-leb, lt-ltb, le-ltb}
 use lib.Dec.{eqb, leb}
-use lib.ListN.{length, getD, take, length-map}
-use Rattle.lists.specs.Tests.{ands}
-use Rattle.lists.specs.Lists.{any}
+use lib.ListN.{length, getD}
 use Rattle.register.specs.Limits.{hopLimit}
-use Rattle.register.specs.Chain.{circling}
-use Rattle.register.specs.Laws.{circling-map}
 use Rattle.register.specs.declared.Claim.{Claim}
 use Rattle.columns.specs.declared.Hops.the-variants.{Up, Beyond}
-use Rattle.columns.specs.declared.Place.the-variants.{At, Nowhere}
-use Rattle.columns.specs.Columns.{grantorOf, holderOf, latestPlace, chainPlaces, stepsUp}
-use Rattle.columns.specs.Laws.{chain-places-at, chain-places-nowhere, steps-up-within, steps-up-beyond}
-use Rattle.rules.specs.Sound.{drawnFrom, overChain}
-use Rattle.over.specs.Judged.{Seen, claimAt, overIn}
+use Rattle.columns.specs.Columns.{stepsUp}
+use Rattle.columns.specs.Laws.{steps-up-within, steps-up-beyond}
+use Rattle.rules.specs.Sound.{drawnFrom}
+use Rattle.over.specs.Judged.{circlesUp, overAt}
 
 -- a test that passes leaves the answer to those behind it, and one that fails decides
 pub passes : {a b : Bool} → a ≡ true → a && b ≡ b
@@ -35,56 +30,36 @@ module _ (l : List ℕ) where
   pub beyond-limit : stepsUp l ≡ Beyond → leb (length l) hopLimit ≡ false
   beyond-limit q = lt-leb (length l) hopLimit (steps-up-beyond l q)
 
--- what a claim is asked over its parent and the places of the chain
-abbrev asked : Seen → Claim → Claim → List ℕ → Bool
-asked s p c l = ands (
-    drawnFrom p c
-    ∷ leb (length l) hopLimit
-    ∷ not (circling (λ j. getD (s .grantors) j 0) (λ j. getD (s .holders) j 0) l (c .holder))
-    ∷ [])
+-- the walk: each answer at the place that it has come to
+module _ (ups grantors holders : List ℕ) (j h : ℕ) where
+  pub circle-here : (steps : ℕ) → 0 < steps → getD holders j 0 ≡ h → circlesUp ups grantors holders j steps h ≡ true
+  unfolding circlesUp
+  circle-here zero more q = absurd (omega arith)
+  circle-here (suc steps) more q = rw (eq-eqb (getD holders j 0) h q)
 
-over-places : (s : Seen) (c : Claim) (k : ℕ) (l : List ℕ) → overChain (map (claimAt s) (k ∷ l)) c ≡ asked s (claimAt s k) c (k ∷ l)
-unfolding overChain
-over-places s c k l = rw (length-map l (claimAt s), circling-map (claimAt s) grantorOf holderOf (k ∷ l) (c .holder))
+  pub circle-higher : (steps : ℕ) → 0 < steps → (getD holders j 0 ≡ h → ⊥)
+      → circlesUp ups grantors holders j steps h ≡ circlesUp ups grantors holders (getD ups j 0) (steps - 1) h
+  unfolding circlesUp
+  circle-higher zero more q = absurd (omega arith)
+  circle-higher (suc steps) more q = let left : suc steps - 1 ≡ steps = omega arith in rw (ne-eqb (getD holders j 0) h q, left)
 
-module _ (s : Seen) (n : ℕ) (c : Claim) where
-  pub doubled : any (eqb (c .id)) (take n (s .ids)) ≡ true → overIn s n c ≡ false
-  unfolding overIn
-  doubled e = rw e
+  pub circle-last : (steps : ℕ) → steps ≤ 0 → circlesUp ups grantors holders j steps h ≡ eqb (getD holders j 0) h || eqb (getD grantors j 0) h
+  unfolding circlesUp
+  circle-last zero none = refl
+  circle-last (suc steps) none = absurd (omega arith)
 
-  module _ (fresh : any (eqb (c .id)) (take n (s .ids)) ≡ false) where
-    pub root-stands : c .parent ≡ 0 → overIn s n c ≡ true
-    unfolding overIn
-    root-stands o = rw (fresh, eq-eqb (c .parent) 0 o)
+-- what a claim is asked over its parent, test by test
+module _ (ups grantors holders : List ℕ) (j steps : ℕ) (p c : Claim) where
+  pub not-drawn : drawnFrom p c ≡ false → overAt ups grantors holders j steps p c ≡ false
+  unfolding overAt
+  not-drawn d = fails _ d
 
-    module _ (o : c .parent ≡ 0 → ⊥) where
-      by-chain : overIn s n c ≡ overChain (map (claimAt s) (chainPlaces (s .ids) (s .parents) n (c .parent))) c
-      unfolding overIn
-      by-chain = rw (fresh, ne-eqb (c .parent) 0 o)
+  module _ (d : drawnFrom p c ≡ true) where
+    pub too-far : hopLimit ≤ steps → overAt ups grantors holders j steps p c ≡ false
+    unfolding overAt
+    too-far h = passes d ∙ fails _ (le-ltb steps hopLimit h)
 
-      pub parent-nowhere : latestPlace (s .ids) n (c .parent) ≡ Nowhere → overIn s n c ≡ false
-      unfolding overChain
-      parent-nowhere q = by-chain ∙ rw (chain-places-nowhere (s .ids) (s .parents) n (c .parent) q)
-
-      -- the parent p stands at place k
-      module _ {k : ℕ} (q : latestPlace (s .ids) n (c .parent) ≡ At k) {p : Claim} (stands : p ≡ claimAt s k) where
-        by-parent : overIn s n c ≡ asked s p c (chainPlaces (s .ids) (s .parents) n (c .parent))
-        by-parent =
-            let found = chain-places-at (s .ids) (s .parents) n (c .parent) k o q in
-            by-chain
-            ∙ ap (λ l. overChain (map (claimAt s) l) c) found
-            ∙ over-places s c k (chainPlaces (s .ids) (s .parents) k (getD (s .parents) k 0))
-            ∙ ap (asked s (claimAt s k) c) (sym found)
-            ∙ ap (λ d. asked s d c (chainPlaces (s .ids) (s .parents) n (c .parent))) (sym stands)
-
-        pub not-drawn : drawnFrom p c ≡ false → overIn s n c ≡ false
-        not-drawn d = by-parent ∙ fails _ d
-
-        module _ (d : drawnFrom p c ≡ true) where
-          pub too-far : leb (length (chainPlaces (s .ids) (s .parents) n (c .parent))) hopLimit ≡ false → overIn s n c ≡ false
-          too-far h = by-parent ∙ passes d ∙ fails _ h
-
-          pub circle-decides : leb (length (chainPlaces (s .ids) (s .parents) n (c .parent))) hopLimit ≡ true → {b : Bool}
-              → b ≡ circling (λ j. getD (s .grantors) j 0) (λ j. getD (s .holders) j 0) (chainPlaces (s .ids) (s .parents) n (c .parent)) (c .holder)
-              → overIn s n c ≡ not b
-          circle-decides h e = by-parent ∙ passes d ∙ passes h ∙ and-true _ ∙ ap not (sym e)
+    pub circle-decides : steps < hopLimit → {b : Bool} → b ≡ circlesUp ups grantors holders j steps (c .holder)
+        → not b ≡ overAt ups grantors holders j steps p c
+    unfolding overAt
+    circle-decides h e = sym (passes d ∙ passes (lt-ltb steps hopLimit h) ∙ and-true _ ∙ ap not (sym e))

@@ -1,52 +1,30 @@
--- Working definitions: what a claim is asked over the claims before it, by columns. They are shaped for the code; what they are in 01's
--- words is proved in Laws (`over-natural`).
-use mathlib.Core.Bool.{Bool, not, _&&_, _||_}
-use mathlib.Core.List.{List, map}
-use Prim.Native.Nat.{ℕ}
-use lib.Dec.{eqb}
-use lib.ListN.{getD, take}
-use Rattle.lists.specs.Lists.{any}
+-- Working definitions: what a claim is asked over the claims before it, by columns and by the places of the parents. They are shaped for
+-- the code; what they are in 01's words is proved in Laws (`over-natural`).
+use mathlib.Core.Bool.{Bool, true, not, _&&_, _||_}
+use mathlib.Core.List.{List, [], _∷_}
+use Prim.Native.Nat.{ℕ, zero, suc}
+use lib.Dec.{eqb, ltb}
+use lib.ListN.{getD}
+use Rattle.lists.specs.Tests.{ands}
+use Rattle.register.specs.Limits.{hopLimit}
 use Rattle.register.specs.declared.Claim.{Claim}
-use Rattle.columns.specs.Columns.{claimId, parentOf, grantorOf, holderOf, claimedOf, rightsOf, weightOf, chainPlaces}
-use Rattle.rules.specs.Sound.{overChain}
+use Rattle.rules.specs.Sound.{drawnFrom, over}
 
--- the seven columns of the claims that later claims are judged over
-pub record Seen : Type 0 where
-  pub ids : List ℕ
-  pub parents : List ℕ
-  pub grantors : List ℕ
-  pub holders : List ℕ
-  pub claimed : List ℕ
-  pub rights : List ℕ
-  pub weights : List ℕ
+-- whether h holds the claim at place j or one of those up to so many steps higher, or granted the last of them
+unfoldable pub circlesUp : List ℕ → List ℕ → List ℕ → ℕ → ℕ → ℕ → Bool
+circlesUp ups grantors holders j zero h = eqb (getD holders j 0) h || eqb (getD grantors j 0) h
+circlesUp ups grantors holders j (suc steps) h =
+    let higher = circlesUp ups grantors holders (getD ups j 0) steps h in eqb (getD holders j 0) h || higher
 
--- the columns of a list of claims
-abbrev pub columnsOf : List Claim → Seen
-columnsOf cs = record {
-  ids = map claimId cs;
-  parents = map parentOf cs;
-  grantors = map grantorOf cs;
-  holders = map holderOf cs;
-  claimed = map claimedOf cs;
-  rights = map rightsOf cs;
-  weights = map weightOf cs;
-}
+-- what a claim is asked over its parent p, which stands at place j and has so many hops
+unfoldable pub overAt : List ℕ → List ℕ → List ℕ → ℕ → ℕ → Claim → Claim → Bool
+overAt ups grantors holders j steps p c = ands (
+    drawnFrom p c
+    ∷ ltb steps hopLimit
+    ∷ not (circlesUp ups grantors holders j steps (c .holder))
+    ∷ [])
 
--- the claim at a place of the columns; its expiry is not looked at
-abbrev pub claimAt : Seen → ℕ → Claim
-claimAt s j = record {
-  id = getD (s .ids) j 0;
-  parent = getD (s .parents) j 0;
-  grantor = getD (s .grantors) j 0;
-  holder = getD (s .holders) j 0;
-  resource = getD (s .claimed) j 0;
-  rights = getD (s .rights) j 0;
-  weight = getD (s .weights) j 0;
-  expiry = 0;
-}
-
--- what a claim is asked over the first n claims of the columns
-unfoldable pub overIn : Seen → ℕ → Claim → Bool
-overIn s n c =
-    not (any (eqb (c .id)) (take n (s .ids)))
-    && (eqb (c .parent) 0 || overChain (map (claimAt s) (chainPlaces (s .ids) (s .parents) n (c .parent))) c)
+-- each claim is as it should be over the earlier ones; latest first
+unfoldable pub standOver : List Claim → Bool
+standOver [] = true
+standOver (c ∷ earlier) = over earlier c && standOver earlier

@@ -1,16 +1,15 @@
-// Whether a claim is as it should be over the claims before it: an id that none of them has, and, with a parent, drawn from it (b), at most
-// 16 hops (d) and no circle along the chain (e). The claims before it are lent as columns, so that the register's own claims, a claim that
-// is to be granted, and claims that are handed over one by one are judged by one and the same call.
+// Whether a claim with a parent is as it should be over the claims before it: drawn from the parent (b), at most 16 hops (d) and no circle
+// along the chain (e). The claims before it are lent as columns.
 ghost use mathlib.Core.Path.{_≡_};
 ghost use lib.Dec.{leb};
-ghost use lib.ListN.{length};
+ghost use lib.ListN.{length, getD};
 ghost use Rattle.register.specs.Limits.{hopLimit};
 ghost use Rattle.columns.specs.Columns.{chainPlaces};
 ghost use Rattle.rules.specs.Sound.{drawnFrom};
-ghost use Rattle.over.specs.Judged.{claimAt, overIn};
+ghost use Rattle.over.specs.Judged.{circlesUp, overAt};
 use columns::Hops;
-use columns::Place;
 use register::Claim;
+use register::Register;
 
 // (b): whether a claim is drawn from its parent.
 pub fn drawn_from(p: Claim, c: Claim) -> bool
@@ -42,63 +41,55 @@ pub fn within_hops<'a>(ids: &'a [u32], parents: &'a [u32], n: usize, p: u32) -> 
     }
 }
 
-// The claim at a place of the columns.
-pub fn claim_at<'a>(
-    ids: &'a [u32],
-    parents: &'a [u32],
-    grantors: &'a [u32],
-    holders: &'a [u32],
-    claimed: &'a [u32],
-    rights: &'a [u32],
-    weights: &'a [u32],
-    at: usize,
-) -> Claim
-    ensures { λ r. ⌜ r ≡ claimAt (record { ids = now (ids .entry); parents = now (parents .entry); grantors = now (grantors .entry); holders = now (holders .entry); claimed = now (claimed .entry); rights = now (rights .entry); weights = now (weights .entry) }) at ⌝ }
+// The place at a place, 0 past the end.
+fn place_at(places: &[usize], at: usize) -> usize
+    ensures { λ r. ⌜ r ≡ getD (now (places .entry)) at 0 ⌝ }
 {
-    Claim {
-        id: columns::number_at(ids, at),
-        parent: columns::number_at(parents, at),
-        grantor: columns::number_at(grantors, at),
-        holder: columns::number_at(holders, at),
-        resource: columns::number_at(claimed, at),
-        rights: columns::number_at(rights, at),
-        weight: columns::number_at(weights, at),
-        expiry: 0,
-    }
+    if at < places.len() { places[at] } else { 0 }
 }
 
-// Whether a claim is as it should be over the first `n` claims of the columns.
-pub fn stands_over<'a>(
-    ids: &'a [u32],
-    parents: &'a [u32],
+// Whether `h` holds the claim at the place `from` or one of those up to `steps` higher, or is the grantor of the last of them. `ups` has
+// for each place that of the parent.
+fn circles_up<'a>(
+    ups: &'a [usize],
     grantors: &'a [u32],
     holders: &'a [u32],
-    claimed: &'a [u32],
-    rights: &'a [u32],
-    weights: &'a [u32],
-    n: usize,
+    from: usize,
+    steps: usize,
+    h: u32,
+) -> bool
+    ensures { λ r. ⌜ r ≡ circlesUp (now (ups .entry)) (now (grantors .entry)) (now (holders .entry)) from steps h ⌝ }
+{
+    let mut member = from;
+    let mut left = steps;
+    while 0 < left {
+        if columns::number_at(holders, member) == h {
+            return true;
+        }
+        member = place_at(ups, member);
+        left -= 1;
+    }
+    (columns::number_at(holders, member) == h) | (columns::number_at(grantors, member) == h)
+}
+
+// Whether a claim is drawn from its parent `p` (b), has at most 16 hops (d) and closes no circle along the chain (e): the parent stands at
+// the place `up` and has `steps` hops, and `ups` has for each place that of the parent.
+pub fn stands_over<'a>(
+    ups: &'a [usize],
+    grantors: &'a [u32],
+    holders: &'a [u32],
+    up: usize,
+    steps: usize,
+    p: Claim,
     c: Claim,
 ) -> bool
-    ensures { λ r. ⌜ r ≡ overIn (record { ids = now (ids .entry); parents = now (parents .entry); grantors = now (grantors .entry); holders = now (holders .entry); claimed = now (claimed .entry); rights = now (rights .entry); weights = now (weights .entry) }) n c ⌝ }
+    ensures { λ r. ⌜ r ≡ overAt (now (ups .entry)) (now (grantors .entry)) (now (holders .entry)) up steps p c ⌝ }
 {
-    if columns::is_among(ids, n, c.id) {
+    if !drawn_from(p, c) {
         return false;
     }
-    if c.parent == 0 {
-        return true;
+    if Register::HOPS <= steps {
+        return false;
     }
-    let place = columns::latest_place(ids, n, c.parent);
-    match place {
-        Place::Nowhere => false,
-        Place::At(k) => {
-            let p = claim_at(ids, parents, grantors, holders, claimed, rights, weights, k);
-            if !drawn_from(p, c) {
-                return false;
-            }
-            if !within_hops(ids, parents, n, c.parent) {
-                return false;
-            }
-            !columns::circles(ids, parents, grantors, holders, n, c.parent, c.holder)
-        }
-    }
+    !circles_up(ups, grantors, holders, up, steps, c.holder)
 }

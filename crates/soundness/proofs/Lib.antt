@@ -1,2 +1,3 @@
+pub mod Climbing
 pub mod Judging
 pub mod Whole

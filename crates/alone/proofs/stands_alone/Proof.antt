@@ -1,7 +1,5 @@
--- `alone::stands_alone` meets its contract. The rules of a claim by itself are asked one by one; each looks at its own part of the world
--- only (`alone-asked`). Assumes nothing.
+-- `alone::stands_alone` meets its contract: its tests are joined in the definition's order (`alone-asked`). Assumes nothing.
 use borrow.Author.Needs.{needs}
-use Rattle.rules.specs.Sound.{namesStand, rootKept, machineMay}
 use Rattle.alone.proofs.Asking.{alone-asked}
 use Rattle.alone.proofs.stands_alone.Statement.{statement}
 use Rattle.alone.proofs.stands_alone.Tie as tie
@@ -9,30 +7,23 @@ use Rattle.alone.proofs.stands_alone.Tie as tie
 claim-fits-requires : tie.Need-claim-fits-requires
 claim-fits-requires c κs = search needs
 
-names-stand-requires : tie.Need-names-stand-requires
-names-stand-requires c κs = search needs
-
-root-kept-requires : tie.Need-root-kept-requires
-root-kept-requires c κs = search needs
-
-machine-may-requires : tie.Need-machine-may-requires
-machine-may-requires c κs = search needs
+bars-machine-requires : tie.Need-bars-machine-requires
+bars-machine-requires c κs = search needs
 
 returns : tie.Need-returns
-unfolding namesStand rootKept machineMay
 returns c =
-    alone-asked _ (c .before .before .before .before .before .before .before .before .before .args .c)
+    let given = c .before .before .before .before .args in
+    alone-asked (given .c)
+    (record {
+      grantor = given .grantor;
+      holder = given .holder;
+      report = given .report;
+      kind = given .kind;
+      owner = given .owner;
+      keeper = given .keeper;
+    })
     (c .before .before .before .claim-fits .ensures)
-    (c .before .before .names-stand .ensures)
-    (c .before .root-kept .ensures)
-    (c .machine-may .ensures)
+    (c .bars-machine .ensures)
 
 pub stands-alone-spec : {M : Type 1} → statement M
-stands-alone-spec =
-    tie.close
-    (tie.spec
-    claim-fits-requires
-    names-stand-requires
-    root-kept-requires
-    machine-may-requires
-    returns)
+stands-alone-spec = tie.close (tie.spec claim-fits-requires bars-machine-requires returns)

@@ -2,6 +2,8 @@
 use mathlib.Core.Path.{sym, _∙_}
 use borrow.Author.Needs.{needs}
 use borrow.Author.Tests.{not-true, not-false}
+use Rattle.register.specs.Register.{actorsOf, resourcesOf}
+use Rattle.rules.specs.Registers.{sound-actors-out, sound-resources-out}
 use Rattle.soundness.proofs.Whole.{actors-over, resources-over, claims-over, actors-unsound, resources-unsound, claims-decide}
 use Rattle.soundness.proofs.is_sound.Statement.{statement}
 use Rattle.soundness.proofs.is_sound.Tie as tie
@@ -33,7 +35,15 @@ returns-5 c =
     (sym (c .before .resources-sound .ensures) ∙ not-true (c .before .resources-sound .result) (c .if5 .taken))
 
 claims-sound-requires : tie.Need-claims-sound-requires
-claims-sound-requires c κs = search needs
+claims-sound-requires c κs =
+    let r = c .before .before .before .before .before .before .before .before .before .before .before .before .before .args .r in (
+      c .before .before .before .before .before .before .before .before .if1 .left,
+      c .before .before .before .before .before .before .if2 .left,
+      c .before .before .before .before .if3 .left,
+      sound-actors-out (actorsOf (r .actors)) (sym (c .before .before .before .actors-sound .ensures) ∙ not-false (c .before .before .before .actors-sound .result) (c .before .before .if4 .left)) .apart,
+      sound-resources-out (actorsOf (r .actors)) (resourcesOf (r .resources))
+          (sym (c .before .resources-sound .ensures) ∙ not-false (c .before .resources-sound .result) (c .if5 .left)) .apart,
+    )
 
 returns-6 : tie.Need-returns-6
 returns-6 c =

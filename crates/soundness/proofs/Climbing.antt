@@ -1,0 +1,172 @@
+-- Claims judged over those before them, from the front: the first i of them are as they should be, and the hops of each are kept. One
+-- that is not as it should be makes every longer list fail. Assumes nothing.
+use mathlib.Core.Path.{_≡_, refl, sym, ap, _∙_}
+use mathlib.Core.Bool.{Bool, true, false, _&&_, and-false}
+use mathlib.Core.List.{List, [], _∷_, _++_, map, reverse-append}
+use Prim.Native.Nat.{ℕ, suc, _+_, _≤_, _<_, min}
+use native.Mathlib.Numerals.{add-one}
+use native.Mathlib.Omega.{arith}
+use borrow.Author.Tests.{eqb-true, eqb-false}
+use lib.Dec.{eqb}
+use lib.ListN.{length, take, drop, getD, set, take-append-drop, length-map, length-set, List·getD-map}
+use lib.Seq.{take-suc, take-take, getD-set-same, getD-set-other}
+use Rattle.lists.specs.Tests.{cases}
+use Rattle.register.specs.Limits.{claimLimit, hopLimit}
+use Rattle.register.specs.Register.{noClaim}
+use Rattle.register.specs.Chain.{latest}
+use Rattle.register.specs.declared.Claim.{Claim}
+use Rattle.columns.specs.Columns.{claimId, parentOf, grantorOf, holderOf, latestPlace, chainPlaces}
+use Rattle.columns.specs.Laws.{place-found, chain-places-zero}
+use Rattle.columns.specs.declared.Place.{Place}
+use Rattle.columns.specs.declared.Place.the-variants.{At, Nowhere}
+use Rattle.finding.specs.Finding.{numberOf, earlierPlaces}
+use Rattle.finding.specs.Laws.{earlier-at}
+use Rattle.rules.specs.Sound.{over}
+use Rattle.over.specs.Judged.{overAt, standOver}
+use Rattle.over.specs.Laws.{Kept, higher, doubled, root-stands, parent-nowhere, hops-natural, over-within, over-natural, stand-nil, stand-cons}
+
+-- a place told by its number: below the limit it is that, and the limit is none
+number-at : (p : Place) (x : ℕ) → x ≡ numberOf claimLimit p → x < claimLimit → p ≡ At x
+number-at (At j) x e h = ap At (sym e)
+number-at Nowhere x e h = absurd (omega arith)
+
+number-none : (p : Place) (x : ℕ) → x ≡ numberOf claimLimit p → ((j : ℕ) → p ≡ At j → j < claimLimit) → claimLimit ≤ x → p ≡ Nowhere
+number-none (At j) x e below h = absurd (omega (arith, below j refl))
+number-none Nowhere x e below h = refl
+
+-- one claim more, and a longer list
+module _ (cs : List Claim) where
+  stand-next : (i : ℕ) → i < length cs
+      → standOver (latest (take (i + 1) cs)) ≡ over (latest (take i cs)) (getD cs i noClaim) && standOver (latest (take i cs))
+  stand-next i h =
+      rw (add-one, take-suc cs i noClaim h, reverse-append (take i cs) (getD cs i noClaim ∷ [])) (stand-cons (getD cs i noClaim) (latest (take i cs)))
+
+  stand-behind : (L M : List Claim) → standOver M ≡ false → standOver (L ++ M) ≡ false
+  stand-behind [] M h = h
+  stand-behind (c ∷ L) M h = stand-cons c (L ++ M) ∙ rw (stand-behind L M h) (and-false (over (L ++ M) c))
+
+  pub stand-failed : (i n : ℕ) → i < length cs → i < n → over (latest (take i cs)) (getD cs i noClaim) ≡ false → standOver (latest (take n cs)) ≡ false
+  stand-failed i n h longer fails =
+      let upTo : i + 1 ≤ n = omega arith in
+      let first = take (i + 1) (take n cs) in
+      let rest = drop (i + 1) (take n cs) in
+      let short : standOver (latest first) ≡ false = rw (take-take (i + 1) n cs upTo) (stand-next i h ∙ rw fails) in
+      ap (λ l. standOver (latest l)) (sym (take-append-drop (i + 1) (take n cs)))
+      ∙ ap standOver (reverse-append first rest)
+      ∙ stand-behind (latest rest) (latest first) short
+
+-- the tables of a list of claims: its columns of grantors and holders, where each one's parent stands before it, and where its id does
+pub record Tables (cs : List Claim) (n : ℕ) (grantors holders ups twins : List ℕ) : Type 0 where
+  pub long : length cs ≡ claimLimit
+  pub short : n ≤ claimLimit
+  pub granted : grantors ≡ map grantorOf cs
+  pub held : holders ≡ map holderOf cs
+  pub parents : ups ≡ earlierPlaces (map claimId cs) (map parentOf cs) n claimLimit
+  pub doubles : twins ≡ earlierPlaces (map claimId cs) (map claimId cs) n claimLimit
+
+-- the claims before place i are as they should be, and their hops are kept
+pub record Climbed (cs : List Claim) (n : ℕ) (hops : List ℕ) (i : ℕ) : Type 0 where
+  pub within : i ≤ n
+  pub room : length hops ≡ claimLimit
+  pub stands : standOver (latest (take i cs)) ≡ true
+  pub kept : (j : ℕ) → j < i → getD hops j 0 ≡ length (higher (map claimId cs) (map parentOf cs) j)
+
+pub climbed-none : (cs : List Claim) (n : ℕ) (hops : List ℕ) → length hops ≡ claimLimit → Climbed cs n hops 0
+climbed-none cs n hops room = record { within = omega arith; room = room; stands = stand-nil; kept = λ j h. absurd (omega arith) }
+
+module _ {cs : List Claim} {n : ℕ} {hops : List ℕ} {i : ℕ} (s : Climbed cs n hops i) (long : length cs ≡ claimLimit) (short : n ≤ claimLimit) (inside : i < n) where
+  -- one claim more
+  climbed-next : (steps : ℕ) → over (latest (take i cs)) (getD cs i noClaim) ≡ true → steps ≡ length (higher (map claimId cs) (map parentOf cs) i)
+      → Climbed cs n (set hops i steps) (i + 1)
+  climbed-next steps behind e = record {
+    within = omega arith;
+    room = length-set hops i steps ∙ s .room;
+    stands = stand-next cs i (omega arith) ∙ rw (behind, s .stands);
+    kept = λ j h. cases (eqb j i)
+        (λ t. let same : j ≡ i = eqb-true j i t in rw same (getD-set-same hops i steps 0 (omega (arith, s .room)) ∙ e))
+        (λ t. let other : (j ≡ i → ⊥) = eqb-false j i t in getD-set-other hops i j steps 0 other ∙ s .kept j (omega arith));
+  }
+
+module _ {cs : List Claim} {n : ℕ} {grantors holders ups twins : List ℕ} (t : Tables cs n grantors holders ups twins) {i : ℕ} (inside : i < n) where
+  asked-inside : (f : Claim → ℕ) → i < min n (min claimLimit (length (map f cs)))
+  asked-inside f = omega (arith, inside, t .short, t .long, length-map cs f)
+
+  pub ups-at : getD ups i 0 ≡ numberOf claimLimit (latestPlace (map claimId cs) i (getD cs i noClaim .parent))
+  ups-at =
+      rw (t .parents) (earlier-at (map claimId cs) (map parentOf cs) n claimLimit i 0 (asked-inside parentOf))
+      ∙ ap (λ x. numberOf claimLimit (latestPlace (map claimId cs) i x)) (List·getD-map parentOf cs i noClaim)
+
+  twins-at : getD twins i 0 ≡ numberOf claimLimit (latestPlace (map claimId cs) i (getD cs i noClaim .id))
+  twins-at =
+      rw (t .doubles) (earlier-at (map claimId cs) (map claimId cs) n claimLimit i 0 (asked-inside claimId))
+      ∙ ap (λ x. numberOf claimLimit (latestPlace (map claimId cs) i x)) (List·getD-map claimId cs i noClaim)
+
+  -- the places of the parents are kept of the claims before it
+  kept-ups : Kept (map claimId cs) (map parentOf cs) ups i
+  kept-ups j k before e =
+      rw (t .parents) (earlier-at (map claimId cs) (map parentOf cs) n claimLimit j 0 (omega (arith, before, inside, t .short, t .long, length-map cs parentOf)))
+      ∙ ap (numberOf claimLimit) e
+
+  below : (x j : ℕ) → latestPlace (map claimId cs) i x ≡ At j → j < claimLimit
+  below x j q = let found = place-found (map claimId cs) x i j q in omega (arith, found .0, inside, t .short)
+
+  fails : over (latest (take i cs)) (getD cs i noClaim) ≡ false → standOver (latest (take n cs)) ≡ false
+  fails = stand-failed cs i n (omega (arith, t .long, t .short, inside)) inside
+
+  -- its id stands before it
+  pub twin-failed : getD twins i 0 < claimLimit → standOver (latest (take n cs)) ≡ false
+  twin-failed h =
+      fails (doubled cs i (getD cs i noClaim) (getD twins i 0)
+      (number-at (latestPlace (map claimId cs) i (getD cs i noClaim .id)) (getD twins i 0) twins-at h))
+
+  module _ (single : claimLimit ≤ getD twins i 0) where
+    apart : latestPlace (map claimId cs) i (getD cs i noClaim .id) ≡ Nowhere
+    apart =
+        number-none (latestPlace (map claimId cs) i (getD cs i noClaim .id)) (getD twins i 0) twins-at (below (getD cs i noClaim .id)) single
+
+    -- it is a root
+    pub root-passed : {hops : List ℕ} → Climbed cs n hops i → getD cs i noClaim .parent ≡ 0 → Climbed cs n (set hops i 0) (i + 1)
+    root-passed s e =
+        climbed-next s (t .long) (t .short) inside 0 (root-stands cs i (getD cs i noClaim) apart e)
+        (sym (ap (λ x. length (chainPlaces (map claimId cs) (map parentOf cs) i x)) (List·getD-map parentOf cs i noClaim ∙ e)
+        ∙ ap length (chain-places-zero (map claimId cs) (map parentOf cs) i)))
+
+    module _ (o : getD cs i noClaim .parent ≡ 0 → ⊥) where
+      -- its parent stands nowhere before it
+      pub parent-failed : claimLimit ≤ getD ups i 0 → standOver (latest (take n cs)) ≡ false
+      parent-failed h =
+          fails (parent-nowhere cs i (getD cs i noClaim) apart o
+          (number-none (latestPlace (map claimId cs) i (getD cs i noClaim .parent)) (getD ups i 0) ups-at (below (getD cs i noClaim .parent)) h))
+
+      module _ (found : getD ups i 0 < claimLimit) where
+        stood : latestPlace (map claimId cs) i (getD cs i noClaim .parent) ≡ At (getD ups i 0)
+        stood = number-at (latestPlace (map claimId cs) i (getD cs i noClaim .parent)) (getD ups i 0) ups-at found
+
+        parent-before : getD ups i 0 < i
+        parent-before = place-found (map claimId cs) (getD cs i noClaim .parent) i (getD ups i 0) stood .0
+
+        module _ {hops : List ℕ} (s : Climbed cs n hops i) {answer : Bool}
+            (told : answer ≡ overAt ups grantors holders (getD ups i 0) (getD hops (getD ups i 0) 0) (getD cs (getD ups i 0) noClaim) (getD cs i noClaim)) where
+          steps-kept : getD hops (getD ups i 0) 0 ≡ length (higher (map claimId cs) (map parentOf cs) (getD ups i 0))
+          steps-kept = s .kept (getD ups i 0) parent-before
+
+          judged : answer ≡ over (latest (take i cs)) (getD cs i noClaim)
+          judged =
+              told
+              ∙ rw (t .granted, t .held)
+              (over-natural cs i (getD cs i noClaim) apart o (getD ups i 0) stood ups (getD hops (getD ups i 0) 0) kept-ups steps-kept)
+
+          pub over-failed : answer ≡ false → standOver (latest (take n cs)) ≡ false
+          over-failed h = fails (sym judged ∙ h)
+
+          pub steps-below : answer ≡ true → getD hops (getD ups i 0) 0 < hopLimit
+          steps-below h =
+              over-within ups grantors holders (getD ups i 0) (getD hops (getD ups i 0) 0) (getD cs (getD ups i 0) noClaim) (getD cs i noClaim) (sym told ∙ h)
+
+          pub over-passed : answer ≡ true → Climbed cs n (set hops i (getD hops (getD ups i 0) 0 + 1)) (i + 1)
+          over-passed h =
+              climbed-next s (t .long) (t .short) inside (getD hops (getD ups i 0) 0 + 1) (sym judged ∙ h)
+              (add-one (getD hops (getD ups i 0) 0)
+              ∙ ap suc steps-kept
+              ∙ sym (hops-natural cs i (getD cs i noClaim) apart o (getD ups i 0) stood)
+              ∙ ap (λ x. length (chainPlaces (map claimId cs) (map parentOf cs) i x)) (sym (List·getD-map parentOf cs i noClaim)))
