@@ -79,12 +79,12 @@ fn claims_alone<'a>(
     let resources = columns::resource_columns(o);
     let reports = resources.ids;
     let keepers = resources.keepers;
-    let n = k.count;
-    let granting = finding::places_of(&known, a.count, grantors, n, Register::CLAIMS);
-    let holding = finding::places_of(&known, a.count, holders, n, Register::CLAIMS);
-    let reported = finding::places_of(&reports, o.count, claimed, n, Register::CLAIMS);
+    let top = k.count;
+    let granting = finding::places_of(&known, a.count, grantors, top, Register::CLAIMS);
+    let holding = finding::places_of(&known, a.count, holders, top, Register::CLAIMS);
+    let reported = finding::places_of(&reports, o.count, claimed, top, Register::CLAIMS);
     let mut i: usize = 0;
-    while i < n {
+    while i < top {
         let c = k.list[i];
         let grantor = granting[i];
         let report = reported[i];

@@ -15,14 +15,14 @@ use Rattle.soundness.proofs.claims_alone.Statement.{statement}
 use Rattle.soundness.proofs.claims_alone.Tie as tie
 
 abbrev Inv-loop : tie.InvT-loop
-Inv-loop grantors holders claimed k kinds owners keepers n granting holding reported i₀ i =
-    Judged (k .list) n (foundAt kinds owners keepers granting holding reported) i
+Inv-loop grantors holders claimed k kinds owners keepers top granting holding reported i₀ i =
+    Judged (k .list) top (foundAt kinds owners keepers granting holding reported) i
     × (length kinds ≡ actorLimit)
     × (length owners ≡ actorLimit)
     × (length keepers ≡ resourceLimit)
 
 abbrev μ-loop : tie.MeasureT-loop
-μ-loop grantors holders claimed k kinds owners keepers n granting holding reported i₀ i = n - i
+μ-loop grantors holders claimed k kinds owners keepers top granting holding reported i₀ i = top - i
 
 actor-columns-requires : tie.Need-actor-columns-requires Inv-loop μ-loop
 actor-columns-requires c κs = search needs
