@@ -13,7 +13,7 @@ use Rattle.register.specs.Chain.{latest, above, hopsOf}
 use Rattle.register.specs.declared.Actor.{Actor}
 use Rattle.register.specs.declared.Claim.{Claim}
 use Rattle.register.specs.declared.Register.{Register}
-use Rattle.columns.specs.Columns.{actorId, ownerOf, claimId, parentOf, latestPlace}
+use Rattle.columns.specs.Columns.{actorId, ownerOf, publicOf, claimId, parentOf, latestPlace}
 use Rattle.columns.specs.Laws.{among-natural, hop-count-natural, steps-within}
 use Rattle.columns.specs.declared.Place.{Place}
 use Rattle.columns.specs.declared.Place.the-variants.{At, Nowhere}
@@ -24,9 +24,9 @@ use Rattle.actions.specs.declared.Violation.the-variants.{NotCovered as UseNotC
 use Rattle.verdicts.specs.Gate.{covers, isMachine, ownerLacks, parentless, parentGone, useViolation, hopsIn, hopsFor}
 use Rattle.verdicts.specs.Places.{Place as Stands, each-place}
 use Rattle.verdicts.specs.Trace.{place-hops-most}
-use Rattle.use_judging.specs.Uses.{publicOf, openTo, stepsOf, hopsFrom, parentlessAt, coveredBy, faultOf, reliedOn, useJudged}
+use Rattle.use_judging.specs.Uses.{openTo, stepsOf, hopsFrom, parentlessAt, coveredBy, faultOf, reliedOn, useJudged}
 use Rattle.gathering.specs.Gathering.{coverPlaces}
-use Rattle.sights.specs.Sights.{Typed, ownerAt, ownerIn, sightOf, spotFor, faultAt}
+use Rattle.sights.specs.Sights.{Typed, ownerAt, ownerIn, ownedIn, sightOf, spotFor, faultAt}
 use Rattle.rules.specs.Distinct.{askedAt, asked-natural}
 use Rattle.sights.specs.Relying.{aloneAt, claimAt, claimPlaces, firstPlace, first-any, claims-read, relied-natural, place-natural, covers-natural}
 
@@ -99,7 +99,7 @@ module _ (r : Register) (h : sound r ≡ true) (x : ℕ) where
 
   -- the owner lacks where x is a machine with an owner and the owner does not cover the use
   pub owner-natural : (now : ℕ) (u : Usage)
-      → ownerLacks r now x u ≡ (isMachine r x && not (eqb (ownerIn r x) 0)) && not (covers r now (ownerIn r x) u)
+      → ownerLacks r now x u ≡ ownedIn r x && not (covers r now (ownerIn r x) u)
   unfolding ownerLacks isMachine
   owner-natural now u =
       asked-actor (λ a. eqb (a .kind) machineKind && (not (eqb (a .owner) 0) && not (covers r now (a .owner) u)))
@@ -116,6 +116,11 @@ fault-chosen n true true gone = refl
 fault-chosen n true false true = refl
 fault-chosen n true false false = refl
 
+-- what is asked only where a test holds need stand only there
+asked-where : {A : Type 0} (q : A → Bool) (b : Bool) (there none : A) → b && q (cond b there none) ≡ b && q there
+asked-where q true there none = refl
+asked-where q false there none = refl
+
 module _ (r : Register) (typed : Typed r) (h : sound r ≡ true) (now x : ℕ) (u : Usage) where
   -- the use is open
   abbrev freely : Bool
@@ -128,9 +133,13 @@ module _ (r : Register) (typed : Typed r) (h : sound r ≡ true) (now x : ℕ) (
   covered-natural : (y : ℕ) → coveredBy freely (place y) ≡ covers r now y u
   covered-natural y = ap (coveredBy freely) (place-natural r typed h now y u x) ∙ sym (covers-natural r typed h now y u)
 
-  lacking-natural : (isMachine r x && not (eqb (ownerIn r x) 0)) && not (coveredBy freely (place (ownerIn r x))) ≡ ownerLacks r now x u
+  lacking-natural : ownedIn r x && not (coveredBy freely (reliedOn (sightOf r now x) (sightOf r now x .theirs) (spotFor r u) (u .right)))
+      ≡ ownerLacks r now x u
   lacking-natural =
-      ap (λ b. (isMachine r x && not (eqb (ownerIn r x) 0)) && not b) (covered-natural (ownerIn r x)) ∙ sym (owner-natural r h x now u)
+      asked-where (λ places. not (coveredBy freely (reliedOn (sightOf r now x) places (spotFor r u) (u .right)))) (ownedIn r x)
+      (coverPlaces (r .claims) (ownerIn r x) now) []
+      ∙ ap (λ b. ownedIn r x && not b) (covered-natural (ownerIn r x))
+      ∙ sym (owner-natural r h x now u)
 
   gone-natural : parentlessAt (map claimId (r .claims .list)) (map parentOf (r .claims .list)) (r .claims .count) (place x) ≡ parentGone r now x u
   gone-natural =

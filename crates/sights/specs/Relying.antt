@@ -2,34 +2,38 @@
 use mathlib.Core.Path.{_≡_, refl, sym, ap, _∙_}
 use mathlib.Core.Bool.{Bool, true, false, not, _&&_, _||_, and-true, or-true, or-false}
 use mathlib.Core.List.{List, [], _∷_, map}
-use Prim.Native.Nat.{ℕ, zero, suc, _+_, _<_}
+use Prim.Native.Nat.{ℕ, _≤_, _<_, min}
+use native.Mathlib.Nat.{zero-add}
 use native.Mathlib.Omega.{arith}
 use borrow.Author.Tests.{lt-ltb}
 use lib.Dec.{eqb, ltb}
-use lib.ListN.{length, getD, length-map, length-take}
+use lib.ListN.{length, getD, length-map, length-take, List·getD-map}
 use Rattle.lists.specs.Tests.{cases}
 use Rattle.lists.specs.Lists.{any}
 use Rattle.lists.specs.Each.{All, all-imp}
 use Rattle.lists.specs.Counts.{counted, counted-below, counted-first}
 use Rattle.rights.specs.Rights.{hasRight}
-use Rattle.register.specs.Limits.{resourceLimit}
+use Rattle.register.specs.Limits.{resourceLimit, claimLimit}
 use Rattle.register.specs.Register.{claimsOf, noClaim}
 use Rattle.register.specs.Chain.{live}
 use Rattle.register.specs.declared.Claim.{Claim}
 use Rattle.register.specs.declared.Register.{Register}
-use Rattle.columns.specs.Columns.{resourceId, rightsOf}
+use Rattle.columns.specs.Columns.{resourceId, publicOf, claimedOf, rightsOf}
 use Rattle.columns.specs.declared.Place.{Place}
 use Rattle.columns.specs.declared.Place.the-variants.{At, Nowhere}
 use Rattle.rules.specs.Sound.{sound}
+use Rattle.rules.specs.Registers.{sound-out}
 use Rattle.actions.specs.declared.Usage.{Usage}
 use Rattle.verdicts.specs.Gate.{contains, covering, covers, firstOf as foundIn, relied}
 use Rattle.verdicts.specs.Places.{first-hit, first-miss, first-none}
 use Rattle.flat_paths.specs.Laid.{laid}
-use Rattle.gathering.specs.Gathering.{spotsIn, canCover, coverPlaces}
+use Rattle.finding.specs.Finding.{asked, placesOf}
+use Rattle.finding.specs.Laws.{tabled-length, places-at}
+use Rattle.gathering.specs.Gathering.{canCover, coverPlaces}
 use Rattle.coverage.specs.Coverage.{reaching}
 use Rattle.coverage.specs.Laws.{containing, reaching-natural, firstOf, first-same, covering-sifted}
-use Rattle.use_judging.specs.Uses.{coveredBy, reliedOn, openTo, publicOf}
-use Rattle.sights.specs.Sights.{Typed, sightOf, spotFor}
+use Rattle.use_judging.specs.Uses.{coveredBy, reliedOn, openTo}
+use Rattle.sights.specs.Sights.{Typed, spotsOf, sightOf, spotFor}
 use Rattle.sights.specs.Resources.{spotBy, contains-natural, public-natural}
 
 -- ---- the first of a list and the first place of the places that it is read at
@@ -61,12 +65,6 @@ pub first-any : (M : Place → Type 0) (p : ℕ → Bool) (l : List ℕ) → M N
 first-any M p [] none each = none
 first-any M p (j ∷ l) none each = cases (p j) (λ e. rw e (each .0)) (λ e. rw e (first-any M p l none (each .1)))
 
--- an element read through f at a place of the list, whatever is read past it
-pub mapped-at : {A : Type 0} (f : A → ℕ) (l : List A) (j : ℕ) (d : A) → j < length l → getD (map f l) j 0 ≡ f (getD l j d)
-mapped-at f [] j d inside = absurd (omega arith)
-mapped-at f (a ∷ l) zero d inside = refl
-mapped-at f (a ∷ l) (suc j) d inside = mapped-at f l j d (omega arith)
-
 -- ---- covering, claim by claim
 
 -- the tests of a covering claim, as the columns order them and as the gate does
@@ -92,10 +90,8 @@ firstPlace r now x u = firstOf (λ j. covering r now x u (claimAt r j)) (claimPl
 pub claims-read : (r : Register) → map (claimAt r) (claimPlaces r) ≡ claimsOf (r .claims)
 claims-read r = counted-first noClaim (r .claims .list) (r .claims .count)
 
-places-within : (r : Register) → All (λ j. j < length (r .claims .list)) (claimPlaces r)
-places-within r =
-    all-imp (λ j. j < 0 + length (claimsOf (r .claims))) (λ j. j < length (r .claims .list))
-    (λ j below. omega (arith, length-take (r .claims .count) (r .claims .list))) (claimPlaces r) (counted-below 0 (length (claimsOf (r .claims))))
+places-within : (r : Register) → All (λ j. j < length (claimsOf (r .claims))) (claimPlaces r)
+places-within r = rw (zero-add (length (claimsOf (r .claims)))) at (counted-below 0 (length (claimsOf (r .claims))))
 
 -- the claim relied on is the one at the first place
 pub relied-natural : (r : Register) (now x : ℕ) (u : Usage) → relied r now x u ≡ aloneAt (claimAt r) (firstPlace r now x u)
@@ -109,23 +105,40 @@ either-placed : (b : Bool) (p : Place) → b || placed p ≡ coveredBy b p
 either-placed b (At j) = or-true b
 either-placed b Nowhere = or-false b
 
-module _ (r : Register) (typed : Typed r) (h : sound r ≡ true) (now x : ℕ) (u : Usage) where
-  abbrev spots : List ℕ
-  spots = spotsIn (map resourceId (r .resources .list)) (r .resources .count) (r .claims .list)
+-- where the claims' resources stand
+module _ (r : Register) (typed : Typed r) (j : ℕ) (inside : j < length (claimsOf (r .claims))) where
+  all-asked : j < asked (r .claims .count) (map claimedOf (r .claims .list))
+  all-asked = omega (arith, typed .claimsLong, length-take (r .claims .count) (r .claims .list), length-map (r .claims .list) claimedOf)
 
+  -- each claim has a spot
+  spot-there : j < length (spotsOf r)
+  unfolding placesOf
+  spot-there =
+      let most : asked (r .claims .count) (map claimedOf (r .claims .list)) ≤ claimLimit = omega arith in
+      let long : length (spotsOf r) ≡ claimLimit = tabled-length _ (asked (r .claims .count) (map claimedOf (r .claims .list))) resourceLimit most in
+      omega (arith, all-asked)
+
+  -- it is that of its resource
+  spot-natural : sound r ≡ true → getD (spotsOf r) j 0 ≡ spotBy r (claimAt r j .resource)
+  spot-natural h =
+      let few : min (r .resources .count) claimLimit ≡ r .resources .count = omega (arith, sound-out r h .limits .resourceCount) in
+      places-at (map resourceId (r .resources .list)) (r .resources .count) (map claimedOf (r .claims .list)) (r .claims .count) resourceLimit j 0 all-asked
+      ∙ rw (few, List·getD-map claimedOf (r .claims .list) j noClaim)
+
+module _ (r : Register) (typed : Typed r) (h : sound r ≡ true) (now x : ℕ) (u : Usage) where
   abbrev reaches : ℕ → Bool
-  reaches j = reaching (map rightsOf (r .claims .list)) spots (laid (r .resources) .bytes) (laid (r .resources) .lens) (u .right) (spotFor r u) j
+  reaches j = reaching (map rightsOf (r .claims .list)) (spotsOf r) (laid (r .resources) .bytes) (laid (r .resources) .lens) (u .right) (spotFor r u) j
 
   -- the claim at a place covers where it can cover and reaches
-  covering-natural : (j : ℕ) → j < length (r .claims .list) → not (not (canCover x now (claimAt r j))) && reaches j ≡ covering r now x u (claimAt r j)
+  covering-natural : (j : ℕ) → j < length (claimsOf (r .claims)) → not (not (canCover x now (claimAt r j))) && reaches j ≡ covering r now x u (claimAt r j)
   unfolding covering
   covering-natural j inside =
-      let there : j < length spots = omega (arith, length-map (r .claims .list) (λ (c : Claim). spotBy r (c .resource))) in
-      let spot : getD spots j 0 ≡ spotBy r (claimAt r j .resource) = mapped-at (λ (c : Claim). spotBy r (c .resource)) (r .claims .list) j noClaim inside in
-      ap (λ b. not (not (canCover x now (claimAt r j))) && b) (reaching-natural (r .claims .list) spots (r .resources) (typed .pathsLong) (u .right) (spotFor r u) j)
-      ∙ same-tests (eqb (claimAt r j .holder) x) (live now (claimAt r j)) (hasRight (claimAt r j .rights) (u .right)) (ltb j (length spots))
-      (ltb (getD spots j 0) resourceLimit) (ltb (spotFor r u) resourceLimit) (containing (r .resources) (getD spots j 0) (spotFor r u))
-      (contains r (claimAt r j .resource) (u .resource)) (lt-ltb j (length spots) there)
+      let there : j < length (spotsOf r) = spot-there r typed j inside in
+      let spot : getD (spotsOf r) j 0 ≡ spotBy r (claimAt r j .resource) = spot-natural r typed j inside h in
+      ap (λ b. not (not (canCover x now (claimAt r j))) && b) (reaching-natural (r .claims .list) (spotsOf r) (r .resources) (typed .pathsLong) (u .right) (spotFor r u) j)
+      ∙ same-tests (eqb (claimAt r j .holder) x) (live now (claimAt r j)) (hasRight (claimAt r j .rights) (u .right)) (ltb j (length (spotsOf r)))
+      (ltb (getD (spotsOf r) j 0) resourceLimit) (ltb (spotFor r u) resourceLimit) (containing (r .resources) (getD (spotsOf r) j 0) (spotFor r u))
+      (contains r (claimAt r j .resource) (u .resource)) (lt-ltb j (length (spotsOf r)) there)
       (contains-natural r h (claimAt r j .resource) (u .resource)
       ∙ sym (ap (λ s. ltb s resourceLimit && (ltb (spotFor r u) resourceLimit && containing (r .resources) s (spotFor r u))) spot))
 
@@ -133,10 +146,10 @@ module _ (r : Register) (typed : Typed r) (h : sound r ≡ true) (now x : ℕ) (
   pub place-natural : (looking : ℕ)
       → reliedOn (sightOf r now looking) (coverPlaces (r .claims) x now) (spotFor r u) (u .right) ≡ firstPlace r now x u
   place-natural looking =
-      covering-sifted (map rightsOf (r .claims .list)) spots (laid (r .resources) .bytes) (laid (r .resources) .lens) (u .right) (spotFor r u)
+      covering-sifted (map rightsOf (r .claims .list)) (spotsOf r) (laid (r .resources) .bytes) (laid (r .resources) .lens) (u .right) (spotFor r u)
       (λ j. not (canCover x now (claimAt r j))) (claimPlaces r)
       ∙ first-same (λ j. not (not (canCover x now (claimAt r j))) && reaches j) (λ j. covering r now x u (claimAt r j)) (claimPlaces r)
-      (all-imp (λ j. j < length (r .claims .list)) (λ j. not (not (canCover x now (claimAt r j))) && reaches j ≡ covering r now x u (claimAt r j))
+      (all-imp (λ j. j < length (claimsOf (r .claims))) (λ j. not (not (canCover x now (claimAt r j))) && reaches j ≡ covering r now x u (claimAt r j))
       covering-natural (claimPlaces r) (places-within r))
 
   -- a use is covered where it is open or there is such a place

@@ -15,7 +15,7 @@ use Rattle.register.specs.Limits.{resourceLimit}
 use Rattle.register.specs.Register.{resourcesOf, pathOf, noResource}
 use Rattle.register.specs.declared.Resource.{Resource}
 use Rattle.register.specs.declared.Register.{Register}
-use Rattle.columns.specs.Columns.{resourceId, latestPlace}
+use Rattle.columns.specs.Columns.{resourceId, publicOf, latestPlace}
 use Rattle.columns.specs.Laws.{place-found}
 use Rattle.columns.specs.declared.Place.{Place}
 use Rattle.columns.specs.declared.Place.the-variants.{At, Nowhere}
@@ -25,7 +25,7 @@ use Rattle.actions.specs.declared.Usage.{Usage}
 use Rattle.verdicts.specs.Gate.{publicRead, contains}
 use Rattle.gathering.specs.Gathering.{spotOf, spotIn}
 use Rattle.coverage.specs.Laws.{containing}
-use Rattle.use_judging.specs.Uses.{publicOf, openTo}
+use Rattle.use_judging.specs.Uses.{openTo}
 use Rattle.sights.specs.Sights.{Typed, spotFor}
 use Rattle.rules.specs.Distinct.{askedAt, asked-natural}
 

@@ -1,6 +1,6 @@
 -- What the gate sees of a register for an actor at a moment, by columns: what `use_judging` is handed.
 use mathlib.Core.Path.{_≡_}
-use mathlib.Core.Bool.{not, _&&_}
+use mathlib.Core.Bool.{Bool, not, _&&_, cond}
 use mathlib.Core.List.{List, [], _∷_, map}
 use Prim.Native.Nat.{ℕ}
 use lib.Dec.{eqb}
@@ -8,16 +8,17 @@ use lib.ListN.{length, getD}
 use Rattle.lists.specs.Each.{All}
 use Rattle.register.specs.Limits.{actorLimit, resourceLimit, claimLimit, pathLimit}
 use Rattle.register.specs.declared.Register.{Register}
-use Rattle.columns.specs.Columns.{actorId, ownerOf, resourceId, claimId, parentOf, rightsOf, latestPlace}
+use Rattle.columns.specs.Columns.{actorId, ownerOf, resourceId, publicOf, claimId, parentOf, claimedOf, rightsOf, latestPlace}
 use Rattle.columns.specs.declared.Place.{Place}
 use Rattle.columns.specs.declared.Place.the-variants.{At, Nowhere}
 use Rattle.actions.specs.declared.Usage.{Usage}
 use Rattle.actions.specs.declared.Violation.{Violation}
 use Rattle.actions.specs.declared.Violation.the-variants.{NotCovered as UseNotCovered, OwnerNotCovering as UseOwnerNotCovering, ParentGone as UseParentGone}
 use Rattle.verdicts.specs.Gate.{isMachine}
-use Rattle.gathering.specs.Gathering.{spotIn, spotsIn, coverPlaces}
+use Rattle.finding.specs.Finding.{placesOf}
+use Rattle.gathering.specs.Gathering.{spotIn, coverPlaces}
 use Rattle.flat_paths.specs.Laid.{laid}
-use Rattle.use_judging.specs.Uses.{publicOf, Sight}
+use Rattle.use_judging.specs.Uses.{Sight}
 use Rattle.use_judging.specs.declared.Fault.{Fault}
 use Rattle.use_judging.specs.declared.Fault.the-variants.{Nothing, NotCovered, OwnerNotCovering, ParentGone}
 
@@ -37,14 +38,23 @@ ownerAt owners Nowhere = 0
 abbrev pub ownerIn : Register → ℕ → ℕ
 ownerIn r x = ownerAt (map ownerOf (r .actors .list)) (latestPlace (map actorId (r .actors .list)) (r .actors .count) x)
 
--- the columns of a register, with the gathered claims of the actor numbered x and of its owner
+-- whether the actor numbered x is a machine with an owner
+abbrev pub ownedIn : Register → ℕ → Bool
+ownedIn r x = isMachine r x && not (eqb (ownerIn r x) 0)
+
+-- the place of each claim's resource
+abbrev pub spotsOf : Register → List ℕ
+spotsOf r =
+    placesOf (map resourceId (r .resources .list)) (r .resources .count) (map claimedOf (r .claims .list)) (r .claims .count) resourceLimit
+
+-- the columns of a register, with the gathered claims of the actor numbered x and of its owner, which a machine alone is asked for
 abbrev pub sightOf : Register → ℕ → ℕ → Sight
 sightOf r now x = record {
   own = coverPlaces (r .claims) x now;
-  theirs = coverPlaces (r .claims) (ownerIn r x) now;
-  owned = isMachine r x && not (eqb (ownerIn r x) 0);
+  theirs = cond (ownedIn r x) (coverPlaces (r .claims) (ownerIn r x) now) [];
+  owned = ownedIn r x;
   rights = map rightsOf (r .claims .list);
-  spots = spotsIn (map resourceId (r .resources .list)) (r .resources .count) (r .claims .list);
+  spots = spotsOf r;
   bytes = laid (r .resources) .bytes;
   lens = laid (r .resources) .lens;
   publics = map publicOf (r .resources .list);

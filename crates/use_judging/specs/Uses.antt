@@ -6,7 +6,6 @@ use lib.Dec.{eqb}
 use lib.ListN.{getD, take}
 use Rattle.lists.specs.Lists.{any}
 use Rattle.rights.specs.Rights.{reading}
-use Rattle.register.specs.declared.Resource.{Resource}
 use Rattle.columns.specs.Columns.{chainPlaces, stepsUp}
 use Rattle.columns.specs.declared.Hops.{Hops}
 use Rattle.columns.specs.declared.Hops.the-variants.{Up, Beyond}
@@ -16,9 +15,6 @@ use Rattle.coverage.specs.Coverage.{firstCovering}
 use Rattle.use_judging.specs.declared.Fault.{Fault}
 use Rattle.use_judging.specs.declared.Fault.the-variants.{Nothing, NotCovered, OwnerNotCovering, ParentGone}
 use Rattle.use_judging.specs.declared.UseJudged.{UseJudged}
-
-abbrev pub publicOf : Resource → ℕ
-publicOf o = o .public
 
 -- the resource at a place is public and the right is READ
 abbrev pub openTo : List ℕ → ℕ → ℕ → Bool

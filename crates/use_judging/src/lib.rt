@@ -1,13 +1,10 @@
 // One use of an action judged by lent columns: whether the actor covers it, whether a machine's owner does, whether the claim relied on has
 // a parent that stands, and the hop count of that claim.
 ghost use mathlib.Core.Path.{_≡_};
-ghost use mathlib.Core.List.{map};
 ghost use lib.ListN.{take};
-ghost use Rattle.use_judging.specs.Uses.{publicOf, openTo, hopsFrom, parentlessAt, coveredBy, faultOf, useJudged};
+ghost use Rattle.use_judging.specs.Uses.{openTo, hopsFrom, parentlessAt, coveredBy, faultOf, useJudged};
 use columns::Hops;
 use columns::Place;
-use register::Register;
-use register::Resources;
 
 // What is wrong with a use.
 pub enum Fault {
@@ -21,19 +18,6 @@ pub enum Fault {
 pub struct UseJudged {
     pub fault: Fault,
     pub hops: usize,
-}
-
-// The column of the numbers that say whether a resource is public.
-pub fn publics(k: Resources) -> [u32; Register::RESOURCES]
-    ensures { λ r. ⌜ r ≡ map publicOf (k .list) ⌝ }
-{
-    let mut column = [0u32; Register::RESOURCES];
-    let mut i: usize = 0;
-    while i < Register::RESOURCES {
-        column[i] = k.list[i].public;
-        i += 1;
-    }
-    column
 }
 
 // Whether the resource at a place is public and the right is READ.

@@ -3,83 +3,103 @@
 use mathlib.Core.Path.{_≡_, refl, sym, ap, _∙_}
 use mathlib.Core.Bool.{Bool, true, false, not}
 use mathlib.Core.List.{List}
-use Prim.Native.Nat.{ℕ, _+_, _-_, _<_, _≤_, min}
+use Prim.Native.Nat.{ℕ, _+_, _-_, _<_, _≤_}
 use native.Mathlib.Omega.{arith}
 use borrow.Author.Needs.{needs}
-use lib.ListN.{getD, set, length, replicate, length-take}
-use Rattle.lists.specs.Loops.{length-mapped}
+use lib.ListN.{set, replicate}
 use Rattle.register.specs.Limits.{claimLimit}
-use Rattle.register.specs.Register.{noClaim, claimsOf}
-use Rattle.register.specs.declared.Claims.{Claims}
-use Rattle.gathering.specs.Gathering.{canCover, gatheredOf}
+use Rattle.gathering.specs.Gathering.{canCover, lookedAt, heldAt, gatheredBy}
+use Rattle.gathering.specs.Laws.{Looked, looked-within}
 use Rattle.gathering.specs.declared.Gathered.{Gathered}
 use Rattle.gathering.proofs.Collecting.{Collecting, collecting-start, collecting-room, collecting-left, collecting-taken, collecting-count, collecting-places}
 use Rattle.gathering.proofs.gather.Statement.{statement}
 use Rattle.gathering.proofs.gather.Tie as tie
 
--- the loop over the claims has come to place i, and top is how many there are
-record Gathering (k : Claims) (x now top i count : ℕ) (places : List ℕ) : Type 0 where
-  pub whole : top ≡ length (claimsOf k)
-  pub collected : Collecting (λ j. not (canCover x now (getD (k .list) j noClaim))) claimLimit top i count places
+-- the loop over the first n claims has come to place i, and top is how many are looked at
+record Gathering (holders weights expiries : List ℕ) (n x now top i count : ℕ) (places : List ℕ) : Type 0 where
+  pub whole : top ≡ lookedAt holders weights expiries n
+  pub within : Looked holders weights expiries n
+  pub collected : Collecting (λ j. not (canCover x now (heldAt holders weights expiries j))) claimLimit top i count places
 
-gathering-start : {k : Claims} {x now top : ℕ} → length (k .list) ≡ claimLimit → top ≡ min (k .count) claimLimit
-    → Gathering k x now top 0 0 (replicate claimLimit 0)
-gathering-start {k} h e =
-    record { whole = omega (arith, length-take (k .count) (k .list)); collected = collecting-start (omega arith) refl }
+gathering-start : {holders weights expiries : List ℕ} {n x now top : ℕ} → top ≡ lookedAt holders weights expiries n
+    → Gathering holders weights expiries n x now top 0 0 (replicate claimLimit 0)
+gathering-start {holders} {weights} {expiries} {n} e =
+    let looked = looked-within holders weights expiries n in
+    record { whole = e; within = looked; collected = collecting-start (omega (arith, looked .few)) refl }
 
-module _ {k : Claims} {x now top i count : ℕ} {places : List ℕ} (s : Gathering k x now top i count places) (h : i < top) where
-  gathering-room : count < claimLimit
-  gathering-room = omega (arith, collecting-room (s .collected))
+module _ {holders weights expiries : List ℕ} {n x now top i count : ℕ} {places : List ℕ}
+    (s : Gathering holders weights expiries n x now top i count places) where
+  module _ (h : i < top) where
+    gathering-room : count < claimLimit
+    gathering-room = omega (arith, s .whole, s .within .few, collecting-room (s .collected))
 
-  gathering-covers : {covers : Bool} → covers ≡ canCover x now (getD (k .list) i noClaim) → covers ≡ true
-      → Gathering k x now top (i + 1) (count + 1) (set places count i)
-  gathering-covers e t = record { whole = s .whole; collected = collecting-left (s .collected) h (ap not (sym e ∙ t)) }
+    gathering-covers : {covers : Bool} → covers ≡ canCover x now (heldAt holders weights expiries i) → covers ≡ true
+        → Gathering holders weights expiries n x now top (i + 1) (count + 1) (set places count i)
+    gathering-covers e t = record { whole = s .whole; within = s .within; collected = collecting-left (s .collected) h (ap not (sym e ∙ t)) }
 
-  gathering-misses : {covers : Bool} → covers ≡ canCover x now (getD (k .list) i noClaim) → covers ≡ false
-      → Gathering k x now top (i + 1) count places
-  gathering-misses e t = record { whole = s .whole; collected = collecting-taken (s .collected) h (ap not (sym e ∙ t)) }
+    gathering-misses : {covers : Bool} → covers ≡ canCover x now (heldAt holders weights expiries i) → covers ≡ false
+        → Gathering holders weights expiries n x now top (i + 1) count places
+    gathering-misses e t = record { whole = s .whole; within = s .within; collected = collecting-taken (s .collected) h (ap not (sym e ∙ t)) }
 
-gathering-done : {k : Claims} {x now top i count : ℕ} {places : List ℕ} → Gathering k x now top i count places → top ≤ i
-    → _≡_ {A = Gathered} (record { places = places; count = count }) (gatheredOf k x now)
-unfolding gatheredOf
-gathering-done s h = rw (← s .whole, ← collecting-count (s .collected) h, collecting-places (s .collected) h)
+  gathering-done : top ≤ i → _≡_ {A = Gathered} (record { places = places; count = count }) (gatheredBy holders weights expiries n x now)
+  unfolding gatheredBy
+  gathering-done h = rw (← s .whole, ← collecting-count (s .collected) h, collecting-places (s .collected) h)
 
 abbrev Inv-loop : tie.InvT-loop
-Inv-loop x now k places₀ count₀ top i₀ places count i = Gathering k x now top i count places
+Inv-loop holders weights expiries n x moment places₀ count₀ top i₀ places count i =
+    Gathering holders weights expiries n x moment top i count places
 
 abbrev μ-loop : tie.MeasureT-loop
-μ-loop x now k places₀ count₀ top i₀ places count i = top - i
+μ-loop holders weights expiries n x moment places₀ count₀ top i₀ places count i = top - i
 
-least-requires : tie.Need-least-requires Inv-loop μ-loop
-least-requires c κs = search needs
+looked-at-requires : tie.Need-looked-at-requires Inv-loop μ-loop
+looked-at-requires c κs = search needs
 
 loop-holds : tie.Need-loop-holds Inv-loop μ-loop
-loop-holds c = gathering-start (search (needs, length-mapped)) (c .least .ensures)
+loop-holds c = gathering-start (c .looked-at .ensures)
 
-mul-c : tie.Need-mul-c Inv-loop μ-loop
-mul-c c = search needs
+mul-can-cover : tie.Need-mul-can-cover Inv-loop μ-loop
+mul-can-cover c = search needs
 
-element-copy-out-c : tie.Need-element-copy-out-c Inv-loop μ-loop
-element-copy-out-c c = search needs
+shared-slice-read-can-cover : tie.Need-shared-slice-read-can-cover Inv-loop μ-loop
+shared-slice-read-can-cover c =
+    let come = c .before .before .loop .inv in
+    omega (arith, come .whole, come .within .held)
+
+mul-can-cover-2 : tie.Need-mul-can-cover-2 Inv-loop μ-loop
+mul-can-cover-2 c = search needs
+
+shared-slice-read-can-cover-2 : tie.Need-shared-slice-read-can-cover-2 Inv-loop μ-loop
+shared-slice-read-can-cover-2 c =
+    let come = c .before .before .before .loop .inv in
+    omega (arith, come .whole, come .within .weighed)
+
+mul-can-cover-3 : tie.Need-mul-can-cover-3 Inv-loop μ-loop
+mul-can-cover-3 c = search needs
+
+shared-slice-read-can-cover-3 : tie.Need-shared-slice-read-can-cover-3 Inv-loop μ-loop
+shared-slice-read-can-cover-3 c =
+    let come = c .before .before .before .before .loop .inv in
+    omega (arith, come .whole, come .within .expiring)
 
 can-cover-requires : tie.Need-can-cover-requires Inv-loop μ-loop
 can-cover-requires c κs = search needs
 
 mul-places : tie.Need-mul-places Inv-loop μ-loop
 mul-places c =
-    let turn = c .before .before .before in
+    let turn = c .before .before .before .before .before in
     let room = gathering-room (turn .before .loop .inv) (turn .loop-test .taken) in
     search needs
 
 array-write-places : tie.Need-array-write-places Inv-loop μ-loop
 array-write-places c =
-    let turn = c .before .before .before in
+    let turn = c .before .before .before .before .before in
     let room = gathering-room (turn .before .loop .inv) (turn .loop-test .taken) in
     search needs
 
 add-count : tie.Need-add-count Inv-loop μ-loop
 add-count c =
-    let turn = c .before .before .before in
+    let turn = c .before .before .before .before .before in
     let room = gathering-room (turn .before .loop .inv) (turn .loop-test .taken) in
     search needs
 
@@ -91,7 +111,7 @@ loop-less c = search needs
 
 loop-again : tie.Need-loop-again Inv-loop μ-loop
 loop-again c =
-    let turn = c .before .before .before in
+    let turn = c .before .before .before .before .before in
     gathering-covers (turn .before .loop .inv) (turn .loop-test .taken) (c .before .can-cover .ensures) (c .if1 .taken)
 
 add-i-2 : tie.Need-add-i-2 Inv-loop μ-loop
@@ -102,7 +122,7 @@ loop-less-2 c = search needs
 
 loop-again-2 : tie.Need-loop-again-2 Inv-loop μ-loop
 loop-again-2 c =
-    let turn = c .before .before .before in
+    let turn = c .before .before .before .before .before in
     gathering-misses (turn .before .loop .inv) (turn .loop-test .taken) (c .before .can-cover .ensures) (c .if1 .left)
 
 returns : tie.Need-returns Inv-loop μ-loop
@@ -114,10 +134,14 @@ gather-spec =
     (tie.spec
     Inv-loop
     μ-loop
-    least-requires
+    looked-at-requires
     loop-holds
-    mul-c
-    element-copy-out-c
+    mul-can-cover
+    shared-slice-read-can-cover
+    mul-can-cover-2
+    shared-slice-read-can-cover-2
+    mul-can-cover-3
+    shared-slice-read-can-cover-3
     can-cover-requires
     mul-places
     array-write-places
