@@ -13,6 +13,8 @@ use Rattle.actions.specs.declared.Usage.{Usage}
 use Rattle.actions.specs.declared.Violations.{Violations}
 use Rattle.gathering.specs.Gathering.{spotIn}
 use Rattle.use_judging.specs.Uses.{Sight, useJudged}
+use Rattle.use_judging.specs.declared.Fault.{Fault}
+use Rattle.use_judging.specs.declared.Fault.the-variants.{Nothing}
 use Rattle.use_judging.specs.declared.UseJudged.{UseJudged}
 use Rattle.sights.specs.Sights.{faultAt}
 use Rattle.violations.specs.Pushed.{pushedAll}
@@ -35,6 +37,11 @@ pub record Turning (s : Sight) (reports : List ℕ) (m : ℕ) (a : Action) (firs
   pub same : position ≡ i
   pub put : now ≡ pushedAll first (faultsFrom s reports m 0 (take i (usesOf a)))
   pub held : hops ≡ map (hopsOf s reports m) (take i (usesOf a)) ++ replicate (useLimit - i) 0
+
+-- no fault puts no violation
+pub fault-none : (vs : Violations) (n : ℕ) {fault : Fault} → fault ≡ Nothing → vs ≡ faultPut vs n fault
+unfolding pushedAll
+fault-none vs n e = rw e
 
 -- the first uses and the one behind them
 uses-next : (a : Action) (i : ℕ) (d : Usage) → i < length (usesOf a) → take (i + 1) (usesOf a) ≡ take i (usesOf a) ++ (getD (a .uses) i d ∷ [])

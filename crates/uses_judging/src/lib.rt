@@ -74,9 +74,17 @@ pub fn judge_uses<'a>(
         );
         let fault = judged.fault;
         hops[i] = judged.hops;
-        violations = put_fault(violations, position, fault);
-        position += 1;
-        i += 1;
+        match fault {
+            Fault::Nothing => {
+                position += 1;
+                i += 1;
+            }
+            _ => {
+                violations = put_fault(violations, position, fault);
+                position += 1;
+                i += 1;
+            }
+        }
     }
     UsesJudged { violations, hops }
 }

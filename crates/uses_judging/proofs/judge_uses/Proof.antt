@@ -4,7 +4,7 @@ use borrow.Author.Needs.{needs}
 use Prim.Native.Nat.{_-_}
 use lib.ListN.{take}
 use Rattle.lists.specs.Loops.{length-mapped}
-use Rattle.uses_judging.proofs.Turning.{Turning, turning-start, turning-next, turning-end}
+use Rattle.uses_judging.proofs.Turning.{Turning, fault-none, turning-start, turning-next, turning-end}
 use Rattle.uses_judging.proofs.judge_uses.Statement.{statement}
 use Rattle.uses_judging.proofs.judge_uses.Tie as tie
 
@@ -53,8 +53,8 @@ mul-hops c = search needs
 array-write-hops : tie.Need-array-write-hops Inv-loop μ-loop
 array-write-hops c = search needs
 
-put-fault-requires : tie.Need-put-fault-requires Inv-loop μ-loop
-put-fault-requires c κs = search needs
+enum-told : tie.Need-enum-told Inv-loop μ-loop
+enum-told c = search needs
 
 add-position : tie.Need-add-position Inv-loop μ-loop
 add-position c = search needs
@@ -65,10 +65,32 @@ add-i c = search needs
 loop-less : tie.Need-loop-less Inv-loop μ-loop
 loop-less c = search needs
 
+-- a use without fault
 loop-again : tie.Need-loop-again Inv-loop μ-loop
 loop-again c =
-    let turn = c .before .before .before .before in
-    turning-next (turn .before .loop .inv) _ (turn .loop-test .taken) (c .before .before .spot .ensures) (c .before .judge-use .ensures)
+    let asked = c .before .before in
+    let turn = asked .before .before .before in
+    turning-next (turn .before .loop .inv) _ (turn .loop-test .taken) (asked .before .spot .ensures) (asked .judge-use .ensures)
+    (fault-none _ _ (c .enum-told .given .1))
+
+put-fault-requires : tie.Need-put-fault-requires Inv-loop μ-loop
+put-fault-requires c κs = search needs
+
+add-position-2 : tie.Need-add-position-2 Inv-loop μ-loop
+add-position-2 c = search needs
+
+add-i-2 : tie.Need-add-i-2 Inv-loop μ-loop
+add-i-2 c = search needs
+
+loop-less-2 : tie.Need-loop-less-2 Inv-loop μ-loop
+loop-less-2 c = search needs
+
+-- a use with one
+loop-again-2 : tie.Need-loop-again-2 Inv-loop μ-loop
+loop-again-2 c =
+    let asked = c .before .before in
+    let turn = asked .before .before .before in
+    turning-next (turn .before .loop .inv) _ (turn .loop-test .taken) (asked .before .spot .ensures) (asked .judge-use .ensures)
     (c .put-fault .ensures)
 
 returns : tie.Need-returns Inv-loop μ-loop
@@ -88,9 +110,14 @@ judge-uses-spec =
     judge-use-requires
     mul-hops
     array-write-hops
-    put-fault-requires
+    enum-told
     add-position
     add-i
     loop-less
     loop-again
+    put-fault-requires
+    add-position-2
+    add-i-2
+    loop-less-2
+    loop-again-2
     returns)
