@@ -1,52 +1,36 @@
--- What is judged by columns, put together: the machine and its owner, and the whole answer. Assumes nothing.
-use mathlib.Core.Path.{_≡_, refl, sym, ap, _∙_, fun-ext}
-use mathlib.Core.Bool.{Bool, true, false, not, _&&_, cond}
-use mathlib.Core.List.{List, [], _∷_, map}
-use Prim.Native.Nat.{ℕ}
+-- What is judged by columns, put together: what is told of a view, and the whole answer. Assumes nothing.
+use mathlib.Core.Path.{_≡_, refl, sym, ap, _∙_}
+use mathlib.Core.Bool.{true, false, cond}
+use mathlib.Core.List.{List, [], _∷_}
 use lib.Dec.{eqb, eqb·suc-zero}
-use lib.ListN.{length, take}
-use borrow.Author.Tests.{eq-eqb, eqb-true}
-use Rattle.lists.specs.Tests.{iff-same}
-use Rattle.lists.specs.Lists.{any}
-use Rattle.register.specs.Limits.{machineKind}
-use Rattle.register.specs.Register.{actorsOf}
-use Rattle.register.specs.declared.Actor.{Actor}
+use lib.ListN.{length}
 use Rattle.register.specs.declared.Register.{Register}
 use Rattle.rules.specs.Sound.{sound}
-use Rattle.columns.specs.Columns.{actorId, kindOf, beside}
-use Rattle.columns.specs.Laws.{beside-natural}
 use Rattle.actions.specs.declared.Action.{Action}
 use Rattle.actions.specs.declared.Violation.{Violation}
 use Rattle.actions.specs.declared.Decision.the-variants.{Permitted, Refused, Stopped}
 use Rattle.actions.specs.declared.Verdict.{Verdict}
 use Rattle.changes.specs.Refusals.{outcomeOf}
 use Rattle.changes.specs.Laws.{outcome-pass, outcome-fail, outcome-accepted}
+use Rattle.changes.specs.declared.Outcome.{Outcome}
 use Rattle.changes.specs.declared.Outcome.the-variants.{Accepted, Refused as RefusedFor}
 use Rattle.changes.specs.declared.Refusal.{Refusal}
 use Rattle.changes.specs.declared.Refusal.the-variants.{Unsound}
-use Rattle.verdicts.specs.Gate.{isMachine, violationsOf, listed, padded, decided, actionTests, gateTests, gated}
+use Rattle.verdicts.specs.Gate.{violationsOf, listed, padded, decided, actionTests, gateTests, gated}
 use Rattle.verdicts.specs.Laws.{gated-stopped, gated-judged}
-use Rattle.sights.specs.Sights.{Typed, ownerIn}
+use Rattle.sights.specs.Sights.{Typed}
 use Rattle.uses_judging.specs.declared.UsesJudged.{UsesJudged}
-use Rattle.gate.specs.Judged.{actionJudged}
-use Rattle.gate.specs.Laws.{judged-natural}
+use Rattle.gate.specs.Judged.{actionJudged, viewOf, lentOf, lentTests, judgedBy}
+use Rattle.gate.specs.Laws.{judged-natural, tests-natural, view-natural}
+use Rattle.gate.specs.declared.View.{View}
 
-turned : (a b : ℕ) → eqb a b ≡ eqb b a
-turned a b = iff-same (eqb a b) (eqb b a) (λ t. eq-eqb b a (sym (eqb-true a b t))) (λ t. eq-eqb a b (sym (eqb-true b a t)))
+-- what is told of the view of a register is told of the register
+module _ (r : Register) (a : Action) {v : View} (viewed : v ≡ viewOf r) where
+  pub outcome-seen : {outcome : Outcome} → outcome ≡ outcomeOf (lentTests (v .actors .ids) (r .actors .count) a) → outcome ≡ outcomeOf (actionTests r a)
+  outcome-seen e = e ∙ ap (λ w. outcomeOf (lentTests (w .actors .ids) (r .actors .count) a)) viewed ∙ ap outcomeOf (tests-natural r a)
 
--- a machine, by the columns of ids and kinds
-pub machine-natural : (r : Register) (x : ℕ) →
-    beside (take (r .actors .count) (map actorId (r .actors .list))) (take (r .actors .count) (map kindOf (r .actors .list))) x machineKind ≡ isMachine r x
-unfolding isMachine
-machine-natural r x =
-    beside-natural actorId kindOf x machineKind (r .actors .count) (r .actors .list)
-    ∙ ap (λ p. any p (actorsOf (r .actors))) (fun-ext (λ (a : Actor). ap (λ b. eqb x (a .id) && b) (turned machineKind (a .kind))))
-
--- a machine with an owner, as the sight says it
-pub owned-seen : (r : Register) (x : ℕ) (machine : Bool) (owner : ℕ) →
-    machine ≡ beside (take (r .actors .count) (map actorId (r .actors .list))) (take (r .actors .count) (map kindOf (r .actors .list))) x machineKind →
-    owner ≡ ownerIn r x → machine && not (eqb owner 0) ≡ isMachine r x && not (eqb (ownerIn r x) 0)
-owned-seen r x machine owner m o = rw (m ∙ machine-natural r x, o)
+  pub judged-seen : Typed r → {judged : UsesJudged} → judged ≡ judgedBy (lentOf r v) a → judged ≡ actionJudged r a
+  judged-seen typed e = e ∙ ap (λ w. judgedBy (lentOf r w) a) viewed ∙ view-natural r typed a
 
 -- permitted means an empty list
 decided-natural : (vs : List Violation) → cond (eqb (length vs) 0) Permitted Refused ≡ decided vs

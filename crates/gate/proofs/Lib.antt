@@ -1,4 +1,3 @@
 pub mod Putting
-pub mod Testing
 pub mod Seeing
 pub mod Assembling

@@ -1,61 +1,68 @@
--- What the gate hands over to the judging of uses, column by column, is what is seen of the register. Assumes nothing.
+-- What is taken out of a register is its view, and an action judged step by step is judged by what is lent. Assumes nothing.
 use mathlib.Core.Path.{_≡_, _∙_}
-use mathlib.Core.Bool.{Bool, not, _&&_}
-use mathlib.Core.List.{List, map}
+use mathlib.Core.Bool.{Bool, not, _&&_, cond}
+use mathlib.Core.List.{List, []}
 use Prim.Native.Nat.{ℕ}
 use lib.Dec.{eqb}
 use lib.ListN.{take}
+use Rattle.register.specs.Limits.{resourceLimit}
 use Rattle.register.specs.declared.Register.{Register}
-use Rattle.columns.specs.Columns.{resourceId, claimId, parentOf, rightsOf}
+use Rattle.columns.specs.Columns.{actorColumns, resourceColumns, claimColumns}
+use Rattle.columns.specs.declared.ActorColumns.{ActorColumns}
+use Rattle.columns.specs.declared.ResourceColumns.{ResourceColumns}
+use Rattle.columns.specs.declared.ClaimColumns.{ClaimColumns}
+use Rattle.finding.specs.Finding.{placesOf}
 use Rattle.actions.specs.declared.Action.{Action}
 use Rattle.actions.specs.declared.Violations.{Violations}
-use Rattle.verdicts.specs.Gate.{isMachine}
-use Rattle.gathering.specs.Gathering.{spotsIn, gatheredOf}
-use Rattle.gathering.specs.Laws.{gathered-first}
-use Rattle.gathering.specs.declared.Gathered.{Gathered}
+use Rattle.verdicts.specs.Gate.{listed}
+use Rattle.violations.specs.Pushed.{pushedAll}
 use Rattle.flat_paths.specs.Laid.{laid}
 use Rattle.flat_paths.specs.declared.Paths.{Paths}
-use Rattle.use_judging.specs.Uses.{publicOf}
-use Rattle.sights.specs.Sights.{ownerIn, sightOf}
+use Rattle.gathering.specs.Gathering.{gatheredBy}
+use Rattle.gathering.specs.Laws.{gathered-first}
+use Rattle.gathering.specs.declared.Gathered.{Gathered}
 use Rattle.uses_judging.specs.Judging.{usesJudged}
 use Rattle.uses_judging.specs.declared.UsesJudged.{UsesJudged}
+use Rattle.gate.specs.Judged.{besides, viewOf, Lent, machineBy, ownerBy, ownedBy, judgedBy}
+use Rattle.gate.specs.declared.View.{View}
 
-module _ (r : Register) (a : Action) (vs : Violations) {owner : ℕ} {owned : Bool} {reports publics rights spots ids parents : List ℕ}
-    {paths : Paths} {own theirs : Gathered} {y : UsesJudged} where
-  -- the uses judged by columns that are each the register's are the uses judged by what is seen of it
-  pub seen : owner ≡ ownerIn r (a .actor) → owned ≡ (isMachine r (a .actor) && not (eqb (ownerIn r (a .actor)) 0))
-      → reports ≡ map resourceId (r .resources .list) → publics ≡ map publicOf (r .resources .list) → paths ≡ laid (r .resources)
-      → rights ≡ map rightsOf (r .claims .list) → spots ≡ spotsIn reports (r .resources .count) (r .claims .list)
-      → ids ≡ map claimId (r .claims .list) → parents ≡ map parentOf (r .claims .list)
-      → own ≡ gatheredOf (r .claims) (a .actor) (a .now) → theirs ≡ gatheredOf (r .claims) owner (a .now)
+-- columns that are each the register's are its view
+pub viewed : (r : Register) {actors : ActorColumns} {resources : ResourceColumns} {claims : ClaimColumns} {paths : Paths} {spots : List ℕ}
+    → actors ≡ actorColumns (r .actors .list) → resources ≡ resourceColumns (r .resources .list) → claims ≡ claimColumns (r .claims .list)
+    → paths ≡ laid (r .resources) → spots ≡ placesOf (resources .ids) (r .resources .count) (claims .claimed) (r .claims .count) resourceLimit
+    → _≡_ {A = View} (record { actors = actors; resources = resources; claims = claims; paths = paths; spots = spots }) (viewOf r)
+viewed r of-actors of-resources of-claims of-paths of-spots = rw (of-spots, of-actors, of-resources, of-claims, of-paths)
+
+module _ (l : Lent) (a : Action) {machine : Bool} {owner asked : ℕ} {vs : Violations} {own theirs : Gathered} {y : UsesJudged} where
+  -- the uses judged by what was gathered, behind the other violations
+  pub judged-lent : machine ≡ machineBy l (a .actor) → owner ≡ ownerBy l (a .actor) → vs ≡ pushedAll (listed []) (besides machine owner a)
+      → own ≡ gatheredBy (l .holders) (l .weights) (l .expiries) (l .claims) (a .actor) (a .now)
+      → asked ≡ cond (machine && not (eqb owner 0)) (l .claims) 0
+      → theirs ≡ gatheredBy (l .holders) (l .weights) (l .expiries) asked owner (a .now)
       → y ≡ usesJudged (record {
         own = take (own .count) (own .places);
         theirs = take (theirs .count) (theirs .places);
-        owned = owned;
-        rights = rights;
-        spots = spots;
-        bytes = paths .bytes;
-        lens = paths .lens;
-        publics = publics;
-        ids = ids;
-        parents = parents;
-        count = r .claims .count;
-      }) reports (r .resources .count) a vs
-      → y ≡ usesJudged (sightOf r (a .now) (a .actor)) (map resourceId (r .resources .list)) (r .resources .count) a vs
-  seen of-owner of-owned of-reports of-publics of-paths of-rights of-spots of-ids of-parents of-own of-theirs judged =
+        owned = machine && not (eqb owner 0);
+        rights = l .rights;
+        spots = l .spots;
+        bytes = l .bytes;
+        lens = l .lens;
+        publics = l .publics;
+        ids = l .ids;
+        parents = l .parents;
+        count = l .claims;
+      }) (l .reports) (l .resources) a vs
+      → y ≡ judgedBy l a
+  unfolding judgedBy
+  judged-lent of-machine of-owner of-violations of-own of-asked of-theirs judged =
       judged
       ∙ rw (
+        of-violations,
         of-own,
         of-theirs,
+        of-asked,
+        of-machine,
         of-owner,
-        of-owned,
-        of-rights,
-        of-spots,
-        of-reports,
-        of-paths,
-        of-publics,
-        of-ids,
-        of-parents,
-        gathered-first (r .claims) (a .actor) (a .now),
-        gathered-first (r .claims) (ownerIn r (a .actor)) (a .now),
+        gathered-first (l .holders) (l .weights) (l .expiries) (l .claims) (a .actor) (a .now),
+        gathered-first (l .holders) (l .weights) (l .expiries) (cond (ownedBy l (a .actor)) (l .claims) 0) (ownerBy l (a .actor)) (a .now),
       )

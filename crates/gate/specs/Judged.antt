@@ -1,32 +1,125 @@
 -- Working definitions: an action judged by the columns of a register. What it is in 01's words is `judged-natural` of Laws.
-use mathlib.Core.Bool.{_&&_, cond}
+use mathlib.Core.Bool.{Bool, not, _&&_, cond}
 use mathlib.Core.List.{List, [], _∷_, _++_, map}
+use Prim.Native.Nat.{ℕ}
 use lib.Dec.{eqb}
-use Rattle.register.specs.Register.{emptyRegister}
-use Rattle.register.specs.declared.Actors.{Actors}
+use lib.ListN.{take}
+use Rattle.lists.specs.Lists.{any}
+use Rattle.register.specs.Limits.{machineKind, resourceLimit}
 use Rattle.register.specs.declared.Register.{Register}
-use Rattle.columns.specs.Columns.{resourceId}
-use Rattle.actions.specs.Actions.{governsOf}
+use Rattle.columns.specs.Columns.{resourceId, actorColumns, resourceColumns, claimColumns, latestPlace, beside}
+use Rattle.changes.specs.Refusals.{Test}
+use Rattle.changes.specs.declared.Refusal.the-variants.{OutOfRange, Unknown}
+use Rattle.actions.specs.Actions.{governsOf, actionFits}
 use Rattle.actions.specs.declared.Action.{Action}
 use Rattle.actions.specs.declared.Violation.{Violation}
 use Rattle.actions.specs.declared.Violation.the-variants.{NoOwner}
 use Rattle.verdicts.specs.Gate.{isMachine, flagsSet, governed, listed}
 use Rattle.violations.specs.Pushed.{pushedAll}
-use Rattle.sights.specs.Sights.{ownerIn, sightOf}
+use Rattle.flat_paths.specs.Laid.{laid}
+use Rattle.gathering.specs.Gathering.{heldPlaces}
+use Rattle.use_judging.specs.Uses.{Sight}
+use Rattle.sights.specs.Sights.{ownerAt, ownerIn, spotsOf, sightOf}
 use Rattle.uses_judging.specs.Judging.{usesJudged}
 use Rattle.uses_judging.specs.declared.UsesJudged.{UsesJudged}
+use Rattle.gate.specs.declared.View.{View}
 
--- a register with these actors: tests 2 and 3 look at nothing else
-abbrev pub acting : Actors → Register
-acting k = record { actors = k; resources = emptyRegister .resources; claims = emptyRegister .claims }
-
--- the violations besides those of the uses, in 01's order
-abbrev pub besides : Register → Action → List Violation
-besides r a =
-    flagsSet (a .flags)
-    ++ (cond (isMachine r (a .actor) && eqb (ownerIn r (a .actor)) 0) (NoOwner (a .actor) ∷ []) [] ++ cond (isMachine r (a .actor)) (governed 0 (governsOf a)) [])
+-- the violations besides those of the uses, in 01's order, of an actor that is a machine or not and has this owner or none
+abbrev pub besides : Bool → ℕ → Action → List Violation
+besides machine owner a =
+    flagsSet (a .flags) ++ (cond (machine && eqb owner 0) (NoOwner (a .actor) ∷ []) [] ++ cond machine (governed 0 (governsOf a)) [])
 
 -- the violations and the hop counts of an action
 abbrev pub actionJudged : Register → Action → UsesJudged
 actionJudged r a =
-    usesJudged (sightOf r (a .now) (a .actor)) (map resourceId (r .resources .list)) (r .resources .count) a (pushedAll (listed []) (besides r a))
+    usesJudged (sightOf r (a .now) (a .actor)) (map resourceId (r .resources .list)) (r .resources .count) a
+    (pushedAll (listed []) (besides (isMachine r (a .actor)) (ownerIn r (a .actor)) a))
+
+-- what is looked at of a register, taken out of it
+abbrev pub viewOf : Register → View
+viewOf r = record {
+  actors = actorColumns (r .actors .list);
+  resources = resourceColumns (r .resources .list);
+  claims = claimColumns (r .claims .list);
+  paths = laid (r .resources);
+  spots = spotsOf r;
+}
+
+-- the columns that are lent, with the counts of the lists
+pub record Lent : Type 0 where
+  pub names : List ℕ
+  pub kinds : List ℕ
+  pub owners : List ℕ
+  pub actors : ℕ
+  pub reports : List ℕ
+  pub publics : List ℕ
+  pub resources : ℕ
+  pub bytes : List ℕ
+  pub lens : List ℕ
+  pub ids : List ℕ
+  pub parents : List ℕ
+  pub holders : List ℕ
+  pub rights : List ℕ
+  pub weights : List ℕ
+  pub expiries : List ℕ
+  pub spots : List ℕ
+  pub claims : ℕ
+
+-- those of a register's view
+abbrev pub lentOf : Register → View → Lent
+lentOf r v = record {
+  names = v .actors .ids;
+  kinds = v .actors .kinds;
+  owners = v .actors .owners;
+  actors = r .actors .count;
+  reports = v .resources .ids;
+  publics = v .resources .publics;
+  resources = r .resources .count;
+  bytes = v .paths .bytes;
+  lens = v .paths .lens;
+  ids = v .claims .ids;
+  parents = v .claims .parents;
+  holders = v .claims .holders;
+  rights = v .claims .rights;
+  weights = v .claims .weights;
+  expiries = v .claims .expiries;
+  spots = v .spots;
+  claims = r .claims .count;
+}
+
+-- tests 2 and 3, over the ids of the first n actors
+abbrev pub lentTests : List ℕ → ℕ → Action → List Test
+lentTests names n a =
+    record { passed = actionFits a; refusal = OutOfRange } ∷ record { passed = any (eqb (a .actor)) (take n names); refusal = Unknown } ∷ []
+
+module _ (l : Lent) where
+  -- whether x is a machine, its owner's number, and whether it is a machine with an owner
+  abbrev pub machineBy : ℕ → Bool
+  machineBy x = beside (take (l .actors) (l .names)) (take (l .actors) (l .kinds)) x machineKind
+
+  abbrev pub ownerBy : ℕ → ℕ
+  ownerBy x = ownerAt (l .owners) (latestPlace (l .names) (l .actors) x)
+
+  abbrev pub ownedBy : ℕ → Bool
+  ownedBy x = machineBy x && not (eqb (ownerBy x) 0)
+
+  -- what is seen for the actor numbered x; for an owner that is not asked no claims are gathered
+  abbrev pub sightBy : ℕ → ℕ → Sight
+  sightBy now x = record {
+    own = heldPlaces (l .holders) (l .weights) (l .expiries) (l .claims) x now;
+    theirs = heldPlaces (l .holders) (l .weights) (l .expiries) (cond (ownedBy x) (l .claims) 0) (ownerBy x) now;
+    owned = ownedBy x;
+    rights = l .rights;
+    spots = l .spots;
+    bytes = l .bytes;
+    lens = l .lens;
+    publics = l .publics;
+    ids = l .ids;
+    parents = l .parents;
+    count = l .claims;
+  }
+
+  -- an action judged by what is lent
+  unfoldable pub judgedBy : Action → UsesJudged
+  judgedBy a =
+      usesJudged (sightBy (a .now) (a .actor)) (l .reports) (l .resources) a (pushedAll (listed []) (besides (machineBy (a .actor)) (ownerBy (a .actor)) a))

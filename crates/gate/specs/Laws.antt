@@ -1,19 +1,23 @@
--- What an action judged by columns is in 01's words, and what tests 2 and 3 look at. Assumes nothing.
-use mathlib.Core.Path.{_≡_, refl, sym, ap, _∙_}
-use mathlib.Core.Bool.{true, _&&_}
+-- What an action judged by lent columns is in 01's words, and what tests 2 and 3 by them are. Assumes nothing.
+use mathlib.Core.Path.{_≡_, refl, sym, ap, _∙_, fun-ext}
+use mathlib.Core.Bool.{Bool, true, false, _&&_, cond}
 use mathlib.Core.List.{List, [], _∷_, _++_, map, append-assoc}
 use Prim.Native.Nat.{ℕ, suc}
 use native.Mathlib.Omega.{arith}
+use borrow.Author.Tests.{eq-eqb, eqb-true}
 use lib.Dec.{eqb}
 use lib.ListN.{getD, List·getD-map}
+use Rattle.lists.specs.Tests.{iff-same}
+use Rattle.lists.specs.Lists.{any}
 use Rattle.register.specs.Limits.{machineKind}
-use Rattle.register.specs.Register.{noActor}
+use Rattle.register.specs.Register.{actorsOf, noActor}
+use Rattle.register.specs.declared.Actor.{Actor}
 use Rattle.register.specs.declared.Register.{Register}
 use Rattle.rules.specs.Sound.{sound}
-use Rattle.columns.specs.Columns.{actorId, ownerOf, resourceId, latestPlace}
+use Rattle.columns.specs.Columns.{actorId, kindOf, ownerOf, resourceId, holderOf, weightOf, expiryOf, latestPlace}
+use Rattle.columns.specs.Laws.{among-natural, beside-natural}
 use Rattle.columns.specs.declared.Place.{Place}
 use Rattle.columns.specs.declared.Place.the-variants.{At, Nowhere}
-use Rattle.changes.specs.Refusals.{outcomeOf}
 use Rattle.actions.specs.Actions.{usesOf, actionFits}
 use Rattle.actions.specs.declared.Action.{Action}
 use Rattle.actions.specs.declared.Usage.{Usage}
@@ -22,11 +26,13 @@ use Rattle.verdicts.specs.Laws.{use-violations-nil, use-violations-cons}
 use Rattle.verdicts.specs.Bounds.{violations-most}
 use Rattle.violations.specs.Pushed.{pushedAll}
 use Rattle.violations.specs.Laws.{pushed-all-natural, pushed-all-append}
-use Rattle.sights.specs.Sights.{Typed, ownerAt, ownerIn, sightOf}
+use Rattle.gathering.specs.Gathering.{coverPlaces, heldPlaces}
+use Rattle.gathering.specs.Laws.{held-natural, held-none}
+use Rattle.sights.specs.Sights.{Typed, ownerAt, ownerIn, ownedIn, sightOf}
 use Rattle.rules.specs.Distinct.{askedAt}
 use Rattle.sights.specs.Laws.{use-natural, asked-actor}
 use Rattle.uses_judging.specs.Judging.{judgedIn, faultsFrom, usesJudged}
-use Rattle.gate.specs.Judged.{acting, besides, actionJudged}
+use Rattle.gate.specs.Judged.{besides, actionJudged, viewOf, lentOf, lentTests, machineBy, sightBy, judgedBy}
 
 -- a machine without owner: by its place, since ids are distinct
 ownerless-natural : (r : Register) → sound r ≡ true → (x : ℕ) → isOwnerless r x ≡ isMachine r x && eqb (ownerIn r x) 0
@@ -55,16 +61,16 @@ module _ (r : Register) (typed : Typed r) (h : sound r ≡ true) where
   hops-natural now x [] = refl
   hops-natural now x (u ∷ us) = rw (use-natural r typed h now x 0 u .1, hops-natural now x us)
 
-  all-violations : (a : Action) → besides r a ++ useViolations r (a .now) (a .actor) 0 (usesOf a) ≡ violationsOf r a
+  all-violations : (a : Action) → besides (isMachine r (a .actor)) (ownerIn r (a .actor)) a ++ useViolations r (a .now) (a .actor) 0 (usesOf a) ≡ violationsOf r a
   unfolding violationsOf
   all-violations a = rw (ownerless-natural r h (a .actor)) (simp append-assoc)
 
   judged-violations : (a : Action) → actionFits a ≡ true →
-      pushedAll (pushedAll (listed []) (besides r a)) (faultsFrom (sightOf r (a .now) (a .actor)) (map resourceId (r .resources .list)) (r .resources .count) 0 (usesOf a))
+      pushedAll (pushedAll (listed []) (besides (isMachine r (a .actor)) (ownerIn r (a .actor)) a)) (faultsFrom (sightOf r (a .now) (a .actor)) (map resourceId (r .resources .list)) (r .resources .count) 0 (usesOf a))
       ≡ listed (violationsOf r a)
   judged-violations a fits =
-      ap (pushedAll (pushedAll (listed []) (besides r a))) (faults-natural (a .now) (a .actor) 0 (usesOf a))
-      ∙ sym (pushed-all-append (listed []) (besides r a) (useViolations r (a .now) (a .actor) 0 (usesOf a)))
+      ap (pushedAll (pushedAll (listed []) (besides (isMachine r (a .actor)) (ownerIn r (a .actor)) a))) (faults-natural (a .now) (a .actor) 0 (usesOf a))
+      ∙ sym (pushed-all-append (listed []) (besides (isMachine r (a .actor)) (ownerIn r (a .actor)) a) (useViolations r (a .now) (a .actor) 0 (usesOf a)))
       ∙ ap (pushedAll (listed [])) (all-violations a)
       ∙ pushed-all-natural [] (violationsOf r a) (omega (arith, violations-most r a fits))
 
@@ -74,7 +80,42 @@ module _ (r : Register) (typed : Typed r) (h : sound r ≡ true) where
   unfolding usesJudged
   judged-natural a fits = rw (judged-violations a fits, hops-natural (a .now) (a .actor) (usesOf a))
 
--- tests 2 and 3 look at the actors alone
-pub acting-alone : (r : Register) (a : Action) → outcomeOf (actionTests (acting (r .actors)) a) ≡ outcomeOf (actionTests r a)
-unfolding actionTests
-acting-alone r a = refl
+-- ---- what is lent of a register's view
+
+turned : (a b : ℕ) → eqb a b ≡ eqb b a
+turned a b = iff-same (eqb a b) (eqb b a) (λ t. eq-eqb b a (sym (eqb-true a b t))) (λ t. eq-eqb a b (sym (eqb-true b a t)))
+
+module _ (r : Register) where
+  -- tests 2 and 3 by the ids of the actors
+  pub tests-natural : (a : Action) → lentTests (viewOf r .actors .ids) (r .actors .count) a ≡ actionTests r a
+  unfolding actionTests
+  tests-natural a = rw (among-natural actorId (a .actor) (r .actors .count) (r .actors .list))
+
+  -- a machine, by the columns of ids and kinds
+  machine-natural : (x : ℕ) → machineBy (lentOf r (viewOf r)) x ≡ isMachine r x
+  unfolding isMachine
+  machine-natural x =
+      beside-natural actorId kindOf x machineKind (r .actors .count) (r .actors .list)
+      ∙ ap (λ p. any p (actorsOf (r .actors))) (fun-ext (λ (a : Actor). ap (λ b. eqb x (a .id) && b) (turned machineKind (a .kind))))
+
+  module _ (typed : Typed r) where
+    -- the claims gathered for an owner that is asked or not
+    theirs-natural : (owned : Bool) (x now : ℕ)
+        → heldPlaces (map holderOf (r .claims .list)) (map weightOf (r .claims .list)) (map expiryOf (r .claims .list)) (cond owned (r .claims .count) 0) x now
+        ≡ cond owned (coverPlaces (r .claims) x now) []
+    theirs-natural true x now = held-natural (r .claims) x now (typed .claimsLong)
+    theirs-natural false x now =
+        held-none (map holderOf (r .claims .list)) (map weightOf (r .claims .list)) (map expiryOf (r .claims .list)) x now
+
+    sight-natural : (now x : ℕ) → sightBy (lentOf r (viewOf r)) now x ≡ sightOf r now x
+    sight-natural now x =
+        rw (
+          machine-natural x,
+          held-natural (r .claims) x now (typed .claimsLong),
+          theirs-natural (ownedIn r x) (ownerIn r x) now,
+        )
+
+    -- an action judged by what is lent of a register's view is judged by the register
+    pub view-natural : (a : Action) → judgedBy (lentOf r (viewOf r)) a ≡ actionJudged r a
+    unfolding judgedBy
+    view-natural a = rw (sight-natural (a .now) (a .actor), machine-natural (a .actor))

@@ -1,20 +1,19 @@
-// The gate for one action: tests 1, 2 and 3, then every violation in 01's order, and a hop count for each use. The claims that can cover
-// are gathered once, for the actor and for its owner; no part of the register is copied for a use.
+// The gate for one action: tests 1, 2 and 3, then every violation in 01's order, and a hop count for each use. What is looked at is taken out
+// of the register once, as columns (`view_of`), and lent: no part of the register is copied for an action or a use. The claims that can cover
+// are gathered once for an action, for the actor and for the owner of a machine.
 ghost use mathlib.Core.Path.{_≡_};
-ghost use mathlib.Core.Bool.{not, _&&_, cond};
+ghost use mathlib.Core.Bool.{cond};
 ghost use mathlib.Core.List.{[], _∷_, _++_, map};
 ghost use lib.Dec.{eqb};
-ghost use lib.ListN.{length, take};
+ghost use lib.ListN.{length};
 ghost use Rattle.lists.specs.Each.{All};
-ghost use Rattle.register.specs.Limits.{machineKind, pathLimit};
-ghost use Rattle.actions.specs.Actions.{governsOf};
-ghost use Rattle.columns.specs.Columns.{actorId, kindOf, ownerOf, resourceId, latestPlace, beside};
+ghost use Rattle.register.specs.Limits.{pathLimit};
+ghost use Rattle.columns.specs.Columns.{latestPlace};
 ghost use Rattle.changes.specs.Refusals.{outcomeOf};
-ghost use Rattle.verdicts.specs.Gate.{flagsSet, governed, listed, padded, isMachine, actionTests, gated};
+ghost use Rattle.verdicts.specs.Gate.{listed, padded, gated};
 ghost use Rattle.violations.specs.Pushed.{pushedAll};
-ghost use Rattle.sights.specs.Sights.{ownerAt, ownerIn, sightOf};
-ghost use Rattle.uses_judging.specs.Judging.{usesJudged};
-ghost use Rattle.gate.specs.Judged.{acting, actionJudged};
+ghost use Rattle.sights.specs.Sights.{ownerAt};
+ghost use Rattle.gate.specs.Judged.{viewOf, lentTests, besides, judgedBy};
 use actions::Action;
 use actions::Decision;
 use actions::Verdict;
@@ -22,37 +21,65 @@ use actions::Violation;
 use actions::Violations;
 use changes::Outcome;
 use changes::Refusal;
+use columns::ActorColumns;
+use columns::ClaimColumns;
 use columns::Place;
+use columns::ResourceColumns;
+use flat_paths::Paths;
 use register::Actor;
-use register::Actors;
 use register::Register;
 use uses_judging::UsesJudged;
 
-// The owner's number of the actor numbered `x`, 0 for none.
-fn owner_of(k: Actors, x: u32) -> u32
-    ensures { λ r. ⌜ r ≡ ownerAt (map ownerOf (k .list)) (latestPlace (map actorId (k .list)) (k .count) x) ⌝ }
+// What the gate looks at of a register: the columns of its lists, the paths, and the place of each claim's resource, 64 for none.
+pub struct View {
+    pub actors: ActorColumns,
+    pub resources: ResourceColumns,
+    pub claims: ClaimColumns,
+    pub paths: Paths,
+    pub spots: [usize; Register::CLAIMS],
+}
+
+pub fn view_of(r: Register) -> View
+    ensures viewed { λ v. ⌜ v ≡ viewOf r ⌝ }
+    ensures sized { λ _. ⌜ All (λ o. length (o .path) ≡ pathLimit) (r .resources .list) ⌝ }
 {
-    let ids = columns::actor_ids(k);
-    let owners = columns::owners(k);
-    let place = columns::latest_place(&ids, k.count, x);
+    let a = r.actors;
+    let o = r.resources;
+    let c = r.claims;
+    let actors = columns::actor_columns(a);
+    let resources = columns::resource_columns(o);
+    let claims = columns::claim_columns(c);
+    let paths = flat_paths::lay(o);
+    let spots = finding::places_of(
+        &resources.ids,
+        o.count,
+        &claims.claimed,
+        c.count,
+        Register::RESOURCES,
+    );
+    View {
+        actors,
+        resources,
+        claims,
+        paths,
+        spots,
+    }
+}
+
+// The owner's number of the actor numbered `x` among the first `n`, 0 for none.
+fn owner_of<'a>(names: &'a [u32], owners: &'a [u32], n: usize, x: u32) -> u32
+    ensures { λ r. ⌜ r ≡ ownerAt (now (owners .entry)) (latestPlace (now (names .entry)) n x) ⌝ }
+{
+    let place = columns::latest_place(names, n, x);
     match place {
-        Place::At(j) => columns::number_at(&owners, j),
+        Place::At(j) => columns::number_at(owners, j),
         Place::Nowhere => 0,
     }
 }
 
-// Whether `x` is a machine.
-fn is_machine(k: Actors, x: u32) -> bool
-    ensures { λ r. ⌜ r ≡ beside (take (k .count) (map actorId (k .list))) (take (k .count) (map kindOf (k .list))) x machineKind ⌝ }
-{
-    let ids = columns::actor_ids(k);
-    let kinds = columns::kinds(k);
-    columns::is_beside(&ids, &kinds, k.count, x, Actor::MACHINE)
-}
-
 // The violations of an action besides those of its uses.
 fn first_violations(a: Action, machine: bool, owner: u32) -> Violations
-    ensures { λ r. ⌜ r ≡ pushedAll (listed []) (flagsSet (a .flags) ++ (cond (machine && eqb owner 0) (Violation.NoOwner (a .actor) ∷ []) [] ++ cond machine (governed 0 (governsOf a)) [])) ⌝ }
+    ensures { λ r. ⌜ r ≡ pushedAll (listed []) (besides machine owner a) ⌝ }
 {
     let flagged = violations::push_flags(violations::none(), a.flags);
     if machine {
@@ -65,57 +92,74 @@ fn first_violations(a: Action, machine: bool, owner: u32) -> Violations
     flagged
 }
 
-// The uses judged by the register's columns.
-fn judge(r: Register, a: Action, owner: u32, owned: bool, vs: Violations) -> UsesJudged
-    requires { ⌜ (owner ≡ ownerIn r (a .actor)) × (owned ≡ (isMachine r (a .actor) && not (eqb (ownerIn r (a .actor)) 0))) ⌝ }
-    ensures judged { λ y. ⌜ y ≡ usesJudged (sightOf r (a .now) (a .actor)) (map resourceId (r .resources .list)) (r .resources .count) a vs ⌝ }
-    ensures sized { λ _. ⌜ All (λ o. length (o .path) ≡ pathLimit) (r .resources .list) ⌝ }
+// How many claims are looked through for the owner: none where there is no owner to ask.
+fn asked_for(owned: bool, n: usize) -> usize
+    ensures { λ r. ⌜ r ≡ cond owned n 0 ⌝ }
 {
-    let o = r.resources;
-    let k = r.claims;
-    let reports = columns::resource_ids(o);
-    let publics = use_judging::publics(o);
-    let laid = flat_paths::lay(o);
-    let bytes = laid.bytes;
-    let lens = laid.lens;
-    let rights = columns::rights(k);
-    let spots = gathering::spots(k, &reports, o.count);
-    let ids = columns::claim_ids(k);
-    let parents = columns::parents(k);
-    let own = gathering::gather(k, a.actor, a.now);
-    let theirs = gathering::gather(k, owner, a.now);
-    let own_places = own.places;
-    let their_places = theirs.places;
+    if owned { n } else { 0 }
+}
+
+// An action judged by lent columns of `actors` actors, `resources` resources and `claims` claims: its violations in 01's order and the hop
+// count of each use. By the columns of a sound register, and where the action is in range, these are the gate's (`view-natural` and
+// `judged-natural` of specs/Laws); the tests are the caller's.
+pub fn judge_by<'a>(
+    names: &'a [u32],
+    kinds: &'a [u32],
+    owners: &'a [u32],
+    actors: usize,
+    reports: &'a [u32],
+    publics: &'a [u32],
+    resources: usize,
+    bytes: &'a [u8],
+    lens: &'a [usize],
+    ids: &'a [u32],
+    parents: &'a [u32],
+    holders: &'a [u32],
+    rights: &'a [u32],
+    weights: &'a [u32],
+    expiries: &'a [u64],
+    spots: &'a [usize],
+    claims: usize,
+    a: Action,
+) -> UsesJudged
+    ensures { λ y. ⌜ y ≡ judgedBy (record { names = now (names .entry); kinds = now (kinds .entry); owners = now (owners .entry); actors = actors; reports = now (reports .entry); publics = now (publics .entry); resources = resources; bytes = now (bytes .entry); lens = now (lens .entry); ids = now (ids .entry); parents = now (parents .entry); holders = now (holders .entry); rights = now (rights .entry); weights = now (weights .entry); expiries = now (expiries .entry); spots = now (spots .entry); claims = claims }) a ⌝ }
+{
+    let machine = columns::is_beside(names, kinds, actors, a.actor, Actor::MACHINE);
+    let owner = owner_of(names, owners, actors, a.actor);
+    let owned = machine & (owner != 0);
+    let vs = first_violations(a, machine, owner);
+    let own = gathering::gather(holders, weights, expiries, claims, a.actor, a.now);
+    let asked = asked_for(owned, claims);
+    let theirs = gathering::gather(holders, weights, expiries, asked, owner, a.now);
     uses_judging::judge_uses(
         a,
         vs,
-        &own_places,
+        &own.places,
         own.count,
-        &their_places,
+        &theirs.places,
         theirs.count,
         owned,
-        &rights,
-        &spots,
-        &bytes,
-        &lens,
-        &publics,
-        &reports,
-        o.count,
-        &ids,
-        &parents,
-        k.count,
+        rights,
+        spots,
+        bytes,
+        lens,
+        publics,
+        reports,
+        resources,
+        ids,
+        parents,
+        claims,
     )
 }
 
-// Tests 2 and 3, of the action.
-pub fn action_outcome(k: Actors, a: Action) -> Outcome
-    ensures { λ y. ⌜ y ≡ outcomeOf (actionTests (acting k) a) ⌝ }
+// Tests 2 and 3, of the action, over the ids of the first `n` actors.
+pub fn action_outcome(names: &[u32], n: usize, a: Action) -> Outcome
+    ensures { λ y. ⌜ y ≡ outcomeOf (lentTests (now (names .entry)) n a) ⌝ }
 {
     if !action_ranges::action_fits(a) {
         return Outcome::Refused(Refusal::OutOfRange);
     }
-    let ids = columns::actor_ids(k);
-    if !columns::is_among(&ids, k.count, a.actor) {
+    if !columns::is_among(names, n, a.actor) {
         return Outcome::Refused(Refusal::Unknown);
     }
     Outcome::Accepted
@@ -154,19 +198,6 @@ fn decided(judged: UsesJudged) -> Verdict
     }
 }
 
-// An action judged: its violations in 01's order and the hop count of each use. Where the register is sound and the action in range these are
-// the gate's (`judged-natural` of specs/Laws); the tests are the caller's.
-pub fn judge_action(r: Register, a: Action) -> UsesJudged
-    ensures judged { λ y. ⌜ y ≡ actionJudged r a ⌝ }
-    ensures sized { λ _. ⌜ All (λ o. length (o .path) ≡ pathLimit) (r .resources .list) ⌝ }
-{
-    let actors = r.actors;
-    let machine = is_machine(actors, a.actor);
-    let owner = owner_of(actors, a.actor);
-    let vs = first_violations(a, machine, owner);
-    judge(r, a, owner, machine & (owner != 0), vs)
-}
-
 // The gate.
 pub fn gate(r: Register, a: Action) -> Verdict
     ensures { λ v. ⌜ v ≡ gated r a ⌝ }
@@ -174,12 +205,31 @@ pub fn gate(r: Register, a: Action) -> Verdict
     if !soundness::is_sound(r) {
         return stopped(Refusal::Unsound);
     }
-    let actors = r.actors;
-    let outcome = action_outcome(actors, a);
+    let v = view_of(r);
+    let outcome = action_outcome(&v.actors.ids, r.actors.count, a);
     match outcome {
         Outcome::Refused(why) => stopped(why),
         Outcome::Accepted => {
-            let judged = judge_action(r, a);
+            let judged = judge_by(
+                &v.actors.ids,
+                &v.actors.kinds,
+                &v.actors.owners,
+                r.actors.count,
+                &v.resources.ids,
+                &v.resources.publics,
+                r.resources.count,
+                &v.paths.bytes,
+                &v.paths.lens,
+                &v.claims.ids,
+                &v.claims.parents,
+                &v.claims.holders,
+                &v.claims.rights,
+                &v.claims.weights,
+                &v.claims.expiries,
+                &v.spots,
+                r.claims.count,
+                a,
+            );
             decided(judged)
         }
     }

@@ -1,13 +1,12 @@
 -- What stops a plan: a loop over its actions, the tests before it, and what the code holds of the answer. Assumes nothing.
 use mathlib.Core.Path.{_≡_, refl, sym, ap, _∙_}
 use mathlib.Core.Bool.{true, false}
-use mathlib.Core.List.{List, [], _∷_}
-use Prim.Native.Nat.{ℕ, suc, _+_, _≤_, _<_, min}
+use mathlib.Core.List.{List}
+use Prim.Native.Nat.{ℕ, _+_, _≤_, _<_, min}
 use native.Mathlib.Numerals.{add-one}
 use borrow.Author.Tests.{le-leb, lt-leb}
 use lib.ListN.{length, drop, getD}
 use Rattle.lists.specs.Loops.{Loop, start, turn, next, done}
-use Rattle.register.specs.declared.Actors.{Actors}
 use Rattle.register.specs.declared.Register.{Register}
 use Rattle.rules.specs.Sound.{sound}
 use Rattle.changes.specs.Refusals.{outcomeOf}
@@ -19,61 +18,68 @@ use Rattle.changes.specs.declared.Refusal.the-variants.{Unsound, OutOfRange}
 use Rattle.actions.specs.Actions.{actionLimit}
 use Rattle.actions.specs.declared.Action.{Action}
 use Rattle.actions.specs.declared.Plan.{Plan}
-use Rattle.verdicts.specs.Gate.{actionTests}
 use Rattle.verdicts.specs.Plans.{actionsOf, Halt, runs, halts, firstHalt, haltOf, stopped, planned}
-use Rattle.verdicts.specs.Cancelling.{first-halt-nil, first-halt-pass, first-halt-fail, planned-stopped}
-use Rattle.gate.specs.Judged.{acting}
-use Rattle.gate.specs.Laws.{acting-alone}
-use Rattle.plans.specs.Stops.{stopOf}
+use Rattle.verdicts.specs.Cancelling.{planned-stopped}
+use Rattle.gate.specs.Judged.{viewOf, lentTests}
+use Rattle.gate.specs.declared.View.{View}
+use Rattle.plans.specs.Stops.{stopOf, haltBy}
+use Rattle.plans.specs.Laws.{halt-by-nil, halt-by-pass, halt-by-fail, halt-natural}
 use Rattle.plans.specs.declared.Stop.{Stop}
 
 -- of the actions, of which there are top, the loop has come to place i: none before it stops the plan
-pub record Stopping (k : Actors) (p : Plan) (top i : ℕ) : Type 0 where
-  pub come : Loop (firstHalt (acting k)) (p .count) (p .actions) top i (firstHalt (acting k) 0 (actionsOf p))
+pub record Stopping (names : List ℕ) (n : ℕ) (p : Plan) (top i : ℕ) : Type 0 where
+  pub come : Loop (haltBy names n) (p .count) (p .actions) top i (haltBy names n 0 (actionsOf p))
 
-module _ {k : Actors} {p : Plan} {top : ℕ} where
-  pub stopping-start : length (p .actions) ≡ actionLimit → top ≡ min (p .count) actionLimit → Stopping k p top 0
+module _ {names : List ℕ} {n : ℕ} {p : Plan} {top : ℕ} where
+  pub stopping-start : length (p .actions) ≡ actionLimit → top ≡ min (p .count) actionLimit → Stopping names n p top 0
   stopping-start long h = record { come = start (rw long h) refl }
 
-  module _ {i : ℕ} (s : Stopping k p top i) where
-    module _ (d : Action) (h : i < top) {outcome : Outcome} (asked : outcome ≡ outcomeOf (actionTests (acting k) (getD (p .actions) i d))) where
+  module _ {i : ℕ} (s : Stopping names n p top i) where
+    module _ (d : Action) (h : i < top) {outcome : Outcome} (asked : outcome ≡ outcomeOf (lentTests names n (getD (p .actions) i d))) where
       -- the action there stops the plan
       pub stopping-here : {why : Refusal} → outcome ≡ Refused why
-          → _≡_ {A = Stop} (record { outcome = Refused why; position = i }) (stopOf (firstHalt (acting k) 0 (actionsOf p)))
+          → _≡_ {A = Stop} (record { outcome = Refused why; position = i }) (stopOf (haltBy names n 0 (actionsOf p)))
       stopping-here {why = why} e =
-          sym (ap stopOf (turn (s .come) d h ∙ first-halt-fail (acting k) i (getD (p .actions) i d) (drop (i + 1) (actionsOf p)) why (sym asked ∙ e)))
+          sym (ap stopOf (turn (s .come) d h ∙ halt-by-fail names n i (getD (p .actions) i d) (drop (i + 1) (actionsOf p)) why (sym asked ∙ e)))
 
-      pub stopping-next : outcome ≡ Accepted → Stopping k p top (i + 1)
+      pub stopping-next : outcome ≡ Accepted → Stopping names n p top (i + 1)
       stopping-next e =
           record {
             come = next (s .come) h
-                (turn (s .come) d h ∙ first-halt-pass (acting k) i (getD (p .actions) i d) (drop (i + 1) (actionsOf p)) (sym asked ∙ e) ∙ rw add-one);
+                (turn (s .come) d h ∙ halt-by-pass names n i (getD (p .actions) i d) (drop (i + 1) (actionsOf p)) (sym asked ∙ e) ∙ rw add-one);
           }
 
     -- after the loop none stops it
-    pub stopping-done : top ≤ i → _≡_ {A = Stop} (record { outcome = Accepted; position = 0 }) (stopOf (firstHalt (acting k) 0 (actionsOf p)))
-    stopping-done h = sym (ap stopOf (done (s .come) h ∙ first-halt-nil (acting k) i))
-
--- the tests of the actions look at the actors alone
-acting-halts : (r : Register) (n : ℕ) (l : List Action) → firstHalt (acting (r .actors)) n l ≡ firstHalt r n l
-unfolding firstHalt
-acting-halts r n [] = refl
-acting-halts r n (a ∷ l) = rw (acting-alone r a, acting-halts r (suc n) l)
+    pub stopping-done : top ≤ i → _≡_ {A = Stop} (record { outcome = Accepted; position = 0 }) (stopOf (haltBy names n 0 (actionsOf p)))
+    stopping-done h = sym (ap stopOf (done (s .come) h ∙ halt-by-nil names n i))
 
 -- test 1, then 2 on the count, then the actions
 module _ (r : Register) (p : Plan) where
-  pub stop-unsound : sound r ≡ false → _≡_ {A = Stop} (record { outcome = Refused Unsound; position = 0 }) (stopOf (haltOf r p))
+  halt-unsound : sound r ≡ false → haltOf r p ≡ halts Unsound 0
   unfolding haltOf
-  stop-unsound fails = rw fails
+  halt-unsound fails = rw fails
+
+  pub stop-unsound : sound r ≡ false → stopped Unsound 0 ≡ planned r p
+  stop-unsound fails = sym (planned-stopped r p Unsound 0 (halt-unsound fails))
 
   module _ (h : sound r ≡ true) where
-    pub stop-many : actionLimit < p .count → _≡_ {A = Stop} (record { outcome = Refused OutOfRange; position = 0 }) (stopOf (haltOf r p))
+    halt-many : actionLimit < p .count → haltOf r p ≡ halts OutOfRange 0
     unfolding haltOf
-    stop-many many = rw (h, lt-leb (p .count) actionLimit many)
+    halt-many many = rw (h, lt-leb (p .count) actionLimit many)
 
-    pub stop-actions : p .count ≤ actionLimit → stopOf (firstHalt (acting (r .actors)) 0 (actionsOf p)) ≡ stopOf (haltOf r p)
+    pub stop-many : actionLimit < p .count → stopped OutOfRange 0 ≡ planned r p
+    stop-many many = sym (planned-stopped r p OutOfRange 0 (halt-many many))
+
+    halt-actions : p .count ≤ actionLimit → haltOf r p ≡ firstHalt r 0 (actionsOf p)
     unfolding haltOf
-    stop-actions few = rw (h, le-leb (p .count) actionLimit few, acting-halts r 0 (actionsOf p))
+    halt-actions few = rw (h, le-leb (p .count) actionLimit few)
+
+    -- what is found by the view of the register stops the plan
+    pub stop-found : p .count ≤ actionLimit → {v : View} → v ≡ viewOf r → {stop : Stop}
+        → stop ≡ stopOf (haltBy (v .actors .ids) (r .actors .count) 0 (actionsOf p)) → stop ≡ stopOf (haltOf r p)
+    stop-found few viewed found =
+        found ∙ ap (λ w. stopOf (haltBy (w .actors .ids) (r .actors .count) 0 (actionsOf p))) viewed
+        ∙ ap stopOf (halt-natural r 0 (actionsOf p) ∙ sym (halt-actions few))
 
 -- what the code holds tells what stops a plan
 stop-runs : (h : Halt) → stopOf h .outcome ≡ Accepted → h ≡ runs

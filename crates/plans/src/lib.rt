@@ -1,15 +1,14 @@
 // The gate for a plan of up to 16 actions, in order. Refused with 1 where the register is not sound and then with 2 where the count is above
 // 16, both with position 0; then the first action with 2 or 3 stops the whole plan and is named by its position from 0, a cancelled one too.
 // A stopped plan has no verdicts. Otherwise each action has one: every action after the first with a flag set is cancelled, and any other is
-// permitted, or refused with its number of violations. Soundness is judged once for the whole plan.
+// permitted, or refused with its number of violations. Soundness is judged and the register's columns are taken out of it
+// once for the whole plan; they are lent to each action.
 ghost use mathlib.Core.Path.{_≡_};
-ghost use mathlib.Core.Bool.{true, false, cond};
-ghost use Rattle.rules.specs.Sound.{sound};
-ghost use Rattle.actions.specs.Actions.{actionFits};
-ghost use Rattle.verdicts.specs.Gate.{violationsOf};
-ghost use Rattle.verdicts.specs.Plans.{actionsOf, judged, judgements, runs, firstHalt, haltOf, held, stopped, planned};
-ghost use Rattle.gate.specs.Judged.{acting};
-ghost use Rattle.plans.specs.Stops.{stopOf};
+ghost use mathlib.Core.Bool.{false, cond};
+ghost use Rattle.verdicts.specs.Plans.{actionsOf, held, stopped, planned};
+ghost use Rattle.gate.specs.Judged.{judgedBy};
+ghost use Rattle.plans.specs.Stops.{stopOf, haltBy};
+ghost use Rattle.plans.specs.Judgements.{judgedAs, judgementsBy};
 use actions::Action;
 use actions::Judged;
 use actions::Judgement;
@@ -17,7 +16,6 @@ use actions::Plan;
 use actions::PlanVerdict;
 use changes::Outcome;
 use changes::Refusal;
-use register::Actors;
 use register::Register;
 
 // What stops a plan, and at which position; accepted, with position 0, where nothing does.
@@ -26,15 +24,15 @@ struct Stop {
     position: usize,
 }
 
-// The first action with 2 or 3.
-fn first_stop(k: Actors, p: Plan) -> Stop
-    ensures { λ s. ⌜ s ≡ stopOf (firstHalt (acting k) 0 (actionsOf p)) ⌝ }
+// The first action with 2 or 3, by the ids of the first `n` actors.
+fn first_stop(names: &[u32], n: usize, p: Plan) -> Stop
+    ensures { λ s. ⌜ s ≡ stopOf (haltBy (now (names .entry)) n 0 (actionsOf p)) ⌝ }
 {
     let top = columns::least(p.count, Plan::ACTIONS);
     let mut i: usize = 0;
     while i < top {
         let a = p.actions[i];
-        let outcome = gate::action_outcome(k, a);
+        let outcome = gate::action_outcome(names, n, a);
         match outcome {
             Outcome::Refused(why) => {
                 return Stop {
@@ -53,26 +51,6 @@ fn first_stop(k: Actors, p: Plan) -> Stop
     }
 }
 
-// Test 1, then 2 on the count, then the actions.
-fn find_stop(r: Register, p: Plan) -> Stop
-    ensures { λ s. ⌜ s ≡ stopOf (haltOf r p) ⌝ }
-{
-    if !soundness::is_sound(r) {
-        return Stop {
-            outcome: Outcome::Refused(Refusal::Unsound),
-            position: 0,
-        };
-    }
-    if Plan::ACTIONS < p.count {
-        return Stop {
-            outcome: Outcome::Refused(Refusal::OutOfRange),
-            position: 0,
-        };
-    }
-    let actors = r.actors;
-    first_stop(actors, p)
-}
-
 // A stopped plan: no verdicts.
 fn stopped(why: Refusal, position: usize) -> PlanVerdict
     ensures { λ v. ⌜ v ≡ stopped why position ⌝ }
@@ -89,26 +67,82 @@ fn stopped(why: Refusal, position: usize) -> PlanVerdict
     }
 }
 
-// The verdict on an action whose tests are passed.
-fn judge(r: Register, a: Action, cancelled: bool) -> Judgement
-    requires { ⌜ (sound r ≡ true) × (actionFits a ≡ true) ⌝ }
-    ensures { λ v. ⌜ v ≡ cond cancelled Judgement.Cancelled (judged (violationsOf r a)) ⌝ }
+// The verdict on an action, by lent columns.
+fn judge<'a>(
+    names: &'a [u32],
+    kinds: &'a [u32],
+    owners: &'a [u32],
+    actors: usize,
+    reports: &'a [u32],
+    publics: &'a [u32],
+    resources: usize,
+    bytes: &'a [u8],
+    lens: &'a [usize],
+    ids: &'a [u32],
+    parents: &'a [u32],
+    holders: &'a [u32],
+    rights: &'a [u32],
+    weights: &'a [u32],
+    expiries: &'a [u64],
+    spots: &'a [usize],
+    claims: usize,
+    a: Action,
+    cancelled: bool,
+) -> Judgement
+    ensures { λ v. ⌜ v ≡ cond cancelled Judgement.Cancelled (judgedAs (judgedBy (record { names = now (names .entry); kinds = now (kinds .entry); owners = now (owners .entry); actors = actors; reports = now (reports .entry); publics = now (publics .entry); resources = resources; bytes = now (bytes .entry); lens = now (lens .entry); ids = now (ids .entry); parents = now (parents .entry); holders = now (holders .entry); rights = now (rights .entry); weights = now (weights .entry); expiries = now (expiries .entry); spots = now (spots .entry); claims = claims }) a .violations .count)) ⌝ }
 {
     if cancelled {
         return Judgement::Cancelled;
     }
-    let judged = gate::judge_action(r, a);
-    let violations = judged.violations;
-    if violations.count == 0 {
+    let judged = gate::judge_by(
+        names,
+        kinds,
+        owners,
+        actors,
+        reports,
+        publics,
+        resources,
+        bytes,
+        lens,
+        ids,
+        parents,
+        holders,
+        rights,
+        weights,
+        expiries,
+        spots,
+        claims,
+        a,
+    );
+    let count = judged.violations.count;
+    if count == 0 {
         return Judgement::Permitted;
     }
-    Judgement::Refused(violations.count)
+    Judgement::Refused(count)
 }
 
-// The verdicts of a plan that nothing stops.
-fn judge_all(r: Register, p: Plan) -> PlanVerdict
-    requires { ⌜ haltOf r p ≡ runs ⌝ }
-    ensures { λ v. ⌜ v ≡ held (judgements r false (actionsOf p)) ⌝ }
+// The verdicts on the actions of a plan, by lent columns.
+fn judge_all<'a>(
+    names: &'a [u32],
+    kinds: &'a [u32],
+    owners: &'a [u32],
+    actors: usize,
+    reports: &'a [u32],
+    publics: &'a [u32],
+    resources: usize,
+    bytes: &'a [u8],
+    lens: &'a [usize],
+    ids: &'a [u32],
+    parents: &'a [u32],
+    holders: &'a [u32],
+    rights: &'a [u32],
+    weights: &'a [u32],
+    expiries: &'a [u64],
+    spots: &'a [usize],
+    claims: usize,
+    p: Plan,
+) -> PlanVerdict
+    ensures { λ v. ⌜ v ≡ held (judgementsBy (record { names = now (names .entry); kinds = now (kinds .entry); owners = now (owners .entry); actors = actors; reports = now (reports .entry); publics = now (publics .entry); resources = resources; bytes = now (bytes .entry); lens = now (lens .entry); ids = now (ids .entry); parents = now (parents .entry); holders = now (holders .entry); rights = now (rights .entry); weights = now (weights .entry); expiries = now (expiries .entry); spots = now (spots .entry); claims = claims }) false (actionsOf p)) ⌝ }
 {
     let top = columns::least(p.count, Plan::ACTIONS);
     let none = Judged {
@@ -119,7 +153,27 @@ fn judge_all(r: Register, p: Plan) -> PlanVerdict
     let mut i: usize = 0;
     while i < top {
         let a = p.actions[i];
-        let what = judge(r, a, cancelled);
+        let what = judge(
+            names,
+            kinds,
+            owners,
+            actors,
+            reports,
+            publics,
+            resources,
+            bytes,
+            lens,
+            ids,
+            parents,
+            holders,
+            rights,
+            weights,
+            expiries,
+            spots,
+            claims,
+            a,
+            cancelled,
+        );
         list[i] = Judged { what };
         cancelled = cancelled | (a.flags != 0);
         i += 1;
@@ -136,10 +190,36 @@ fn judge_all(r: Register, p: Plan) -> PlanVerdict
 pub fn plan(r: Register, p: Plan) -> PlanVerdict
     ensures { λ v. ⌜ v ≡ planned r p ⌝ }
 {
-    let stop = find_stop(r, p);
+    if !soundness::is_sound(r) {
+        return stopped(Refusal::Unsound, 0);
+    }
+    if Plan::ACTIONS < p.count {
+        return stopped(Refusal::OutOfRange, 0);
+    }
+    let v = gate::view_of(r);
+    let stop = first_stop(&v.actors.ids, r.actors.count, p);
     let outcome = stop.outcome;
     match outcome {
         Outcome::Refused(why) => stopped(why, stop.position),
-        Outcome::Accepted => judge_all(r, p),
+        Outcome::Accepted => judge_all(
+            &v.actors.ids,
+            &v.actors.kinds,
+            &v.actors.owners,
+            r.actors.count,
+            &v.resources.ids,
+            &v.resources.publics,
+            r.resources.count,
+            &v.paths.bytes,
+            &v.paths.lens,
+            &v.claims.ids,
+            &v.claims.parents,
+            &v.claims.holders,
+            &v.claims.rights,
+            &v.claims.weights,
+            &v.claims.expiries,
+            &v.spots,
+            r.claims.count,
+            p,
+        ),
     }
 }

@@ -1,4 +1,4 @@
--- `gate::gate` meets its contract: a test that is not passed stops it, and past them the uses are judged by the register's own columns
+-- `gate::gate` meets its contract: a test that is not passed stops it, and past them the action is judged by the register's own columns
 -- (`Assembling`). Assumes nothing.
 use mathlib.Core.Path.{_≡_, sym, _∙_}
 use lib.ListN.{length}
@@ -7,8 +7,7 @@ use Rattle.lists.specs.Each.{All}
 use Rattle.lists.specs.Loops.{length-mapped}
 use Rattle.register.specs.Limits.{actorLimit, resourceLimit, claimLimit, pathLimit}
 use Rattle.sights.specs.Sights.{Typed}
-use Rattle.gate.specs.Laws.{acting-alone}
-use Rattle.gate.proofs.Assembling.{gate-judged, gate-unsound, gate-stopped}
+use Rattle.gate.proofs.Assembling.{outcome-seen, judged-seen, gate-judged, gate-unsound, gate-stopped}
 use borrow.Author.Needs.{needs}
 use Rattle.gate.proofs.gate.Statement.{statement}
 use Rattle.gate.proofs.gate.Tie as tie
@@ -37,6 +36,9 @@ returns c =
     let a = c .before .before .before .args in
     c .stopped .ensures ∙ gate-unsound (a .r) (a .a) (sym (c .before .before .is-sound .ensures) ∙ not-true (c .before .before .is-sound .result) (c .before .if1 .taken))
 
+view-of-requires : tie.Need-view-of-requires
+view-of-requires c κs = search needs
+
 action-outcome-requires : tie.Need-action-outcome-requires
 action-outcome-requires c κs = search needs
 
@@ -49,30 +51,34 @@ stopped-requires-2 c κs = search needs
 enum-told : tie.Need-enum-told
 enum-told c = search needs
 
-judge-action-requires : tie.Need-judge-action-requires
-judge-action-requires c κs = search needs
+judge-by-requires : tie.Need-judge-by-requires
+judge-by-requires c κs = search needs
 
 decided-requires : tie.Need-decided-requires
 decided-requires c κs = search needs
 
 returns-2 : tie.Need-returns-2
 returns-2 c =
-    let a = c .before .before .before .before .before .before .before .before .args in
-    let why = c .before .before .outcome .given .0 .0 in
+    let looking = c .before .before .before .before .before .before .before .before in
+    let asked = looking .before .before in
+    let a = asked .before .args in
     c .stopped2 .ensures
-    ∙ gate-stopped (a .r) (a .a) why
-    (sym (c .before .before .before .before .before .before .before .is-sound .ensures) ∙ not-false (c .before .before .before .before .before .before .before .is-sound .result) (c .before .before .before .before .before .before .if1 .left))
-    (sym (acting-alone (a .r) (a .a)) ∙ sym (c .before .before .before .before .action-outcome .ensures) ∙ c .before .before .outcome .given .1)
+    ∙ gate-stopped (a .r) (a .a) (c .before .before .outcome .given .0 .0)
+    (sym (asked .is-sound .ensures) ∙ not-false (asked .is-sound .result) (looking .before .if1 .left))
+    (sym (outcome-seen (a .r) (a .a) (looking .view-of .ensures .0) (c .before .before .before .before .action-outcome .ensures)) ∙ c .before .before .outcome .given .1)
 
 returns-3 : tie.Need-returns-3
 returns-3 c =
-    let s = c .before .before .before .before .before .before .before .before in
+    let told = c .before .before .before .before .before .before .before .before .before .before .before .before .before .before .before .before .before .before .before .before .before .before .before .before .before .before .before .before .before .before .before in
+    let looking = told .before .before .before .before .before .before in
+    let asked = looking .before .before in
+    let s = asked .before in
     let a = s .args in
-    let h = sym (c .before .before .before .before .before .before .before .is-sound .ensures) ∙ not-false (c .before .before .before .before .before .before .before .is-sound .result) (c .before .before .before .before .before .before .if1 .left) in
     c .decided .ensures
-    ∙ gate-judged (a .r) (typed s (c .before .judge-action .ensures .1)) h (a .a) (c .before .judge-action .result)
-    (sym (acting-alone (a .r) (a .a)) ∙ sym (c .before .before .before .before .action-outcome .ensures) ∙ c .before .before .enum-told .given .1)
-    (c .before .judge-action .ensures .0)
+    ∙ gate-judged (a .r) (typed s (looking .view-of .ensures .1))
+    (sym (asked .is-sound .ensures) ∙ not-false (asked .is-sound .result) (looking .before .if1 .left)) (a .a) (c .before .judge-by .result)
+    (sym (outcome-seen (a .r) (a .a) (looking .view-of .ensures .0) (told .before .before .action-outcome .ensures)) ∙ told .enum-told .given .1)
+    (judged-seen (a .r) (a .a) (looking .view-of .ensures .0) (typed s (looking .view-of .ensures .1)) (c .before .judge-by .ensures))
 
 pub gate-spec : {M : Type 1} → statement M
 gate-spec =
@@ -81,11 +87,12 @@ gate-spec =
     is-sound-requires
     stopped-requires
     returns
+    view-of-requires
     action-outcome-requires
     enum-known-outcome
     stopped-requires-2
     enum-told
-    judge-action-requires
+    judge-by-requires
     decided-requires
     returns-2
     returns-3)

@@ -8,10 +8,10 @@ use Rattle.plans.proofs.first_stop.Statement.{statement}
 use Rattle.plans.proofs.first_stop.Tie as tie
 
 abbrev Inv-loop : tie.InvT-loop
-Inv-loop k p top i₀ i = Stopping k p top i
+Inv-loop names n p top i₀ i = Stopping names n p top i
 
 abbrev μ-loop : tie.MeasureT-loop
-μ-loop k p top i₀ i = top - i
+μ-loop names n p top i₀ i = top - i
 
 least-requires : tie.Need-least-requires Inv-loop μ-loop
 least-requires c κs = search needs

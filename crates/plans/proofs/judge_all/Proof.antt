@@ -1,18 +1,38 @@
 -- `plans::judge_all` meets its contract. The loop's invariant: the verdicts on the actions passed are in their places, and those left follow
--- (Judging). Each action is in range, since nothing stops the plan. The measure is the number of actions left. Assumes nothing.
+-- (Judging). The measure is the number of actions left. Assumes nothing.
 use Prim.Native.Nat.{_-_}
 use Rattle.lists.specs.Loops.{length-mapped}
-use Rattle.verdicts.specs.Cancelling.{halt-runs}
-use Rattle.plans.proofs.Judging.{Judging, judging-start, judging-fits, judging-next, judging-done}
+use Rattle.plans.proofs.Judging.{Judging, judging-start, judging-next, judging-done}
 use borrow.Author.Needs.{needs}
 use Rattle.plans.proofs.judge_all.Statement.{statement}
 use Rattle.plans.proofs.judge_all.Tie as tie
 
 abbrev Inv-loop : tie.InvT-loop
-Inv-loop r p top list₀ cancelled₀ i₀ list cancelled i = Judging r p top list cancelled i
+Inv-loop names kinds owners actors reports publics resources bytes lens ids parents holders rights weights expiries spots claims p top list₀ cancelled₀ i₀ list cancelled i =
+    Judging (record {
+      names = names;
+      kinds = kinds;
+      owners = owners;
+      actors = actors;
+      reports = reports;
+      publics = publics;
+      resources = resources;
+      bytes = bytes;
+      lens = lens;
+      ids = ids;
+      parents = parents;
+      holders = holders;
+      rights = rights;
+      weights = weights;
+      expiries = expiries;
+      spots = spots;
+      claims = claims;
+    })
+    p top list cancelled i
 
 abbrev μ-loop : tie.MeasureT-loop
-μ-loop r p top list₀ cancelled₀ i₀ list cancelled i = top - i
+μ-loop names kinds owners actors reports publics resources bytes lens ids parents holders rights weights expiries spots claims p top list₀ cancelled₀ i₀ list cancelled i =
+    top - i
 
 least-requires : tie.Need-least-requires Inv-loop μ-loop
 least-requires c κs = search needs
@@ -27,9 +47,7 @@ element-copy-out-a : tie.Need-element-copy-out-a Inv-loop μ-loop
 element-copy-out-a c = search needs
 
 judge-requires : tie.Need-judge-requires Inv-loop μ-loop
-judge-requires c κs =
-    let entry = c .before .before .before .before in
-    (halt-runs (entry .args .r) (entry .args .t2) (entry .pre) .soundly, judging-fits (c .before .before .loop .inv) _ (c .before .loop-test .taken) (entry .pre))
+judge-requires c κs = search needs
 
 mul-list : tie.Need-mul-list Inv-loop μ-loop
 mul-list c = search needs
