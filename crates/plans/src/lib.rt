@@ -149,7 +149,7 @@ fn judge_all<'a>(
         what: Judgement::Permitted,
     };
     let mut list = [none; Plan::ACTIONS];
-    let mut cancelled = false;
+    let mut flagged = false;
     let mut i: usize = 0;
     while i < top {
         let a = p.actions[i];
@@ -172,10 +172,10 @@ fn judge_all<'a>(
             spots,
             claims,
             a,
-            cancelled,
+            flagged,
         );
         list[i] = Judged { what };
-        cancelled = cancelled | (a.flags != 0);
+        flagged = flagged | (a.flags != 0);
         i += 1;
     }
     PlanVerdict {

@@ -8,7 +8,7 @@ use Rattle.plans.proofs.judge_all.Statement.{statement}
 use Rattle.plans.proofs.judge_all.Tie as tie
 
 abbrev Inv-loop : tie.InvT-loop
-Inv-loop names kinds owners actors reports publics resources bytes lens ids parents holders rights weights expiries spots claims p top list₀ cancelled₀ i₀ list cancelled i =
+Inv-loop names kinds owners actors reports publics resources bytes lens ids parents holders rights weights expiries spots claims p top list₀ flagged₀ i₀ list flagged i =
     Judging (record {
       names = names;
       kinds = kinds;
@@ -28,10 +28,10 @@ Inv-loop names kinds owners actors reports publics resources bytes lens ids pare
       spots = spots;
       claims = claims;
     })
-    p top list cancelled i
+    p top list flagged i
 
 abbrev μ-loop : tie.MeasureT-loop
-μ-loop names kinds owners actors reports publics resources bytes lens ids parents holders rights weights expiries spots claims p top list₀ cancelled₀ i₀ list cancelled i =
+μ-loop names kinds owners actors reports publics resources bytes lens ids parents holders rights weights expiries spots claims p top list₀ flagged₀ i₀ list flagged i =
     top - i
 
 least-requires : tie.Need-least-requires Inv-loop μ-loop
