@@ -2,13 +2,11 @@
 // them, and copy nothing. Every call answers for every column and count: past the end of a column there is nothing, and a number
 // is 0.
 ghost use mathlib.Core.Path.{_≡_};
-ghost use mathlib.Core.List.{map};
 ghost use Prim.Native.Nat.{min};
 ghost use lib.Dec.{eqb};
 ghost use lib.ListN.{getD, take};
 ghost use Rattle.lists.specs.Lists.{any};
 ghost use Rattle.register.specs.Chain.{circling};
-ghost use Rattle.columns.specs.Columns.{actorId, kindOf, ownerOf, resourceId, keeperOf, claimId, parentOf, grantorOf, holderOf, claimedOf, rightsOf, weightOf};
 ghost use Rattle.columns.specs.Columns.{latestPlace, chainPlaces, stepsUp, beside};
 ghost use Rattle.columns.specs.Columns.{actorColumns, resourceColumns, claimColumns};
 use register::Actors;
@@ -126,150 +124,6 @@ pub fn claim_columns(k: Claims) -> ClaimColumns
         weights,
         expiries,
     }
-}
-
-pub fn actor_ids(k: Actors) -> [u32; Register::ACTORS]
-    ensures { λ r. ⌜ r ≡ map actorId (k .list) ⌝ }
-{
-    let mut column = [0u32; Register::ACTORS];
-    let mut i: usize = 0;
-    while i < Register::ACTORS {
-        column[i] = k.list[i].id;
-        i += 1;
-    }
-    column
-}
-
-pub fn kinds(k: Actors) -> [u32; Register::ACTORS]
-    ensures { λ r. ⌜ r ≡ map kindOf (k .list) ⌝ }
-{
-    let mut column = [0u32; Register::ACTORS];
-    let mut i: usize = 0;
-    while i < Register::ACTORS {
-        column[i] = k.list[i].kind;
-        i += 1;
-    }
-    column
-}
-
-pub fn owners(k: Actors) -> [u32; Register::ACTORS]
-    ensures { λ r. ⌜ r ≡ map ownerOf (k .list) ⌝ }
-{
-    let mut column = [0u32; Register::ACTORS];
-    let mut i: usize = 0;
-    while i < Register::ACTORS {
-        column[i] = k.list[i].owner;
-        i += 1;
-    }
-    column
-}
-
-pub fn resource_ids(k: Resources) -> [u32; Register::RESOURCES]
-    ensures { λ r. ⌜ r ≡ map resourceId (k .list) ⌝ }
-{
-    let mut column = [0u32; Register::RESOURCES];
-    let mut i: usize = 0;
-    while i < Register::RESOURCES {
-        column[i] = k.list[i].id;
-        i += 1;
-    }
-    column
-}
-
-pub fn keepers(k: Resources) -> [u32; Register::RESOURCES]
-    ensures { λ r. ⌜ r ≡ map keeperOf (k .list) ⌝ }
-{
-    let mut column = [0u32; Register::RESOURCES];
-    let mut i: usize = 0;
-    while i < Register::RESOURCES {
-        column[i] = k.list[i].keeper;
-        i += 1;
-    }
-    column
-}
-
-pub fn claim_ids(k: Claims) -> [u32; Register::CLAIMS]
-    ensures { λ r. ⌜ r ≡ map claimId (k .list) ⌝ }
-{
-    let mut column = [0u32; Register::CLAIMS];
-    let mut i: usize = 0;
-    while i < Register::CLAIMS {
-        column[i] = k.list[i].id;
-        i += 1;
-    }
-    column
-}
-
-pub fn parents(k: Claims) -> [u32; Register::CLAIMS]
-    ensures { λ r. ⌜ r ≡ map parentOf (k .list) ⌝ }
-{
-    let mut column = [0u32; Register::CLAIMS];
-    let mut i: usize = 0;
-    while i < Register::CLAIMS {
-        column[i] = k.list[i].parent;
-        i += 1;
-    }
-    column
-}
-
-pub fn grantors(k: Claims) -> [u32; Register::CLAIMS]
-    ensures { λ r. ⌜ r ≡ map grantorOf (k .list) ⌝ }
-{
-    let mut column = [0u32; Register::CLAIMS];
-    let mut i: usize = 0;
-    while i < Register::CLAIMS {
-        column[i] = k.list[i].grantor;
-        i += 1;
-    }
-    column
-}
-
-pub fn holders(k: Claims) -> [u32; Register::CLAIMS]
-    ensures { λ r. ⌜ r ≡ map holderOf (k .list) ⌝ }
-{
-    let mut column = [0u32; Register::CLAIMS];
-    let mut i: usize = 0;
-    while i < Register::CLAIMS {
-        column[i] = k.list[i].holder;
-        i += 1;
-    }
-    column
-}
-
-pub fn claimed(k: Claims) -> [u32; Register::CLAIMS]
-    ensures { λ r. ⌜ r ≡ map claimedOf (k .list) ⌝ }
-{
-    let mut column = [0u32; Register::CLAIMS];
-    let mut i: usize = 0;
-    while i < Register::CLAIMS {
-        column[i] = k.list[i].resource;
-        i += 1;
-    }
-    column
-}
-
-pub fn rights(k: Claims) -> [u32; Register::CLAIMS]
-    ensures { λ r. ⌜ r ≡ map rightsOf (k .list) ⌝ }
-{
-    let mut column = [0u32; Register::CLAIMS];
-    let mut i: usize = 0;
-    while i < Register::CLAIMS {
-        column[i] = k.list[i].rights;
-        i += 1;
-    }
-    column
-}
-
-pub fn weights(k: Claims) -> [u32; Register::CLAIMS]
-    ensures { λ r. ⌜ r ≡ map weightOf (k .list) ⌝ }
-{
-    let mut column = [0u32; Register::CLAIMS];
-    let mut i: usize = 0;
-    while i < Register::CLAIMS {
-        column[i] = k.list[i].weight;
-        i += 1;
-    }
-    column
 }
 
 // The lesser of two numbers.
