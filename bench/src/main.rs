@@ -44,18 +44,19 @@ fn main() -> io::Result<()> {
     }
 }
 
-/// Makes one call over and over, for a profiler to look at.
+/// Makes one call over and over, for a profiler to look at, and says how long it took at least.
 fn profile(name: &str, shape: &str, time: Duration) {
+    const BATCH: u32 = 20;
     let is_asked = |case: &cases::Case| case.name == name && report::shape_name(case.shape) == shape;
     let mut case = cases::all().into_iter().find(is_asked).expect("a case and a shape as in the tables");
     let clock = Instant::now();
     let mut calls = 0;
-    loop {
-        (0..100).for_each(&mut case.library);
-        calls += 100;
-        if clock.elapsed() >= time {
-            break;
-        }
+    let mut least = Duration::MAX;
+    while clock.elapsed() < time {
+        let batch = Instant::now();
+        (0..BATCH as usize).for_each(&mut case.library);
+        least = least.min(batch.elapsed());
+        calls += BATCH;
     }
-    println!("{calls} calls");
+    println!("{calls} calls, {} ns each at least", (least / BATCH).as_nanos());
 }
