@@ -76,14 +76,12 @@ pub fn places_of<'a>(
     ensures { λ r. ⌜ r ≡ placesOf (now (column .entry)) n (now (wanted .entry)) m none ⌝ }
 {
     let below = columns::least(n, Register::CLAIMS);
-    let t = tabulate(column, below);
-    let heads = t.heads;
-    let nexts = t.nexts;
+    let table = tabulate(column, below);
     let top = columns::least(m, columns::least(Register::CLAIMS, wanted.len()));
     let mut places = [none; Register::CLAIMS];
     let mut i: usize = 0;
     while i < top {
-        places[i] = seek(&heads, &nexts, column, below, wanted[i], none);
+        places[i] = seek(&table.heads, &table.nexts, column, below, wanted[i], none);
         i += 1;
     }
     places
@@ -99,13 +97,11 @@ pub fn earlier_places<'a>(
     ensures { λ r. ⌜ r ≡ earlierPlaces (now (column .entry)) (now (wanted .entry)) m none ⌝ }
 {
     let top = columns::least(m, columns::least(Register::CLAIMS, wanted.len()));
-    let t = tabulate(column, top);
-    let heads = t.heads;
-    let nexts = t.nexts;
+    let table = tabulate(column, top);
     let mut places = [none; Register::CLAIMS];
     let mut i: usize = 0;
     while i < top {
-        places[i] = seek(&heads, &nexts, column, i, wanted[i], none);
+        places[i] = seek(&table.heads, &table.nexts, column, i, wanted[i], none);
         i += 1;
     }
     places

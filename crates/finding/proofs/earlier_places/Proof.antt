@@ -13,10 +13,10 @@ use Rattle.finding.proofs.earlier_places.Statement.{statement}
 use Rattle.finding.proofs.earlier_places.Tie as tie
 
 abbrev Inv-loop : tie.InvT-loop
-Inv-loop column wanted m none top heads nexts places₀ i₀ places i = Filling (λ j. numberOf none (latestPlace column j (getD wanted j 0))) top none i places
+Inv-loop column wanted m none top table places₀ i₀ places i = Filling (λ j. numberOf none (latestPlace column j (getD wanted j 0))) top none i places
 
 abbrev μ-loop : tie.MeasureT-loop
-μ-loop column wanted m none top heads nexts places₀ i₀ places i = top - i
+μ-loop column wanted m none top table places₀ i₀ places i = top - i
 
 least-requires : tie.Need-least-requires Inv-loop μ-loop
 least-requires c κs = search needs
@@ -30,12 +30,6 @@ tabulate-requires c κs = search needs
 loop-holds : tie.Need-loop-holds Inv-loop μ-loop
 loop-holds c = empty (omega arith) refl
 
-slice-aggregate-seek : tie.Need-slice-aggregate-seek Inv-loop μ-loop
-slice-aggregate-seek c = search needs
-
-slice-aggregate-seek-2 : tie.Need-slice-aggregate-seek-2 Inv-loop μ-loop
-slice-aggregate-seek-2 c = search needs
-
 mul-seek : tie.Need-mul-seek Inv-loop μ-loop
 mul-seek c = search needs
 
@@ -44,7 +38,7 @@ shared-slice-read-seek c = omega arith
 
 seek-requires : tie.Need-seek-requires Inv-loop μ-loop
 seek-requires c κs =
-    let made = c .before .before .before .before .before .before .before in
+    let made = c .before .before .before .before .before .before .before .before in
     sought-below (made .tabulate .ensures) (omega arith) (omega arith)
 
 mul-places : tie.Need-mul-places Inv-loop μ-loop
@@ -60,11 +54,11 @@ loop-less : tie.Need-loop-less Inv-loop μ-loop
 loop-less c = omega arith
 
 loop-again : tie.Need-loop-again Inv-loop μ-loop
-loop-again c = fill (c .before .before .before .before .before .loop .inv) (c .seek .result) (c .before .before .before .before .loop-test .taken) (c .seek .ensures)
+loop-again c = fill (c .before .before .before .before .before .before .before .before .loop .inv) (c .seek .result) (c .before .before .before .before .before .before .before .loop-test .taken) (c .seek .ensures)
 
 returns : tie.Need-returns Inv-loop μ-loop
 unfolding earlierPlaces
-returns c = full (c .before .loop .inv) (c .loop-test .left) ∙ rw (c .before .before .before .before .before .least2 .ensures, c .before .before .before .before .before .before .least .ensures)
+returns c = full (c .before .loop .inv) (c .loop-test .left) ∙ rw (c .before .before .before .least2 .ensures, c .before .before .before .before .least .ensures)
 
 pub earlier-places-spec : {M : Type 1} → statement M
 earlier-places-spec =
@@ -76,8 +70,6 @@ earlier-places-spec =
     least-requires-2
     tabulate-requires
     loop-holds
-    slice-aggregate-seek
-    slice-aggregate-seek-2
     mul-seek
     shared-slice-read-seek
     seek-requires

@@ -14,10 +14,10 @@ use Rattle.finding.proofs.places_of.Statement.{statement}
 use Rattle.finding.proofs.places_of.Tie as tie
 
 abbrev Inv-loop : tie.InvT-loop
-Inv-loop column n wanted m none below heads nexts top places₀ i₀ places i = Filling (λ j. numberOf none (latestPlace column (min n claimLimit) (getD wanted j 0))) top none i places
+Inv-loop column n wanted m none below table top places₀ i₀ places i = Filling (λ j. numberOf none (latestPlace column (min n claimLimit) (getD wanted j 0))) top none i places
 
 abbrev μ-loop : tie.MeasureT-loop
-μ-loop column n wanted m none below heads nexts top places₀ i₀ places i = top - i
+μ-loop column n wanted m none below table top places₀ i₀ places i = top - i
 
 least-requires : tie.Need-least-requires Inv-loop μ-loop
 least-requires c κs = search needs
@@ -34,12 +34,6 @@ tabulate-requires c κs = search needs
 loop-holds : tie.Need-loop-holds Inv-loop μ-loop
 loop-holds c = empty (omega arith) refl
 
-slice-aggregate-seek : tie.Need-slice-aggregate-seek Inv-loop μ-loop
-slice-aggregate-seek c = search needs
-
-slice-aggregate-seek-2 : tie.Need-slice-aggregate-seek-2 Inv-loop μ-loop
-slice-aggregate-seek-2 c = search needs
-
 mul-seek : tie.Need-mul-seek Inv-loop μ-loop
 mul-seek c = search needs
 
@@ -48,7 +42,7 @@ shared-slice-read-seek c = omega arith
 
 seek-requires : tie.Need-seek-requires Inv-loop μ-loop
 seek-requires c κs =
-    let made = c .before .before .before .before .before .before .before .before .before in
+    let made = c .before .before .before .before .before .before .before .before .before .before in
     sought-below (made .tabulate .ensures) (omega arith) (omega arith)
 
 mul-places : tie.Need-mul-places Inv-loop μ-loop
@@ -65,8 +59,8 @@ loop-less c = omega arith
 
 loop-again : tie.Need-loop-again Inv-loop μ-loop
 loop-again c =
-    let turn = c .before .before .before .before in
-    let first = turn .before .before .before .before .before .before .before in
+    let turn = c .before .before .before .before .before .before .before in
+    let first = turn .before .before .before .before .before in
     fill (turn .before .loop .inv) (c .seek .result) (turn .loop-test .taken) (rw (first .least .ensures) at (c .seek .ensures))
 
 returns : tie.Need-returns Inv-loop μ-loop
@@ -84,8 +78,6 @@ places-of-spec =
     least-requires-2
     least-requires-3
     loop-holds
-    slice-aggregate-seek
-    slice-aggregate-seek-2
     mul-seek
     shared-slice-read-seek
     seek-requires
