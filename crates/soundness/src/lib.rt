@@ -10,7 +10,7 @@ ghost use Rattle.register.specs.Limits.{actorLimit, resourceLimit, claimLimit};
 ghost use Rattle.register.specs.Register.{actorsOf, resourcesOf, claimsOf};
 ghost use Rattle.register.specs.Chain.{latest};
 ghost use Rattle.columns.specs.Columns.{actorId, resourceId, claimId, parentOf, grantorOf, holderOf, claimedOf};
-ghost use Rattle.rules.specs.Sound.{distinct, worldOf, alone, soundClaims, sound};
+ghost use Rattle.rules.specs.Sound.{distinct, worldOf, alone, sound};
 ghost use Rattle.over.specs.Judged.{standOver};
 use register::Actors;
 use register::Claims;
@@ -99,23 +99,6 @@ fn claims_alone<'a>(
     true
 }
 
-// Whether each claim is as it should be, over those before it and by itself.
-fn claims_sound(a: Actors, o: Resources, k: Claims) -> bool
-    requires { ⌜ (a .count ≤ actorLimit) × (o .count ≤ resourceLimit) × (k .count ≤ claimLimit) × (distinct (map actorId (actorsOf a)) ≡ true) × (distinct (map resourceId (resourcesOf o)) ≡ true) ⌝ }
-    ensures { λ r. ⌜ r ≡ soundClaims (worldOf (actorsOf a) (resourcesOf o)) (latest (claimsOf k)) ⌝ }
-{
-    let claims = columns::claim_columns(k);
-    let ids = claims.ids;
-    let parents = claims.parents;
-    let grantors = claims.grantors;
-    let holders = claims.holders;
-    let claimed = claims.claimed;
-    if !claims_over(k, &ids, &parents, &grantors, &holders) {
-        return false;
-    }
-    claims_alone(a, o, k, &grantors, &holders, &claimed)
-}
-
 // Whether the register is sound.
 pub fn is_sound(r: Register) -> bool
     ensures { λ y. ⌜ y ≡ sound r ⌝ }
@@ -138,5 +121,14 @@ pub fn is_sound(r: Register) -> bool
     if !world::resources_sound(a, o) {
         return false;
     }
-    claims_sound(a, o, k)
+    let claims = columns::claim_columns(k);
+    let ids = claims.ids;
+    let parents = claims.parents;
+    let grantors = claims.grantors;
+    let holders = claims.holders;
+    let claimed = claims.claimed;
+    if !claims_over(k, &ids, &parents, &grantors, &holders) {
+        return false;
+    }
+    claims_alone(a, o, k, &grantors, &holders, &claimed)
 }
