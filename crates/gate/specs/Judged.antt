@@ -5,7 +5,7 @@ use Prim.Native.Nat.{ℕ}
 use lib.Dec.{eqb}
 use lib.ListN.{take}
 use Rattle.lists.specs.Lists.{any}
-use Rattle.register.specs.Limits.{machineKind, resourceLimit}
+use Rattle.register.specs.Limits.{machineKind}
 use Rattle.register.specs.declared.Register.{Register}
 use Rattle.columns.specs.Columns.{resourceId, actorColumns, resourceColumns, claimColumns, latestPlace, beside}
 use Rattle.changes.specs.Refusals.{Test}

@@ -1,6 +1,5 @@
 -- `gate::action_outcome` meets its contract: test 2, then test 3. Assumes nothing.
-use mathlib.Core.Path.{_≡_, sym, _∙_}
-use mathlib.Core.Bool.{Bool}
+use mathlib.Core.Path.{sym, _∙_}
 use borrow.Author.Tests.{not-true, not-false}
 use Rattle.changes.specs.Laws.{outcome-nil, outcome-pass, outcome-fail}
 use borrow.Author.Needs.{needs}
