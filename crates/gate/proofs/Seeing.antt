@@ -5,13 +5,13 @@ use mathlib.Core.List.{List, []}
 use Prim.Native.Nat.{ℕ}
 use lib.Dec.{eqb}
 use lib.ListN.{take}
-use Rattle.register.specs.Limits.{resourceLimit}
+use Rattle.register.specs.Limits.{resourceLimit, claimLimit}
 use Rattle.register.specs.declared.Register.{Register}
 use Rattle.columns.specs.Columns.{actorColumns, resourceColumns, claimColumns}
 use Rattle.columns.specs.declared.ActorColumns.{ActorColumns}
 use Rattle.columns.specs.declared.ResourceColumns.{ResourceColumns}
 use Rattle.columns.specs.declared.ClaimColumns.{ClaimColumns}
-use Rattle.finding.specs.Finding.{placesOf}
+use Rattle.finding.specs.Finding.{placesOf, earlierPlaces}
 use Rattle.actions.specs.declared.Action.{Action}
 use Rattle.actions.specs.declared.Violations.{Violations}
 use Rattle.verdicts.specs.Gate.{listed}
@@ -27,11 +27,14 @@ use Rattle.gate.specs.Judged.{besides, viewOf, Lent, machineBy, ownerBy,
 use Rattle.gate.specs.declared.View.{View}
 
 -- columns that are each the register's are its view
-pub viewed : (r : Register) {actors : ActorColumns} {resources : ResourceColumns} {claims : ClaimColumns} {paths : Paths} {spots : List ℕ}
+pub viewed : (r : Register) {actors : ActorColumns} {resources : ResourceColumns} {claims : ClaimColumns} {paths : Paths} {spots tops ups : List ℕ}
     → actors ≡ actorColumns (r .actors .list) → resources ≡ resourceColumns (r .resources .list) → claims ≡ claimColumns (r .claims .list)
     → paths ≡ laid (r .resources) → spots ≡ placesOf (resources .ids) (r .resources .count) (claims .claimed) (r .claims .count) resourceLimit
-    → _≡_ {A = View} (record { actors = actors; resources = resources; claims = claims; paths = paths; spots = spots }) (viewOf r)
-viewed r of-actors of-resources of-claims of-paths of-spots = rw (of-spots, of-actors, of-resources, of-claims, of-paths)
+    → tops ≡ placesOf (claims .ids) (r .claims .count) (claims .parents) (r .claims .count) claimLimit
+    → ups ≡ earlierPlaces (claims .ids) (claims .parents) (r .claims .count) claimLimit
+    → _≡_ {A = View} (record { actors = actors; resources = resources; claims = claims; paths = paths; spots = spots; tops = tops; ups = ups }) (viewOf r)
+viewed r of-actors of-resources of-claims of-paths of-spots of-tops of-ups =
+    rw (of-spots, of-tops, of-ups, of-actors, of-resources, of-claims, of-paths)
 
 module _ (l : Lent) (a : Action) {machine : Bool} {owner asked : ℕ} {vs : Violations} {own theirs : Gathered} {y : UsesJudged} where
   -- the uses judged by what was gathered, behind the other violations
@@ -48,9 +51,9 @@ module _ (l : Lent) (a : Action) {machine : Bool} {owner asked : ℕ} {vs : Viol
         bytes = l .bytes;
         lens = l .lens;
         publics = l .publics;
-        ids = l .ids;
         parents = l .parents;
-        count = l .claims;
+        tops = l .tops;
+        ups = l .ups;
       }) (l .reports) (l .resources) a vs
       → y ≡ judgedBy l a
   unfolding judgedBy

@@ -19,7 +19,7 @@ use Rattle.violations.specs.Pushed.{pushedAll}
 use Rattle.flat_paths.specs.Laid.{laid}
 use Rattle.gathering.specs.Gathering.{heldPlaces}
 use Rattle.use_judging.specs.Uses.{Sight}
-use Rattle.sights.specs.Sights.{ownerAt, ownerIn, spotsOf, sightOf}
+use Rattle.sights.specs.Sights.{ownerAt, ownerIn, spotsOf, topsOf, upsOf, sightOf}
 use Rattle.uses_judging.specs.Judging.{usesJudged}
 use Rattle.uses_judging.specs.declared.UsesJudged.{UsesJudged}
 use Rattle.gate.specs.declared.View.{View}
@@ -43,6 +43,8 @@ viewOf r = record {
   claims = claimColumns (r .claims .list);
   paths = laid (r .resources);
   spots = spotsOf r;
+  tops = topsOf r;
+  ups = upsOf r;
 }
 
 -- the columns that are lent, with the counts of the lists
@@ -56,13 +58,14 @@ pub record Lent : Type 0 where
   pub resources : ℕ
   pub bytes : List ℕ
   pub lens : List ℕ
-  pub ids : List ℕ
   pub parents : List ℕ
   pub holders : List ℕ
   pub rights : List ℕ
   pub weights : List ℕ
   pub expiries : List ℕ
   pub spots : List ℕ
+  pub tops : List ℕ
+  pub ups : List ℕ
   pub claims : ℕ
 
 -- those of a register's view
@@ -77,13 +80,14 @@ lentOf r v = record {
   resources = r .resources .count;
   bytes = v .paths .bytes;
   lens = v .paths .lens;
-  ids = v .claims .ids;
   parents = v .claims .parents;
   holders = v .claims .holders;
   rights = v .claims .rights;
   weights = v .claims .weights;
   expiries = v .claims .expiries;
   spots = v .spots;
+  tops = v .tops;
+  ups = v .ups;
   claims = r .claims .count;
 }
 
@@ -114,9 +118,9 @@ module _ (l : Lent) where
     bytes = l .bytes;
     lens = l .lens;
     publics = l .publics;
-    ids = l .ids;
     parents = l .parents;
-    count = l .claims;
+    tops = l .tops;
+    ups = l .ups;
   }
 
   -- an action judged by what is lent

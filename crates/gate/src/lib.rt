@@ -30,13 +30,16 @@ use register::Actor;
 use register::Register;
 use uses_judging::UsesJudged;
 
-// What the gate looks at of a register: the columns of its lists, the paths, and the place of each claim's resource, 64 for none.
+// What the gate looks at of a register: the columns of its lists, the paths, the place of each claim's resource, 64 for none, and those of its
+// parent among all claims and among those before it, 256 for none.
 pub struct View {
     pub actors: ActorColumns,
     pub resources: ResourceColumns,
     pub claims: ClaimColumns,
     pub paths: Paths,
     pub spots: [usize; Register::CLAIMS],
+    pub tops: [usize; Register::CLAIMS],
+    pub ups: [usize; Register::CLAIMS],
 }
 
 pub fn view_of(r: Register) -> View
@@ -57,12 +60,22 @@ pub fn view_of(r: Register) -> View
         c.count,
         Register::RESOURCES,
     );
+    let tops = finding::places_of(
+        &claims.ids,
+        c.count,
+        &claims.parents,
+        c.count,
+        Register::CLAIMS,
+    );
+    let ups = finding::earlier_places(&claims.ids, &claims.parents, c.count, Register::CLAIMS);
     View {
         actors,
         resources,
         claims,
         paths,
         spots,
+        tops,
+        ups,
     }
 }
 
@@ -112,17 +125,18 @@ pub fn judge_by<'a>(
     resources: usize,
     bytes: &'a [u8],
     lens: &'a [usize],
-    ids: &'a [u32],
     parents: &'a [u32],
     holders: &'a [u32],
     rights: &'a [u32],
     weights: &'a [u32],
     expiries: &'a [u64],
     spots: &'a [usize],
+    tops: &'a [usize],
+    ups: &'a [usize],
     claims: usize,
     a: Action,
 ) -> UsesJudged
-    ensures { λ y. ⌜ y ≡ judgedBy (record { names = now (names .entry); kinds = now (kinds .entry); owners = now (owners .entry); actors = actors; reports = now (reports .entry); publics = now (publics .entry); resources = resources; bytes = now (bytes .entry); lens = now (lens .entry); ids = now (ids .entry); parents = now (parents .entry); holders = now (holders .entry); rights = now (rights .entry); weights = now (weights .entry); expiries = now (expiries .entry); spots = now (spots .entry); claims = claims }) a ⌝ }
+    ensures { λ y. ⌜ y ≡ judgedBy (record { names = now (names .entry); kinds = now (kinds .entry); owners = now (owners .entry); actors = actors; reports = now (reports .entry); publics = now (publics .entry); resources = resources; bytes = now (bytes .entry); lens = now (lens .entry); parents = now (parents .entry); holders = now (holders .entry); rights = now (rights .entry); weights = now (weights .entry); expiries = now (expiries .entry); spots = now (spots .entry); tops = now (tops .entry); ups = now (ups .entry); claims = claims }) a ⌝ }
 {
     let machine = columns::is_beside(names, kinds, actors, a.actor, Actor::MACHINE);
     let owner = owner_of(names, owners, actors, a.actor);
@@ -146,9 +160,9 @@ pub fn judge_by<'a>(
         publics,
         reports,
         resources,
-        ids,
         parents,
-        claims,
+        tops,
+        ups,
     )
 }
 
@@ -220,13 +234,14 @@ pub fn gate(r: Register, a: Action) -> Verdict
                 r.resources.count,
                 &v.paths.bytes,
                 &v.paths.lens,
-                &v.claims.ids,
                 &v.claims.parents,
                 &v.claims.holders,
                 &v.claims.rights,
                 &v.claims.weights,
                 &v.claims.expiries,
                 &v.spots,
+                &v.tops,
+                &v.ups,
                 r.claims.count,
                 a,
             );

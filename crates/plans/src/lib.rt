@@ -78,18 +78,19 @@ fn judge<'a>(
     resources: usize,
     bytes: &'a [u8],
     lens: &'a [usize],
-    ids: &'a [u32],
     parents: &'a [u32],
     holders: &'a [u32],
     rights: &'a [u32],
     weights: &'a [u32],
     expiries: &'a [u64],
     spots: &'a [usize],
+    tops: &'a [usize],
+    ups: &'a [usize],
     claims: usize,
     a: Action,
     cancelled: bool,
 ) -> Judgement
-    ensures { λ v. ⌜ v ≡ cond cancelled Judgement.Cancelled (judgedAs (judgedBy (record { names = now (names .entry); kinds = now (kinds .entry); owners = now (owners .entry); actors = actors; reports = now (reports .entry); publics = now (publics .entry); resources = resources; bytes = now (bytes .entry); lens = now (lens .entry); ids = now (ids .entry); parents = now (parents .entry); holders = now (holders .entry); rights = now (rights .entry); weights = now (weights .entry); expiries = now (expiries .entry); spots = now (spots .entry); claims = claims }) a .violations .count)) ⌝ }
+    ensures { λ v. ⌜ v ≡ cond cancelled Judgement.Cancelled (judgedAs (judgedBy (record { names = now (names .entry); kinds = now (kinds .entry); owners = now (owners .entry); actors = actors; reports = now (reports .entry); publics = now (publics .entry); resources = resources; bytes = now (bytes .entry); lens = now (lens .entry); parents = now (parents .entry); holders = now (holders .entry); rights = now (rights .entry); weights = now (weights .entry); expiries = now (expiries .entry); spots = now (spots .entry); tops = now (tops .entry); ups = now (ups .entry); claims = claims }) a .violations .count)) ⌝ }
 {
     if cancelled {
         return Judgement::Cancelled;
@@ -104,13 +105,14 @@ fn judge<'a>(
         resources,
         bytes,
         lens,
-        ids,
         parents,
         holders,
         rights,
         weights,
         expiries,
         spots,
+        tops,
+        ups,
         claims,
         a,
     );
@@ -132,17 +134,18 @@ fn judge_all<'a>(
     resources: usize,
     bytes: &'a [u8],
     lens: &'a [usize],
-    ids: &'a [u32],
     parents: &'a [u32],
     holders: &'a [u32],
     rights: &'a [u32],
     weights: &'a [u32],
     expiries: &'a [u64],
     spots: &'a [usize],
+    tops: &'a [usize],
+    ups: &'a [usize],
     claims: usize,
     p: Plan,
 ) -> PlanVerdict
-    ensures { λ v. ⌜ v ≡ held (judgementsBy (record { names = now (names .entry); kinds = now (kinds .entry); owners = now (owners .entry); actors = actors; reports = now (reports .entry); publics = now (publics .entry); resources = resources; bytes = now (bytes .entry); lens = now (lens .entry); ids = now (ids .entry); parents = now (parents .entry); holders = now (holders .entry); rights = now (rights .entry); weights = now (weights .entry); expiries = now (expiries .entry); spots = now (spots .entry); claims = claims }) false (actionsOf p)) ⌝ }
+    ensures { λ v. ⌜ v ≡ held (judgementsBy (record { names = now (names .entry); kinds = now (kinds .entry); owners = now (owners .entry); actors = actors; reports = now (reports .entry); publics = now (publics .entry); resources = resources; bytes = now (bytes .entry); lens = now (lens .entry); parents = now (parents .entry); holders = now (holders .entry); rights = now (rights .entry); weights = now (weights .entry); expiries = now (expiries .entry); spots = now (spots .entry); tops = now (tops .entry); ups = now (ups .entry); claims = claims }) false (actionsOf p)) ⌝ }
 {
     let top = columns::least(p.count, Plan::ACTIONS);
     let none = Judged {
@@ -163,13 +166,14 @@ fn judge_all<'a>(
             resources,
             bytes,
             lens,
-            ids,
             parents,
             holders,
             rights,
             weights,
             expiries,
             spots,
+            tops,
+            ups,
             claims,
             a,
             flagged,
@@ -211,13 +215,14 @@ pub fn plan(r: Register, p: Plan) -> PlanVerdict
             r.resources.count,
             &v.paths.bytes,
             &v.paths.lens,
-            &v.claims.ids,
             &v.claims.parents,
             &v.claims.holders,
             &v.claims.rights,
             &v.claims.weights,
             &v.claims.expiries,
             &v.spots,
+            &v.tops,
+            &v.ups,
             r.claims.count,
             p,
         ),

@@ -2,19 +2,19 @@
 use mathlib.Core.Path.{_≡_, refl, sym, ap, _∙_}
 use mathlib.Core.Bool.{Bool, true, false, not, _&&_, cond, or-false, and-assoc}
 use mathlib.Core.List.{List, [], _∷_, map}
-use Prim.Native.Nat.{ℕ}
+use Prim.Native.Nat.{ℕ, _≤_, _<_}
+use native.Mathlib.Omega.{arith}
 use lib.Dec.{eqb}
-use lib.ListN.{getD, List·getD-map}
+use lib.ListN.{length, getD, length-map, length-take, List·getD-map}
 use Rattle.lists.specs.Lists.{any}
-use Rattle.lists.specs.Each.{All, all-unmap, all-imp}
-use Rattle.register.specs.Limits.{machineKind}
+use Rattle.lists.specs.Each.{All, all-unmap, all-imp, all-both}
+use Rattle.register.specs.Limits.{claimLimit, machineKind}
 use Rattle.register.specs.Register.{actorsOf, claimsOf, noActor, noClaim}
-use Rattle.register.specs.Chain.{latest, above, hopsOf}
+use Rattle.register.specs.Chain.{latest, hopsOf}
 use Rattle.register.specs.declared.Actor.{Actor}
-use Rattle.register.specs.declared.Claim.{Claim}
 use Rattle.register.specs.declared.Register.{Register}
-use Rattle.columns.specs.Columns.{actorId, ownerOf, publicOf, claimId, parentOf, latestPlace}
-use Rattle.columns.specs.Laws.{among-natural, hop-count-natural, steps-within}
+use Rattle.columns.specs.Columns.{actorId, ownerOf, publicOf, claimId, parentOf, latestPlace, chainPlaces}
+use Rattle.columns.specs.Laws.{among-natural, chain-natural}
 use Rattle.columns.specs.declared.Place.{Place}
 use Rattle.columns.specs.declared.Place.the-variants.{At, Nowhere}
 use Rattle.rules.specs.Sound.{sound}
@@ -24,57 +24,75 @@ use Rattle.actions.specs.declared.Violation.the-variants.{NotCovered as UseNotC
 use Rattle.verdicts.specs.Gate.{covers, isMachine, ownerLacks, parentless, parentGone, useViolation, hopsIn, hopsFor}
 use Rattle.verdicts.specs.Places.{Place as Stands, each-place}
 use Rattle.verdicts.specs.Trace.{place-hops-most}
-use Rattle.use_judging.specs.Uses.{openTo, stepsOf, hopsFrom, parentlessAt, coveredBy, faultOf, reliedOn, useJudged}
+use Rattle.use_judging.specs.Uses.{openTo, hopsFrom, parentlessAt, coveredBy, faultOf, reliedOn, useJudged}
 use Rattle.gathering.specs.Gathering.{coverPlaces}
-use Rattle.sights.specs.Sights.{Typed, ownerAt, ownerIn, ownedIn, sightOf, spotFor, faultAt}
+use Rattle.sights.specs.Sights.{Typed, ownerAt, ownerIn, ownedIn, topsOf, upsOf, sightOf, spotFor, faultAt}
 use Rattle.rules.specs.Distinct.{askedAt, asked-natural}
-use Rattle.sights.specs.Relying.{aloneAt, claimAt, claimPlaces, firstPlace, first-any, claims-read, relied-natural, place-natural, covers-natural}
+use Rattle.sights.specs.Climbing.{hops-climbed, parentless-found}
+use Rattle.sights.specs.Relying.{aloneAt, claimAt, claimPlaces, firstPlace, first-any, claims-read, places-within, relied-natural, place-natural, covers-natural}
 
 -- ---- the claim relied on: its parent and its hops
-module _ (r : Register) where
+module _ (r : Register) (typed : Typed r) (h : sound r ≡ true) where
   abbrev ids : List ℕ
   ids = map claimId (r .claims .list)
 
   abbrev parents : List ℕ
   parents = map parentOf (r .claims .list)
 
+  few : r .claims .count ≤ claimLimit
+  few = sound-out r h .limits .claimCount
+
+  long : r .claims .count ≤ length parents
+  long = omega (arith, few, typed .claimsLong, length-map (r .claims .list) parentOf)
+
   parent-at : (j : ℕ) → getD parents j 0 ≡ claimAt r j .parent
   parent-at j = List·getD-map parentOf (r .claims .list) j noClaim
 
+  below : (j : ℕ) → j < length (claimsOf (r .claims)) → j < r .claims .count
+  below j inside = omega (arith, length-take (r .claims .count) (r .claims .list))
+
   -- the claim at a place has a parent that does not stand where the columns say so
-  parentless-at : (p : Place) → any (parentless r) (aloneAt (claimAt r) p) ≡ parentlessAt ids parents (r .claims .count) p
-  parentless-at Nowhere = refl
-  parentless-at (At j) =
+  parentless-at : (j : ℕ) → j < length (claimsOf (r .claims))
+      → any (parentless r) (aloneAt (claimAt r) (At j)) ≡ parentlessAt parents (topsOf r) (At j)
+  parentless-at j inside =
       or-false (parentless r (claimAt r j))
-      ∙ rw (parent-at j, among-natural claimId (claimAt r j .parent) (r .claims .count) (r .claims .list))
+      ∙ sym (parentless-found ids parents (r .claims .count) few long j (below j inside)
+      ∙ rw (parent-at j, among-natural claimId (claimAt r j .parent) (r .claims .count) (r .claims .list)))
 
   -- the claim relied on has a parent that does not stand where the columns say so of the first place
-  pub parent-natural : (now x : ℕ) (u : Usage) → parentGone r now x u ≡ parentlessAt ids parents (r .claims .count) (firstPlace r now x u)
+  pub parent-natural : (now x : ℕ) (u : Usage) → parentGone r now x u ≡ parentlessAt parents (topsOf r) (firstPlace r now x u)
   unfolding parentGone
-  parent-natural now x u = ap (any (parentless r)) (relied-natural r now x u) ∙ parentless-at (firstPlace r now x u)
+  parent-natural now x u =
+      ap (any (parentless r)) (relied-natural r now x u)
+      ∙ first-any (λ p. any (parentless r) (aloneAt (claimAt r) p) ≡ parentlessAt parents (topsOf r) p) _ (claimPlaces r) refl
+      (all-imp (λ j. j < length (claimsOf (r .claims)))
+      (λ j. any (parentless r) (aloneAt (claimAt r) (At j)) ≡ parentlessAt parents (topsOf r) (At j)) parentless-at (claimPlaces r) (places-within r))
 
   -- the claim at a place of the register has as many hops as its chain by columns has steps
-  hops-at : sound r ≡ true → (j : ℕ) → Stands (claimsOf (r .claims)) (claimAt r j)
-      → hopsIn r (aloneAt (claimAt r) (At j)) ≡ hopsFrom ids parents (r .claims .count) (At j)
-  hops-at h j at =
-      let higher : List Claim = above (latest (claimsOf (r .claims))) (claimAt r j) in
-      let steps = steps-within higher (hopsOf (latest (claimsOf (r .claims))) (claimAt r j)) refl (place-hops-most r h (claimAt r j) at) in
-      sym (rw (parent-at j) (ap stepsOf (hop-count-natural (r .claims .list) (r .claims .count) (claimAt r j .parent) ∙ steps)))
+  hops-at : (j : ℕ) → (j < length (claimsOf (r .claims))) × Stands (claimsOf (r .claims)) (claimAt r j)
+      → hopsIn r (aloneAt (claimAt r) (At j)) ≡ hopsFrom parents (topsOf r) (upsOf r) (At j)
+  hops-at j at =
+      let chained : length (chainPlaces ids parents (r .claims .count) (getD parents j 0)) ≡ hopsOf (latest (claimsOf (r .claims))) (claimAt r j) =
+      rw (parent-at j) (sym (length-map (chainPlaces ids parents (r .claims .count) (claimAt r j .parent)) (claimAt r))
+      ∙ ap length (chain-natural (r .claims .list) (r .claims .count) (claimAt r j .parent))) in
+      sym (hops-climbed ids parents (r .claims .count) few long j (below j (at .0))
+      ∙ rw chained (omega (arith, place-hops-most r h (claimAt r j) (at .1))))
 
   -- each place of the register's claims is that of a claim that stands
-  claims-stand : All (λ j. Stands (claimsOf (r .claims)) (claimAt r j)) (claimPlaces r)
+  claims-stand : All (λ j. (j < length (claimsOf (r .claims))) × Stands (claimsOf (r .claims)) (claimAt r j)) (claimPlaces r)
   claims-stand =
-      all-unmap (claimAt r) (λ c. Stands (claimsOf (r .claims)) c) (claimPlaces r)
-      (rw (claims-read r) (each-place (claimsOf (r .claims))))
+      all-both (λ j. j < length (claimsOf (r .claims))) (λ j. Stands (claimsOf (r .claims)) (claimAt r j))
+      (λ j. (j < length (claimsOf (r .claims))) × Stands (claimsOf (r .claims)) (claimAt r j)) (λ j inside at. (inside, at)) (claimPlaces r) (places-within r)
+      (all-unmap (claimAt r) (λ c. Stands (claimsOf (r .claims)) c) (claimPlaces r) (rw (claims-read r) (each-place (claimsOf (r .claims)))))
 
   -- the hop count of the claim relied on, by columns
-  pub hops-natural : sound r ≡ true → (now x : ℕ) (u : Usage) → hopsFor r now x u ≡ hopsFrom ids parents (r .claims .count) (firstPlace r now x u)
+  pub hops-natural : (now x : ℕ) (u : Usage) → hopsFor r now x u ≡ hopsFrom parents (topsOf r) (upsOf r) (firstPlace r now x u)
   unfolding hopsFor
-  hops-natural h now x u =
+  hops-natural now x u =
       ap (hopsIn r) (relied-natural r now x u)
-      ∙ first-any (λ p. hopsIn r (aloneAt (claimAt r) p) ≡ hopsFrom ids parents (r .claims .count) p) _ (claimPlaces r) refl
-      (all-imp (λ j. Stands (claimsOf (r .claims)) (claimAt r j))
-      (λ j. hopsIn r (aloneAt (claimAt r) (At j)) ≡ hopsFrom ids parents (r .claims .count) (At j)) (hops-at h) (claimPlaces r) claims-stand)
+      ∙ first-any (λ p. hopsIn r (aloneAt (claimAt r) p) ≡ hopsFrom parents (topsOf r) (upsOf r) p) _ (claimPlaces r) refl
+      (all-imp (λ j. (j < length (claimsOf (r .claims))) × Stands (claimsOf (r .claims)) (claimAt r j))
+      (λ j. hopsIn r (aloneAt (claimAt r) (At j)) ≡ hopsFrom parents (topsOf r) (upsOf r) (At j)) hops-at (claimPlaces r) claims-stand)
 
 -- ---- the actor: whether it is a machine, and its owner
 module _ (r : Register) (h : sound r ≡ true) (x : ℕ) where
@@ -141,10 +159,8 @@ module _ (r : Register) (typed : Typed r) (h : sound r ≡ true) (now x : ℕ) (
       ∙ ap (λ b. ownedIn r x && not b) (covered-natural (ownerIn r x))
       ∙ sym (owner-natural r h x now u)
 
-  gone-natural : parentlessAt (map claimId (r .claims .list)) (map parentOf (r .claims .list)) (r .claims .count) (place x) ≡ parentGone r now x u
-  gone-natural =
-      ap (parentlessAt (map claimId (r .claims .list)) (map parentOf (r .claims .list)) (r .claims .count)) (place-natural r typed h now x u x)
-      ∙ sym (parent-natural r now x u)
+  gone-natural : parentlessAt (map parentOf (r .claims .list)) (topsOf r) (place x) ≡ parentGone r now x u
+  gone-natural = ap (parentlessAt (map parentOf (r .claims .list)) (topsOf r)) (place-natural r typed h now x u x) ∙ sym (parent-natural r typed h now x u)
 
   pub fault-natural : (n : ℕ) → faultAt n (useJudged (sightOf r now x) (spotFor r u) (u .right) .fault) ≡ useViolation r now x n u
   unfolding useJudged useViolation
@@ -154,8 +170,7 @@ module _ (r : Register) (typed : Typed r) (h : sound r ≡ true) (now x : ℕ) (
   pub hop-natural : useJudged (sightOf r now x) (spotFor r u) (u .right) .hops ≡ hopsFor r now x u
   unfolding useJudged
   hop-natural =
-      ap (hopsFrom (map claimId (r .claims .list)) (map parentOf (r .claims .list)) (r .claims .count)) (place-natural r typed h now x u x)
-      ∙ sym (hops-natural r h now x u)
+      ap (hopsFrom (map parentOf (r .claims .list)) (topsOf r) (upsOf r)) (place-natural r typed h now x u x) ∙ sym (hops-natural r typed h now x u)
 
 -- a use judged by columns is the use as the gate judges it: its violations and its hop count
 pub use-natural : (r : Register) → Typed r → sound r ≡ true → (now x n : ℕ) (u : Usage)

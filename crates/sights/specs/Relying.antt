@@ -90,7 +90,8 @@ firstPlace r now x u = firstOf (λ j. covering r now x u (claimAt r j)) (claimPl
 pub claims-read : (r : Register) → map (claimAt r) (claimPlaces r) ≡ claimsOf (r .claims)
 claims-read r = counted-first noClaim (r .claims .list) (r .claims .count)
 
-places-within : (r : Register) → All (λ j. j < length (claimsOf (r .claims))) (claimPlaces r)
+-- each is that of a claim
+pub places-within : (r : Register) → All (λ j. j < length (claimsOf (r .claims))) (claimPlaces r)
 places-within r = rw (zero-add (length (claimsOf (r .claims)))) at (counted-below 0 (length (claimsOf (r .claims))))
 
 -- the claim relied on is the one at the first place

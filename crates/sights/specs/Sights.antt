@@ -15,7 +15,7 @@ use Rattle.actions.specs.declared.Usage.{Usage}
 use Rattle.actions.specs.declared.Violation.{Violation}
 use Rattle.actions.specs.declared.Violation.the-variants.{NotCovered as UseNotCovered, OwnerNotCovering as UseOwnerNotCovering, ParentGone as UseParentGone}
 use Rattle.verdicts.specs.Gate.{isMachine}
-use Rattle.finding.specs.Finding.{placesOf}
+use Rattle.finding.specs.Finding.{placesOf, earlierPlaces}
 use Rattle.gathering.specs.Gathering.{spotIn, coverPlaces}
 use Rattle.flat_paths.specs.Laid.{laid}
 use Rattle.use_judging.specs.Uses.{Sight}
@@ -47,6 +47,13 @@ abbrev pub spotsOf : Register → List ℕ
 spotsOf r =
     placesOf (map resourceId (r .resources .list)) (r .resources .count) (map claimedOf (r .claims .list)) (r .claims .count) resourceLimit
 
+-- the place of each claim's parent, and that among the claims before it
+abbrev pub topsOf : Register → List ℕ
+topsOf r = placesOf (map claimId (r .claims .list)) (r .claims .count) (map parentOf (r .claims .list)) (r .claims .count) claimLimit
+
+abbrev pub upsOf : Register → List ℕ
+upsOf r = earlierPlaces (map claimId (r .claims .list)) (map parentOf (r .claims .list)) (r .claims .count) claimLimit
+
 -- the columns of a register, with the gathered claims of the actor numbered x and of its owner, which a machine alone is asked for
 abbrev pub sightOf : Register → ℕ → ℕ → Sight
 sightOf r now x = record {
@@ -58,9 +65,9 @@ sightOf r now x = record {
   bytes = laid (r .resources) .bytes;
   lens = laid (r .resources) .lens;
   publics = map publicOf (r .resources .list);
-  ids = map claimId (r .claims .list);
   parents = map parentOf (r .claims .list);
-  count = r .claims .count;
+  tops = topsOf r;
+  ups = upsOf r;
 }
 
 -- the place of the used resource

@@ -1,1 +1,1 @@
-pub mod Relying
+pub mod Climbing

@@ -1,14 +1,11 @@
 -- Working definitions: a use judged by columns. What they are in 01's words is `use-natural` of sights/specs/Laws.
 use mathlib.Core.Bool.{Bool, true, false, not, _&&_, cond}
 use mathlib.Core.List.{List}
-use Prim.Native.Nat.{ℕ}
-use lib.Dec.{eqb}
-use lib.ListN.{getD, take}
-use Rattle.lists.specs.Lists.{any}
+use Prim.Native.Nat.{ℕ, zero, suc, _-_}
+use lib.Dec.{eqb, ltb}
+use lib.ListN.{getD}
 use Rattle.rights.specs.Rights.{reading}
-use Rattle.columns.specs.Columns.{chainPlaces, stepsUp}
-use Rattle.columns.specs.declared.Hops.{Hops}
-use Rattle.columns.specs.declared.Hops.the-variants.{Up, Beyond}
+use Rattle.register.specs.Limits.{hopLimit, claimLimit}
 use Rattle.columns.specs.declared.Place.{Place}
 use Rattle.columns.specs.declared.Place.the-variants.{At, Nowhere}
 use Rattle.coverage.specs.Coverage.{firstCovering}
@@ -20,20 +17,24 @@ use Rattle.use_judging.specs.declared.UseJudged.{UseJudged}
 abbrev pub openTo : List ℕ → ℕ → ℕ → Bool
 openTo publics spot right = eqb right reading && eqb (getD publics spot 0) 1
 
--- a number of steps, 0 for none within the limit
-abbrev pub stepsOf : Hops → ℕ
-stepsOf (Up steps) = steps
-stepsOf Beyond = 0
+-- whether the claim at a place has a parent, and that stands at a place of the claims
+abbrev pub drawnAt : List ℕ → List ℕ → ℕ → Bool
+drawnAt parents places at = not (eqb (getD parents at 0) 0) && ltb (getD places at claimLimit) claimLimit
 
--- the hop count of the claim relied on
-abbrev pub hopsFrom : List ℕ → List ℕ → ℕ → Place → ℕ
-hopsFrom ids parents n Nowhere = 0
-hopsFrom ids parents n (At j) = stepsOf (stepsUp (chainPlaces ids parents n (getD parents j 0)))
+-- the number of steps up from a place, at most so many
+unfoldable pub climbed : List ℕ → List ℕ → ℕ → ℕ → ℕ
+climbed parents ups zero at = 0
+climbed parents ups (suc most) at = let more = suc (climbed parents ups most (getD ups at claimLimit)) in cond (drawnAt parents ups at) more 0
+
+-- the hop count of the claim relied on: its parent stands at its place of `tops`, and the parent of that one at its place of `ups`
+abbrev pub hopsFrom : List ℕ → List ℕ → List ℕ → Place → ℕ
+hopsFrom parents tops ups Nowhere = 0
+hopsFrom parents tops ups (At j) = cond (drawnAt parents tops j) (suc (climbed parents ups (hopLimit - 1) (getD tops j claimLimit))) 0
 
 -- whether the claim relied on has a parent that does not stand
-abbrev pub parentlessAt : List ℕ → List ℕ → ℕ → Place → Bool
-parentlessAt ids parents n Nowhere = false
-parentlessAt ids parents n (At j) = not (eqb (getD parents j 0) 0) && not (any (eqb (getD parents j 0)) (take n ids))
+abbrev pub parentlessAt : List ℕ → List ℕ → Place → Bool
+parentlessAt parents tops Nowhere = false
+parentlessAt parents tops (At j) = not (eqb (getD parents j 0) 0) && not (ltb (getD tops j claimLimit) claimLimit)
 
 -- whether a use is covered: it is open, or a claim is relied on
 abbrev pub coveredBy : Bool → Place → Bool
@@ -54,9 +55,9 @@ pub record Sight : Type 0 where
   pub bytes : List ℕ
   pub lens : List ℕ
   pub publics : List ℕ
-  pub ids : List ℕ
   pub parents : List ℕ
-  pub count : ℕ
+  pub tops : List ℕ
+  pub ups : List ℕ
 
 -- the claim relied on, by the gathered places
 abbrev pub reliedOn : Sight → List ℕ → ℕ → ℕ → Place
@@ -67,6 +68,6 @@ unfoldable pub useJudged : Sight → ℕ → ℕ → UseJudged
 useJudged s spot right = record {
   fault = faultOf (coveredBy (openTo (s .publics) spot right) (reliedOn s (s .own) spot right))
       (s .owned && not (coveredBy (openTo (s .publics) spot right) (reliedOn s (s .theirs) spot right)))
-      (parentlessAt (s .ids) (s .parents) (s .count) (reliedOn s (s .own) spot right));
-  hops = hopsFrom (s .ids) (s .parents) (s .count) (reliedOn s (s .own) spot right);
+      (parentlessAt (s .parents) (s .tops) (reliedOn s (s .own) spot right));
+  hops = hopsFrom (s .parents) (s .tops) (s .ups) (reliedOn s (s .own) spot right);
 }

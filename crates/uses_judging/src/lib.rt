@@ -41,11 +41,11 @@ pub fn judge_uses<'a>(
     publics: &'a [u32],
     reports: &'a [u32],
     m: usize,
-    ids: &'a [u32],
     parents: &'a [u32],
-    n: usize,
+    tops: &'a [usize],
+    ups: &'a [usize],
 ) -> UsesJudged
-    ensures { λ r. ⌜ r ≡ usesJudged (record { own = take owns (now (own .entry)); theirs = take has (now (theirs .entry)); owned = owned; rights = now (rights .entry); spots = now (spots .entry); bytes = now (bytes .entry); lens = now (lens .entry); publics = now (publics .entry); ids = now (ids .entry); parents = now (parents .entry); count = n }) (now (reports .entry)) m a vs ⌝ }
+    ensures { λ r. ⌜ r ≡ usesJudged (record { own = take owns (now (own .entry)); theirs = take has (now (theirs .entry)); owned = owned; rights = now (rights .entry); spots = now (spots .entry); bytes = now (bytes .entry); lens = now (lens .entry); publics = now (publics .entry); parents = now (parents .entry); tops = now (tops .entry); ups = now (ups .entry) }) (now (reports .entry)) m a vs ⌝ }
 {
     let top = columns::least(a.used, Action::USES);
     let mut violations = vs;
@@ -67,9 +67,9 @@ pub fn judge_uses<'a>(
             lens,
             publics,
             spot,
-            ids,
             parents,
-            n,
+            tops,
+            ups,
             u.right,
         );
         let fault = judged.fault;

@@ -1,8 +1,6 @@
--- `use_judging::hops_from` meets its contract: each arm by the place and by what the walk answered. Assumes nothing.
-use mathlib.Core.Path.{sym, ap, _∙_}
+-- `use_judging::hops_from` meets its contract: a root has no hops, another claim as many as its parent's place climbs. Assumes nothing.
+use mathlib.Core.Path.{sym, _∙_}
 use borrow.Author.Needs.{needs}
-use Rattle.use_judging.specs.Uses.{stepsOf}
-use Rattle.use_judging.proofs.Relying.{hops-there}
 use Rattle.use_judging.proofs.hops_from.Statement.{statement}
 use Rattle.use_judging.proofs.hops_from.Tie as tie
 
@@ -12,34 +10,27 @@ enum-told c = search needs
 enum-known-relied : tie.Need-enum-known-relied
 enum-known-relied c = search needs
 
-number-at-requires : tie.Need-number-at-requires
-number-at-requires c κs = search needs
+is-drawn-requires : tie.Need-is-drawn-requires
+is-drawn-requires c κs = search needs
 
-hop-count-requires : tie.Need-hop-count-requires
-hop-count-requires c κs = search needs
+place-at-requires : tie.Need-place-at-requires
+place-at-requires c κs = search needs
 
-enum-known-walked : tie.Need-enum-known-walked
-enum-known-walked c = search needs
-
-enum-told-2 : tie.Need-enum-told-2
-enum-told-2 c = search needs
+climb-requires : tie.Need-climb-requires
+climb-requires c κs = search needs
 
 returns : tie.Need-returns
 returns c = search needs
 
 returns-2 : tie.Need-returns-2
 returns-2 c =
-    let a = c .before .before .before .before .before .before .before .before .before .before .args in
-    sym (ap stepsOf (c .before .walked .given .1))
-    ∙ hops-there (a .ids .now) (a .parents .now) (a .n) _ (c .before .before .before .before .number-at .result) (a .relied) (c .before .before .before .before .before .before .relied .given .1)
-    (c .before .before .before .before .number-at .ensures) (c .before .before .before .hop-count .result) (c .before .before .before .hop-count .ensures)
+    let asked = c .before .before .before in
+    rw (asked .before .before .relied .given .1, sym (asked .is-drawn .ensures) ∙ c .before .before .if1 .taken, ← c .before .place-at .ensures) (c .climb .ensures)
 
 returns-3 : tie.Need-returns-3
 returns-3 c =
-    let a = c .before .before .before .before .before .before .before .before .before .args in
-    sym (ap stepsOf (c .enum-told2 .given .1))
-    ∙ hops-there (a .ids .now) (a .parents .now) (a .n) _ (c .before .before .before .number-at .result) (a .relied) (c .before .before .before .before .before .relied .given .1)
-    (c .before .before .before .number-at .ensures) (c .before .before .hop-count .result) (c .before .before .hop-count .ensures)
+    let asked = c .before in
+    rw (asked .before .before .relied .given .1, sym (asked .is-drawn .ensures) ∙ c .if1 .left)
 
 pub hops-from-spec : {M : Type 1} → statement M
 hops-from-spec =
@@ -47,10 +38,9 @@ hops-from-spec =
     (tie.spec
     enum-told
     enum-known-relied
-    number-at-requires
-    hop-count-requires
-    enum-known-walked
-    enum-told-2
+    is-drawn-requires
+    place-at-requires
+    climb-requires
     returns
     returns-2
     returns-3)

@@ -1,6 +1,5 @@
--- `use_judging::is_parentless` meets its contract: each arm by the place and by the parent's number. Assumes nothing.
+-- `use_judging::is_parentless` meets its contract: the tests of the parent and of its place, where there is a claim. Assumes nothing.
 use borrow.Author.Needs.{needs}
-use Rattle.use_judging.proofs.Relying.{root-there, parentless-there}
 use Rattle.use_judging.proofs.is_parentless.Statement.{statement}
 use Rattle.use_judging.proofs.is_parentless.Tie as tie
 
@@ -13,32 +12,16 @@ enum-known-relied c = search needs
 number-at-requires : tie.Need-number-at-requires
 number-at-requires c κs = search needs
 
-returns : tie.Need-returns
-returns c =
-    let a = c .before .before .before .before .before .before .before .args in
-    root-there (a .ids .now) (a .parents .now) (a .n) _ (c .before .number-at .result) (a .relied) (c .before .before .before .relied .given .1)
-    (c .before .number-at .ensures) (c .if1 .taken)
+place-at-requires : tie.Need-place-at-requires
+place-at-requires c κs = search needs
 
-is-among-requires : tie.Need-is-among-requires
-is-among-requires c κs = search needs
+returns : tie.Need-returns
+returns c = search needs
 
 returns-2 : tie.Need-returns-2
-returns-2 c = search needs
-
-returns-3 : tie.Need-returns-3
-returns-3 c =
-    let a = c .before .before .before .before .before .before .before .before .args in
-    parentless-there (a .ids .now) (a .parents .now) (a .n) _ (c .before .before .number-at .result) (a .relied) (c .before .before .before .before .relied .given .1)
-    (c .before .before .number-at .ensures) (c .before .if1 .left) (c .is-among .result) (c .is-among .ensures)
+returns-2 c = rw (c .before .before .before .relied .given .1, c .place-at .ensures, c .before .number-at .ensures)
 
 pub is-parentless-spec : {M : Type 1} → statement M
 is-parentless-spec =
     tie.close
-    (tie.spec
-    enum-told
-    enum-known-relied
-    number-at-requires
-    returns
-    is-among-requires
-    returns-2
-    returns-3)
+    (tie.spec enum-told enum-known-relied number-at-requires place-at-requires returns returns-2)

@@ -1,0 +1,74 @@
+-- Hop counts, and whether a parent stands, by the places of the parents: what the chains of the columns say. Assumes nothing.
+use mathlib.Core.Path.{_≡_, sym, ap}
+use mathlib.Core.Bool.{not, _&&_, cond}
+use mathlib.Core.List.{List}
+use Prim.Native.Nat.{ℕ, zero, suc, _-_, _≤_, _<_, min}
+use native.Mathlib.Omega.{arith}
+use borrow.Author.Tests.{lt-ltb, eqb-true, eqb-false}
+use lib.Dec.{eqb, ltb}
+use lib.ListN.{length, getD, take}
+use Rattle.lists.specs.Tests.{cases}
+use Rattle.lists.specs.Lists.{any}
+use Rattle.register.specs.Limits.{hopLimit, claimLimit}
+use Rattle.columns.specs.Columns.{latestPlace, chainPlaces}
+use Rattle.columns.specs.Laws.{place-cases, place-found, nowhere-none, none-nowhere, chain-places-zero, chain-places-at, chain-places-nowhere}
+use Rattle.columns.specs.declared.Place.the-variants.{At}
+use Rattle.finding.specs.Finding.{numberOf, asked, placesOf, earlierPlaces}
+use Rattle.finding.specs.Laws.{places-at, earlier-at}
+use Rattle.use_judging.specs.Uses.{climbed, hopsFrom, parentlessAt}
+
+module _ (ids parents : List ℕ) (n : ℕ) (few : n ≤ claimLimit) (long : n ≤ length parents) where
+  abbrev tops : List ℕ
+  tops = placesOf ids n parents n claimLimit
+
+  abbrev ups : List ℕ
+  ups = earlierPlaces ids parents n claimLimit
+
+  all-asked : (j : ℕ) → j < n → j < asked n parents
+  all-asked j h = omega arith
+
+  all-sought : min n claimLimit ≡ n
+  all-sought = omega arith
+
+  -- a step up from the number p among the first m, where the steps behind it are known
+  step : (left m p : ℕ) → m ≤ n
+      → ((i : ℕ) → i < m → climbed parents ups left i ≡ min left (length (chainPlaces ids parents i (getD parents i 0))))
+      → cond (not (eqb p 0) && ltb (numberOf claimLimit (latestPlace ids m p)) claimLimit) (suc (climbed parents ups left (numberOf claimLimit (latestPlace ids m p)))) 0
+      ≡ min (suc left) (length (chainPlaces ids parents m p))
+  step left m p below known =
+      cases (eqb p 0)
+      (λ e. let root : p ≡ 0 = eqb-true p 0 e in rw (root, chain-places-zero ids parents m) (omega arith))
+      (λ e. place-cases (latestPlace ids m p)
+      (λ i q. let found = place-found ids p m i q in
+      let inside : i < claimLimit = omega (arith, found .0) in
+      rw (e, q, lt-ltb i claimLimit inside, chain-places-at ids parents m p i (eqb-false p 0 e) q, known i (found .0)) (omega arith))
+      (λ q. rw (e, q, chain-places-nowhere ids parents m p q) (omega arith)))
+
+  climbs : (left k : ℕ) → k < n → climbed parents ups left k ≡ min left (length (chainPlaces ids parents k (getD parents k 0)))
+  unfolding climbed
+  climbs zero k h = omega arith
+  climbs (suc left) k h =
+      rw (earlier-at ids parents n claimLimit k claimLimit (all-asked k h))
+      (step left k (getD parents k 0) (omega arith) (λ i below. climbs left i (omega arith)))
+
+  -- the hop count of the claim at a place is the number of steps of its chain, up to the limit
+  pub hops-climbed : (j : ℕ) → j < n → hopsFrom parents tops ups (At j) ≡ min hopLimit (length (chainPlaces ids parents n (getD parents j 0)))
+  hops-climbed j h =
+      rw (places-at ids n parents n claimLimit j claimLimit (all-asked j h), all-sought)
+      (step (hopLimit - 1) n (getD parents j 0) (omega arith) (climbs (hopLimit - 1)))
+
+  found-among : (p : ℕ) → ltb (numberOf claimLimit (latestPlace ids n p)) claimLimit ≡ any (eqb p) (take n ids)
+  found-among p =
+      place-cases (latestPlace ids n p)
+      (λ i q. let inside : i < claimLimit = omega (arith, place-found ids p n i q .0) in
+      rw (q, lt-ltb i claimLimit inside)
+      (cases (any (eqb p) (take n ids)) sym
+      (λ none. let never : _≡_ {A = ℕ} 0 1 = cc (none-nowhere ids p n none) in absurd (omega arith))))
+      (λ q. rw q (sym (nowhere-none ids p n q)))
+
+  -- a claim is parentless where its parent's number is no claim's
+  pub parentless-found : (j : ℕ) → j < n
+      → parentlessAt parents tops (At j) ≡ not (eqb (getD parents j 0) 0) && not (any (eqb (getD parents j 0)) (take n ids))
+  parentless-found j h =
+      rw (places-at ids n parents n claimLimit j claimLimit (all-asked j h), all-sought)
+      (ap (λ b. not (eqb (getD parents j 0) 0) && not b) (found-among (getD parents j 0)))
