@@ -56,74 +56,67 @@ pub struct ClaimColumns {
 pub fn actor_columns(k: Actors) -> ActorColumns
     ensures { λ r. ⌜ r ≡ actorColumns (k .list) ⌝ }
 {
-    let mut ids = [0u32; Register::ACTORS];
-    let mut kinds = [0u32; Register::ACTORS];
-    let mut owners = [0u32; Register::ACTORS];
+    let mut columns = ActorColumns {
+        ids: [0; Register::ACTORS],
+        kinds: [0; Register::ACTORS],
+        owners: [0; Register::ACTORS],
+    };
     let mut i: usize = 0;
     while i < Register::ACTORS {
-        ids[i] = k.list[i].id;
-        kinds[i] = k.list[i].kind;
-        owners[i] = k.list[i].owner;
+        columns.ids[i] = k.list[i].id;
+        columns.kinds[i] = k.list[i].kind;
+        columns.owners[i] = k.list[i].owner;
         i += 1;
     }
-    ActorColumns { ids, kinds, owners }
+    columns
 }
 
 // The resources' columns, in one pass.
 pub fn resource_columns(k: Resources) -> ResourceColumns
     ensures { λ r. ⌜ r ≡ resourceColumns (k .list) ⌝ }
 {
-    let mut ids = [0u32; Register::RESOURCES];
-    let mut keepers = [0u32; Register::RESOURCES];
-    let mut publics = [0u32; Register::RESOURCES];
+    let mut columns = ResourceColumns {
+        ids: [0; Register::RESOURCES],
+        keepers: [0; Register::RESOURCES],
+        publics: [0; Register::RESOURCES],
+    };
     let mut i: usize = 0;
     while i < Register::RESOURCES {
-        ids[i] = k.list[i].id;
-        keepers[i] = k.list[i].keeper;
-        publics[i] = k.list[i].public;
+        columns.ids[i] = k.list[i].id;
+        columns.keepers[i] = k.list[i].keeper;
+        columns.publics[i] = k.list[i].public;
         i += 1;
     }
-    ResourceColumns {
-        ids,
-        keepers,
-        publics,
-    }
+    columns
 }
 
 // The claims' columns, in one pass.
 pub fn claim_columns(k: Claims) -> ClaimColumns
     ensures { λ r. ⌜ r ≡ claimColumns (k .list) ⌝ }
 {
-    let mut ids = [0u32; Register::CLAIMS];
-    let mut parents = [0u32; Register::CLAIMS];
-    let mut grantors = [0u32; Register::CLAIMS];
-    let mut holders = [0u32; Register::CLAIMS];
-    let mut claimed = [0u32; Register::CLAIMS];
-    let mut rights = [0u32; Register::CLAIMS];
-    let mut weights = [0u32; Register::CLAIMS];
-    let mut expiries = [0u64; Register::CLAIMS];
+    let mut columns = ClaimColumns {
+        ids: [0; Register::CLAIMS],
+        parents: [0; Register::CLAIMS],
+        grantors: [0; Register::CLAIMS],
+        holders: [0; Register::CLAIMS],
+        claimed: [0; Register::CLAIMS],
+        rights: [0; Register::CLAIMS],
+        weights: [0; Register::CLAIMS],
+        expiries: [0; Register::CLAIMS],
+    };
     let mut i: usize = 0;
     while i < Register::CLAIMS {
-        ids[i] = k.list[i].id;
-        parents[i] = k.list[i].parent;
-        grantors[i] = k.list[i].grantor;
-        holders[i] = k.list[i].holder;
-        claimed[i] = k.list[i].resource;
-        rights[i] = k.list[i].rights;
-        weights[i] = k.list[i].weight;
-        expiries[i] = k.list[i].expiry;
+        columns.ids[i] = k.list[i].id;
+        columns.parents[i] = k.list[i].parent;
+        columns.grantors[i] = k.list[i].grantor;
+        columns.holders[i] = k.list[i].holder;
+        columns.claimed[i] = k.list[i].resource;
+        columns.rights[i] = k.list[i].rights;
+        columns.weights[i] = k.list[i].weight;
+        columns.expiries[i] = k.list[i].expiry;
         i += 1;
     }
-    ClaimColumns {
-        ids,
-        parents,
-        grantors,
-        holders,
-        claimed,
-        rights,
-        weights,
-        expiries,
-    }
+    columns
 }
 
 // The lesser of two numbers.

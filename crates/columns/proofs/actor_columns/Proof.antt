@@ -12,10 +12,13 @@ use Rattle.columns.proofs.actor_columns.Statement.{statement}
 use Rattle.columns.proofs.actor_columns.Tie as tie
 
 abbrev Inv-loop : tie.InvT-loop
-Inv-loop k ids₀ kinds₀ owners₀ i₀ ids kinds owners i = Filling actorId (k .list) actorLimit i ids × Filling kindOf (k .list) actorLimit i kinds × Filling ownerOf (k .list) actorLimit i owners
+Inv-loop k columns₀ i₀ columns i =
+    Filling actorId (k .list) actorLimit i (columns .ids)
+    × Filling kindOf (k .list) actorLimit i (columns .kinds)
+    × Filling ownerOf (k .list) actorLimit i (columns .owners)
 
 abbrev μ-loop : tie.MeasureT-loop
-μ-loop k ids₀ kinds₀ owners₀ i₀ ids kinds owners i = actorLimit - i
+μ-loop k columns₀ i₀ columns i = actorLimit - i
 
 loop-holds : tie.Need-loop-holds Inv-loop μ-loop
 loop-holds c =

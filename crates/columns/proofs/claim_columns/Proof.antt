@@ -12,18 +12,18 @@ use Rattle.columns.proofs.claim_columns.Statement.{statement}
 use Rattle.columns.proofs.claim_columns.Tie as tie
 
 abbrev Inv-loop : tie.InvT-loop
-Inv-loop k ids₀ parents₀ grantors₀ holders₀ claimed₀ rights₀ weights₀ expiries₀ i₀ ids parents grantors holders claimed rights weights expiries i =
-    Filling claimId (k .list) claimLimit i ids
-    × Filling parentOf (k .list) claimLimit i parents
-    × Filling grantorOf (k .list) claimLimit i grantors
-    × Filling holderOf (k .list) claimLimit i holders
-    × Filling claimedOf (k .list) claimLimit i claimed
-    × Filling rightsOf (k .list) claimLimit i rights
-    × Filling weightOf (k .list) claimLimit i weights
-    × Filling expiryOf (k .list) claimLimit i expiries
+Inv-loop k columns₀ i₀ columns i =
+    Filling claimId (k .list) claimLimit i (columns .ids)
+    × Filling parentOf (k .list) claimLimit i (columns .parents)
+    × Filling grantorOf (k .list) claimLimit i (columns .grantors)
+    × Filling holderOf (k .list) claimLimit i (columns .holders)
+    × Filling claimedOf (k .list) claimLimit i (columns .claimed)
+    × Filling rightsOf (k .list) claimLimit i (columns .rights)
+    × Filling weightOf (k .list) claimLimit i (columns .weights)
+    × Filling expiryOf (k .list) claimLimit i (columns .expiries)
 
 abbrev μ-loop : tie.MeasureT-loop
-μ-loop k ids₀ parents₀ grantors₀ holders₀ claimed₀ rights₀ weights₀ expiries₀ i₀ ids parents grantors holders claimed rights weights expiries i = claimLimit - i
+μ-loop k columns₀ i₀ columns i = claimLimit - i
 
 loop-holds : tie.Need-loop-holds Inv-loop μ-loop
 loop-holds c =

@@ -12,10 +12,13 @@ use Rattle.columns.proofs.resource_columns.Statement.{statement}
 use Rattle.columns.proofs.resource_columns.Tie as tie
 
 abbrev Inv-loop : tie.InvT-loop
-Inv-loop k ids₀ keepers₀ publics₀ i₀ ids keepers publics i = Filling resourceId (k .list) resourceLimit i ids × Filling keeperOf (k .list) resourceLimit i keepers × Filling publicOf (k .list) resourceLimit i publics
+Inv-loop k columns₀ i₀ columns i =
+    Filling resourceId (k .list) resourceLimit i (columns .ids)
+    × Filling keeperOf (k .list) resourceLimit i (columns .keepers)
+    × Filling publicOf (k .list) resourceLimit i (columns .publics)
 
 abbrev μ-loop : tie.MeasureT-loop
-μ-loop k ids₀ keepers₀ publics₀ i₀ ids keepers publics i = resourceLimit - i
+μ-loop k columns₀ i₀ columns i = resourceLimit - i
 
 loop-holds : tie.Need-loop-holds Inv-loop μ-loop
 loop-holds c =
