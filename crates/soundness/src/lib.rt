@@ -1,6 +1,6 @@
 // Whether a register is sound, for every register whatever its counts and content. The claims are judged one after the other in list
-// order, each over those before it and by itself; where what they name stands is found for all of them at once. Each of the two
-// judgements extracts the columns that it looks at: columns that are used near by cost less than columns that are shared.
+// order, over those before it and by itself, by columns that are extracted once and lent; where what a claim names stands is found
+// once for all claims.
 ghost use mathlib.Core.Path.{_≡_};
 ghost use mathlib.Core.Bool.{true};
 ghost use mathlib.Core.List.{map};
@@ -9,7 +9,7 @@ ghost use Rattle.lists.specs.Lists.{every};
 ghost use Rattle.register.specs.Limits.{actorLimit, resourceLimit, claimLimit};
 ghost use Rattle.register.specs.Register.{actorsOf, resourcesOf, claimsOf};
 ghost use Rattle.register.specs.Chain.{latest};
-ghost use Rattle.columns.specs.Columns.{actorId, resourceId};
+ghost use Rattle.columns.specs.Columns.{actorId, resourceId, claimId, parentOf, grantorOf, holderOf, claimedOf};
 ghost use Rattle.rules.specs.Sound.{distinct, worldOf, alone, sound};
 ghost use Rattle.over.specs.Judged.{standOver};
 use register::Actors;
@@ -17,20 +17,21 @@ use register::Claims;
 use register::Register;
 use register::Resources;
 
-// Whether each claim is as it should be over those before it. The place of each parent, and of an earlier claim of the same id, is found
-// once; the hops of the claims that were judged are kept.
-fn claims_over(k: Claims) -> bool
-    requires { ⌜ k .count ≤ claimLimit ⌝ }
+// Whether each claim is as it should be over those before it. The columns are those of the claims; the hops of the claims that were judged
+// are kept, and each parent's place is found once.
+fn claims_over<'a>(
+    k: Claims,
+    ids: &'a [u32],
+    parents: &'a [u32],
+    grantors: &'a [u32],
+    holders: &'a [u32],
+) -> bool
+    requires { ⌜ (k .count ≤ claimLimit) × (now ids ≡ map claimId (k .list)) × (now parents ≡ map parentOf (k .list)) × (now grantors ≡ map grantorOf (k .list)) × (now holders ≡ map holderOf (k .list)) ⌝ }
     ensures { λ r. ⌜ r ≡ standOver (latest (claimsOf k)) ⌝ }
 {
-    let claims = columns::claim_columns(k);
-    let ids = claims.ids;
-    let parents = claims.parents;
-    let grantors = claims.grantors;
-    let holders = claims.holders;
     let n = k.count;
-    let ups = finding::earlier_places(&ids, &parents, n, Register::CLAIMS);
-    let twins = finding::earlier_places(&ids, &ids, n, Register::CLAIMS);
+    let ups = finding::earlier_places(ids, parents, n, Register::CLAIMS);
+    let twins = finding::earlier_places(ids, ids, n, Register::CLAIMS);
     let mut hops = [0usize; Register::CLAIMS];
     let mut i: usize = 0;
     while i < n {
@@ -48,7 +49,7 @@ fn claims_over(k: Claims) -> bool
             }
             let p = k.list[up];
             let steps = hops[up];
-            if !over::stands_over(&ups, &grantors, &holders, up, steps, p, c) {
+            if !over::stands_over(&ups, grantors, holders, up, steps, p, c) {
                 return false;
             }
             hops[i] = steps + 1;
@@ -58,10 +59,17 @@ fn claims_over(k: Claims) -> bool
     true
 }
 
-// Whether each claim is as it should be by itself, where the ids of the actors and of the resources are distinct. The places of the actors
-// and of the resource that each names are found once.
-fn claims_alone(a: Actors, o: Resources, k: Claims) -> bool
-    requires { ⌜ (a .count ≤ actorLimit) × (o .count ≤ resourceLimit) × (k .count ≤ claimLimit) × (distinct (map actorId (actorsOf a)) ≡ true) × (distinct (map resourceId (resourcesOf o)) ≡ true) ⌝ }
+// Whether each claim is as it should be by itself, where the ids of the actors and of the resources are distinct. The columns are those
+// of the claims; where the actors and the resource that each names stand is found once.
+fn claims_alone<'a>(
+    a: Actors,
+    o: Resources,
+    k: Claims,
+    grantors: &'a [u32],
+    holders: &'a [u32],
+    claimed: &'a [u32],
+) -> bool
+    requires { ⌜ (a .count ≤ actorLimit) × (o .count ≤ resourceLimit) × (k .count ≤ claimLimit) × (distinct (map actorId (actorsOf a)) ≡ true) × (distinct (map resourceId (resourcesOf o)) ≡ true) × (now grantors ≡ map grantorOf (k .list)) × (now holders ≡ map holderOf (k .list)) × (now claimed ≡ map claimedOf (k .list)) ⌝ }
     ensures { λ r. ⌜ r ≡ every (alone (worldOf (actorsOf a) (resourcesOf o))) (claimsOf k) ⌝ }
 {
     let actors = columns::actor_columns(a);
@@ -71,14 +79,10 @@ fn claims_alone(a: Actors, o: Resources, k: Claims) -> bool
     let resources = columns::resource_columns(o);
     let reports = resources.ids;
     let keepers = resources.keepers;
-    let claims = columns::claim_columns(k);
-    let grantors = claims.grantors;
-    let holders = claims.holders;
-    let claimed = claims.claimed;
     let top = k.count;
-    let granting = finding::places_of(&known, a.count, &grantors, top, Register::CLAIMS);
-    let holding = finding::places_of(&known, a.count, &holders, top, Register::CLAIMS);
-    let reported = finding::places_of(&reports, o.count, &claimed, top, Register::CLAIMS);
+    let granting = finding::places_of(&known, a.count, grantors, top, Register::CLAIMS);
+    let holding = finding::places_of(&known, a.count, holders, top, Register::CLAIMS);
+    let reported = finding::places_of(&reports, o.count, claimed, top, Register::CLAIMS);
     let mut i: usize = 0;
     while i < top {
         let c = k.list[i];
@@ -117,8 +121,15 @@ pub fn is_sound(r: Register) -> bool
     if !world::resources_sound(a, o) {
         return false;
     }
-    if !claims_over(k) {
+    let claims = columns::claim_columns(k);
+    if !claims_over(
+        k,
+        &claims.ids,
+        &claims.parents,
+        &claims.grantors,
+        &claims.holders,
+    ) {
         return false;
     }
-    claims_alone(a, o, k)
+    claims_alone(a, o, k, &claims.grantors, &claims.holders, &claims.claimed)
 }

@@ -6,7 +6,7 @@ use native.Mathlib.Omega.{arith}
 use borrow.Author.Tests.{not-true, not-false}
 use lib.ListN.{length, getD}
 use Rattle.lists.specs.Loops.{length-mapped}
-use Rattle.register.specs.Limits.{actorLimit, resourceLimit, claimLimit}
+use Rattle.register.specs.Limits.{actorLimit, resourceLimit}
 use Rattle.register.specs.Register.{noClaim}
 use Rattle.alone.specs.Judged.{aloneAt}
 use Rattle.soundness.proofs.Judging.{Looked, foundAt, Judged, judged-none, judged-next, alone-failed, alone-passed}
@@ -15,14 +15,14 @@ use Rattle.soundness.proofs.claims_alone.Statement.{statement}
 use Rattle.soundness.proofs.claims_alone.Tie as tie
 
 abbrev Inv-loop : tie.InvT-loop
-Inv-loop k kinds owners keepers top granting holding reported i₀ i =
+Inv-loop grantors holders claimed k kinds owners keepers top granting holding reported i₀ i =
     Judged (k .list) top (foundAt kinds owners keepers granting holding reported) i
     × (length kinds ≡ actorLimit)
     × (length owners ≡ actorLimit)
     × (length keepers ≡ resourceLimit)
 
 abbrev μ-loop : tie.MeasureT-loop
-μ-loop k kinds owners keepers top granting holding reported i₀ i = top - i
+μ-loop grantors holders claimed k kinds owners keepers top granting holding reported i₀ i = top - i
 
 actor-columns-requires : tie.Need-actor-columns-requires Inv-loop μ-loop
 actor-columns-requires c κs = search needs
@@ -30,62 +30,33 @@ actor-columns-requires c κs = search needs
 resource-columns-requires : tie.Need-resource-columns-requires Inv-loop μ-loop
 resource-columns-requires c κs = search needs
 
-claim-columns-requires : tie.Need-claim-columns-requires Inv-loop μ-loop
-claim-columns-requires c κs = search needs
+slice-aggregate-places-of : tie.Need-slice-aggregate-places-of Inv-loop μ-loop
+slice-aggregate-places-of c = search needs
 
--- the columns are as long as the lists
-known-long : (e : tie.After-actor-columns Inv-loop μ-loop) → length (e .actor-columns .result .ids) ≡ actorLimit
-known-long e = search needs
+places-of-requires : tie.Need-places-of-requires Inv-loop μ-loop
+places-of-requires c κs = search needs
 
+slice-aggregate-places-of-2 : tie.Need-slice-aggregate-places-of-2 Inv-loop μ-loop
+slice-aggregate-places-of-2 c = search needs
+
+places-of-requires-2 : tie.Need-places-of-requires-2 Inv-loop μ-loop
+places-of-requires-2 c κs = search needs
+
+slice-aggregate-places-of-3 : tie.Need-slice-aggregate-places-of-3 Inv-loop μ-loop
+slice-aggregate-places-of-3 c = search needs
+
+places-of-requires-3 : tie.Need-places-of-requires-3 Inv-loop μ-loop
+places-of-requires-3 c κs = search needs
+
+-- the actors' columns are as long as their list
 kinds-long : (e : tie.After-actor-columns Inv-loop μ-loop) → length (e .actor-columns .result .kinds) ≡ actorLimit
 kinds-long e = search needs
 
 owners-long : (e : tie.After-actor-columns Inv-loop μ-loop) → length (e .actor-columns .result .owners) ≡ actorLimit
 owners-long e = search needs
 
-reports-long : (e : tie.After-resource-columns Inv-loop μ-loop) → length (e .resource-columns .result .ids) ≡ resourceLimit
-reports-long e = search needs
-
-keepers-long : (e : tie.After-resource-columns Inv-loop μ-loop) → length (e .resource-columns .result .keepers) ≡ resourceLimit
-keepers-long e = search needs
-
-claimed-long : (e : tie.After-claim-columns Inv-loop μ-loop) → length (e .claim-columns .result .claimed) ≡ claimLimit
-claimed-long e = search needs
-
-slice-aggregate-places-of : tie.Need-slice-aggregate-places-of Inv-loop μ-loop
-slice-aggregate-places-of c = let long = known-long (c .before .before .before .before .before .before .before .before .before .before .before) in search needs
-
-slice-aggregate-places-of-2 : tie.Need-slice-aggregate-places-of-2 Inv-loop μ-loop
-slice-aggregate-places-of-2 c = search needs
-
-places-of-requires : tie.Need-places-of-requires Inv-loop μ-loop
-places-of-requires c κs = search needs
-
-slice-aggregate-places-of-3 : tie.Need-slice-aggregate-places-of-3 Inv-loop μ-loop
-slice-aggregate-places-of-3 c = let long = known-long (c .before .before .before .before .before .before .before .before .before .before .before .before .before .before) in search needs
-
-slice-aggregate-places-of-4 : tie.Need-slice-aggregate-places-of-4 Inv-loop μ-loop
-slice-aggregate-places-of-4 c = search needs
-
-places-of-requires-2 : tie.Need-places-of-requires-2 Inv-loop μ-loop
-places-of-requires-2 c κs = search needs
-
-slice-aggregate-places-of-5 : tie.Need-slice-aggregate-places-of-5 Inv-loop μ-loop
-slice-aggregate-places-of-5 c = let long = reports-long (c .before .before .before .before .before .before .before .before .before .before .before .before .before) in search needs
-
-slice-aggregate-places-of-6 : tie.Need-slice-aggregate-places-of-6 Inv-loop μ-loop
-slice-aggregate-places-of-6 c = let long = claimed-long (c .before .before .before .before .before .before .before .before .before .before .before) in search needs
-
-places-of-requires-3 : tie.Need-places-of-requires-3 Inv-loop μ-loop
-places-of-requires-3 c κs = search needs
-
 loop-holds : tie.Need-loop-holds Inv-loop μ-loop
-loop-holds c = (
-  judged-none (omega (arith, c .before .before .before .before .before .before .before .before .before .before .before .before .before .before .before .before .before .before .before .before .pre .2)),
-  kinds-long (c .before .before .before .before .before .before .before .before .before .before .before .before .before .before .before .before .before .before .before),
-  owners-long (c .before .before .before .before .before .before .before .before .before .before .before .before .before .before .before .before .before .before .before),
-  keepers-long (c .before .before .before .before .before .before .before .before .before .before .before .before .before .before .before),
-)
+loop-holds c = (judged-none (search needs), kinds-long (c .before .before .before .before .before .before .before .before .before .before .before .before), owners-long (c .before .before .before .before .before .before .before .before .before .before .before .before), search needs)
 
 mul-c : tie.Need-mul-c Inv-loop μ-loop
 mul-c c = search needs
@@ -132,22 +103,17 @@ array-read-stands-alone c = search needs
 stands-alone-requires : tie.Need-stands-alone-requires Inv-loop μ-loop
 stands-alone-requires c κs = search needs
 
--- the array has the register's places
-places : (s : tie.Start Inv-loop μ-loop) → length (s .args .t3 .list) ≡ claimLimit
-places s = search (needs, length-mapped)
-
 -- what was looked up is what 01 asks
 told : (e : tie.After-places-of3 Inv-loop μ-loop) →
-    Looked (e .before .before .before .before .before .before .before .before .before .before .before .before .before .before .before .before .before .before .before .before .args .a .list) (e .before .before .before .before .before .before .before .before .before .before .before .before .before .before .before .before .before .before .before .before .args .a .count) (e .before .before .before .before .before .before .before .before .before .before .before .before .before .before .before .before .before .before .before .before .args .o .list) (e .before .before .before .before .before .before .before .before .before .before .before .before .before .before .before .before .before .before .before .before .args .o .count) (e .before .before .before .before .before .before .before .before .before .before .before .before .before .before .before .before .before .before .before .before .args .t3 .list) (e .before .before .before .before .before .before .before .before .before .before .before .before .before .before .before .before .before .before .before .before .args .t3 .count)
-    (e .before .before .before .before .before .before .before .before .before .before .before .before .before .before .before .before .before .before .before .actor-columns .result .kinds) (e .before .before .before .before .before .before .before .before .before .before .before .before .before .before .before .before .before .before .before .actor-columns .result .owners) (e .before .before .before .before .before .before .before .before .before .before .before .before .before .before .before .resource-columns .result .keepers)
-    (e .before .before .before .before .before .before .places-of .result) (e .before .before .before .places-of2 .result) (e .places-of3 .result)
+    Looked (e .before .before .before .before .before .before .before .before .before .before .before .before .before .before .before .before .args .a .list) (e .before .before .before .before .before .before .before .before .before .before .before .before .before .before .before .before .args .a .count) (e .before .before .before .before .before .before .before .before .before .before .before .before .before .before .before .before .args .o .list) (e .before .before .before .before .before .before .before .before .before .before .before .before .before .before .before .before .args .o .count) (e .before .before .before .before .before .before .before .before .before .before .before .before .before .before .before .before .args .t3 .list) (e .before .before .before .before .before .before .before .before .before .before .before .before .before .before .before .before .args .t3 .count)
+    (e .before .before .before .before .before .before .before .before .before .before .before .before .actor-columns .result .kinds) (e .before .before .before .before .before .before .before .before .before .before .before .before .actor-columns .result .owners) (e .before .before .before .before .before .before .before .before .resource-columns .result .keepers)
+    (e .before .before .before .before .places-of .result) (e .before .before .places-of2 .result) (e .places-of3 .result)
 told e =
-    let start = e .before .before .before .before .before .before .before .before .before .before .before .before .before .before .before .before .before .before .before .before in
-    let actors = e .before .before .before .before .before .before .before .before .before .before .before .before .before .before .before .before .before .before .before .actor-columns .ensures in
-    let resources = e .before .before .before .before .before .before .before .before .before .before .before .before .before .before .before .resource-columns .ensures in
-    let claims = e .before .before .before .before .before .before .before .before .before .before .before .before .claim-columns .ensures in
+    let start = e .before .before .before .before .before .before .before .before .before .before .before .before .before .before .before .before in
+    let actors = e .before .before .before .before .before .before .before .before .before .before .before .before .actor-columns .ensures in
+    let resources = e .before .before .before .before .before .before .before .before .resource-columns .ensures in
     record {
-      long = places start;
+      long = search (needs, length-mapped);
       short = start .pre .2;
       few = omega (arith, start .pre .0);
       apart = start .pre .3;
@@ -156,24 +122,25 @@ told e =
       kinded = ap (λ r. r .kinds) actors;
       owned = ap (λ r. r .owners) actors;
       kept = ap (λ r. r .keepers) resources;
-      granted = e .before .before .before .before .before .before .places-of .ensures ∙ rw (ap (λ r. r .ids) actors, ap (λ r. r .grantors) claims);
-      held = e .before .before .before .places-of2 .ensures ∙ rw (ap (λ r. r .ids) actors, ap (λ r. r .holders) claims);
-      listed = e .places-of3 .ensures ∙ rw (ap (λ r. r .ids) resources, ap (λ r. r .claimed) claims);
+      granted = e .before .before .before .before .places-of .ensures ∙ rw (ap (λ r. r .ids) actors, start .pre .5);
+      held = e .before .before .places-of2 .ensures ∙ rw (ap (λ r. r .ids) actors, start .pre .6);
+      listed = e .places-of3 .ensures ∙ rw (ap (λ r. r .ids) resources, start .pre .7);
     }
 
 -- what is asked of the claim at a place is asked by what was looked up of it
 asked : (e : tie.After-stands-alone Inv-loop μ-loop) →
     e .stands-alone .result
-    ≡ aloneAt (getD (e .before .before .before .before .before .before .before .before .before .before .before .before .before .before .before .before .before .before .before .before .before .before .before .before .before .before .before .before .before .before .args .t3 .list) (e .before .before .before .before .before .before .before .before .before .loop .i) noClaim)
-    (foundAt (e .before .before .before .before .before .before .before .before .before .before .before .before .before .before .before .before .before .before .before .before .before .before .before .before .before .before .before .before .before .actor-columns .result .kinds) (e .before .before .before .before .before .before .before .before .before .before .before .before .before .before .before .before .before .before .before .before .before .before .before .before .before .before .before .before .before .actor-columns .result .owners) (e .before .before .before .before .before .before .before .before .before .before .before .before .before .before .before .before .before .before .before .before .before .before .before .before .before .resource-columns .result .keepers)
-    (e .before .before .before .before .before .before .before .before .before .before .before .before .before .before .before .before .places-of .result) (e .before .before .before .before .before .before .before .before .before .before .before .before .before .places-of2 .result) (e .before .before .before .before .before .before .before .before .before .before .places-of3 .result) (e .before .before .before .before .before .before .before .before .before .loop .i))
+    ≡ aloneAt (getD (e .before .before .before .before .before .before .before .before .before .before .before .before .before .before .before .before .before .before .before .before .before .before .before .before .before .before .args .t3 .list) (e .before .before .before .before .before .before .before .before .before .loop .i) noClaim)
+    (foundAt (e .before .before .before .before .before .before .before .before .before .before .before .before .before .before .before .before .before .before .before .before .before .before .actor-columns .result .kinds) (e .before .before .before .before .before .before .before .before .before .before .before .before .before .before .before .before .before .before .before .before .before .before .actor-columns .result .owners) (e .before .before .before .before .before .before .before .before .before .before .before .before .before .before .before .before .before .before .resource-columns .result .keepers)
+    (e .before .before .before .before .before .before .before .before .before .before .before .before .before .before .places-of .result) (e .before .before .before .before .before .before .before .before .before .before .before .before .places-of2 .result) (e .before .before .before .before .before .before .before .before .before .before .places-of3 .result) (e .before .before .before .before .before .before .before .before .before .loop .i))
 asked e = e .stands-alone .ensures ∙ rw (e .before .before .before .before .before .number-at .ensures, e .before .before .before .number-at2 .ensures, e .before .number-at3 .ensures)
 
 returns : tie.Need-returns Inv-loop μ-loop
 returns c =
     let turn = c .before .before .before .before .before .before .before .before .before .before in
+    let i = turn .loop .i in
     sym
-    (alone-failed (told (turn .before)) (turn .loop .i) (c .before .before .before .before .before .before .before .before .before .loop-test .taken)
+    (alone-failed (told (turn .before)) i (c .before .before .before .before .before .before .before .before .before .loop-test .taken)
     (sym (asked (c .before)) ∙ not-true _ (c .if1 .taken)))
 
 add-i : tie.Need-add-i Inv-loop μ-loop
@@ -202,15 +169,11 @@ claims-alone-spec =
     μ-loop
     actor-columns-requires
     resource-columns-requires
-    claim-columns-requires
     slice-aggregate-places-of
-    slice-aggregate-places-of-2
     places-of-requires
-    slice-aggregate-places-of-3
-    slice-aggregate-places-of-4
+    slice-aggregate-places-of-2
     places-of-requires-2
-    slice-aggregate-places-of-5
-    slice-aggregate-places-of-6
+    slice-aggregate-places-of-3
     places-of-requires-3
     loop-holds
     mul-c

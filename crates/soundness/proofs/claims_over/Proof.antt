@@ -4,9 +4,8 @@ use mathlib.Core.Path.{_≡_, sym, ap, _∙_}
 use Prim.Native.Nat.{_-_}
 use native.Mathlib.Omega.{arith}
 use borrow.Author.Tests.{not-true, not-false}
-use lib.ListN.{length, take}
+use lib.ListN.{take}
 use Rattle.lists.specs.Loops.{length-mapped}
-use Rattle.register.specs.Limits.{claimLimit}
 use Rattle.register.specs.Chain.{latest}
 use Rattle.over.specs.Judged.{standOver}
 use Rattle.soundness.proofs.Climbing.{Tables, Climbed, climbed-none, twin-failed, root-passed, parent-failed, over-failed, over-passed, steps-below}
@@ -15,51 +14,31 @@ use Rattle.soundness.proofs.claims_over.Statement.{statement}
 use Rattle.soundness.proofs.claims_over.Tie as tie
 
 abbrev Inv-loop : tie.InvT-loop
-Inv-loop k grantors holders n ups twins hops₀ i₀ hops i =
-    Tables (k .list) n grantors holders ups twins
-    × Climbed (k .list) n hops i
-    × (length grantors ≡ claimLimit)
-    × (length holders ≡ claimLimit)
+Inv-loop ids parents grantors holders k n ups twins hops₀ i₀ hops i =
+    Tables (k .list) n grantors holders ups twins × Climbed (k .list) n hops i
 
 abbrev μ-loop : tie.MeasureT-loop
-μ-loop k grantors holders n ups twins hops₀ i₀ hops i = n - i
-
-claim-columns-requires : tie.Need-claim-columns-requires Inv-loop μ-loop
-claim-columns-requires c κs = search needs
-
-slice-aggregate-earlier-places : tie.Need-slice-aggregate-earlier-places Inv-loop μ-loop
-slice-aggregate-earlier-places c = search needs
-
-slice-aggregate-earlier-places-2 : tie.Need-slice-aggregate-earlier-places-2 Inv-loop μ-loop
-slice-aggregate-earlier-places-2 c = search needs
+μ-loop ids parents grantors holders k n ups twins hops₀ i₀ hops i = n - i
 
 earlier-places-requires : tie.Need-earlier-places-requires Inv-loop μ-loop
 earlier-places-requires c κs = search needs
-
-slice-aggregate-earlier-places-3 : tie.Need-slice-aggregate-earlier-places-3 Inv-loop μ-loop
-slice-aggregate-earlier-places-3 c = search needs
-
-slice-aggregate-earlier-places-4 : tie.Need-slice-aggregate-earlier-places-4 Inv-loop μ-loop
-slice-aggregate-earlier-places-4 c = search needs
 
 earlier-places-requires-2 : tie.Need-earlier-places-requires-2 Inv-loop μ-loop
 earlier-places-requires-2 c κs = search needs
 
 loop-holds : tie.Need-loop-holds Inv-loop μ-loop
 loop-holds c =
-    let start = c .before .before .before .before .before .before .before .before .before .before .before in
-    let columns = c .before .before .before .before .before .before .before .before .before .before .claim-columns .ensures in (
+    let start = c .before .before .before .before .before .before in
+    let pre = start .pre in (
       record {
         long = search (needs, length-mapped);
-        short = start .pre;
-        granted = ap (λ r. r .grantors) columns;
-        held = ap (λ r. r .holders) columns;
-        parents = c .before .before .before .earlier-places .ensures ∙ rw (ap (λ r. r .ids) columns, ap (λ r. r .parents) columns);
-        doubles = c .earlier-places2 .ensures ∙ rw (ap (λ r. r .ids) columns);
+        short = pre .0;
+        granted = pre .3;
+        held = pre .4;
+        parents = c .before .earlier-places .ensures ∙ rw (pre .1, pre .2);
+        doubles = c .earlier-places2 .ensures ∙ rw (pre .1);
       },
       climbed-none (start .args .t1 .list) (start .args .t1 .count) _ (search needs),
-      search needs,
-      search needs,
     )
 
 mul-if1 : tie.Need-mul-if1 Inv-loop μ-loop
@@ -95,9 +74,8 @@ loop-again : tie.Need-loop-again Inv-loop μ-loop
 loop-again c =
     let turn = c .before .before .before .before .before in (
       turn .loop .inv .0,
-      root-passed (turn .loop .inv .0) (c .before .before .before .before .loop-test .taken) (c .before .before .before .if1 .left) (turn .loop .inv .1) (c .if2 .taken),
-      turn .loop .inv .2,
-      turn .loop .inv .3,
+      root-passed (turn .loop .inv .0) (c .before .before .before .before .loop-test .taken) (c .before .before .before .if1 .left)
+          (turn .loop .inv .1) (c .if2 .taken),
     )
 
 mul-up : tie.Need-mul-up Inv-loop μ-loop
@@ -110,7 +88,8 @@ returns-2 : tie.Need-returns-2 Inv-loop μ-loop
 returns-2 c =
     let turn = c .before .before .before .before .before .before in
     sym
-    (parent-failed (turn .loop .inv .0) (c .before .before .before .before .before .loop-test .taken) (c .before .before .before .before .if1 .left) (c .before .if2 .left) (c .if3 .taken))
+    (parent-failed (turn .loop .inv .0) (c .before .before .before .before .before .loop-test .taken) (c .before .before .before .before .if1 .left)
+    (c .before .if2 .left) (c .if3 .taken))
 
 mul-p : tie.Need-mul-p Inv-loop μ-loop
 mul-p c = search needs
@@ -127,35 +106,29 @@ array-read-steps c = search needs
 slice-aggregate-stands-over : tie.Need-slice-aggregate-stands-over Inv-loop μ-loop
 slice-aggregate-stands-over c = search needs
 
-slice-aggregate-stands-over-2 : tie.Need-slice-aggregate-stands-over-2 Inv-loop μ-loop
-slice-aggregate-stands-over-2 c = search needs
-
-slice-aggregate-stands-over-3 : tie.Need-slice-aggregate-stands-over-3 Inv-loop μ-loop
-slice-aggregate-stands-over-3 c = search needs
-
 stands-over-requires : tie.Need-stands-over-requires Inv-loop μ-loop
 stands-over-requires c κs = search needs
 
 returns-3 : tie.Need-returns-3 Inv-loop μ-loop
 returns-3 c =
-    let turn = c .before .before .before .before .before .before .before .before .before .before .before .before in
+    let turn = c .before .before .before .before .before .before .before .before .before .before in
     sym
-    (over-failed (turn .loop .inv .0) (c .before .before .before .before .before .before .before .before .before .before .before .loop-test .taken)
-    (c .before .before .before .before .before .before .before .before .before .before .if1 .left)
-    (c .before .before .before .before .before .before .before .if2 .left)
-    (c .before .before .before .before .before .before .if3 .left)
+    (over-failed (turn .loop .inv .0) (c .before .before .before .before .before .before .before .before .before .loop-test .taken)
+    (c .before .before .before .before .before .before .before .before .if1 .left)
+    (c .before .before .before .before .before .if2 .left)
+    (c .before .before .before .before .if3 .left)
     (turn .loop .inv .1)
     (c .before .stands-over .ensures)
     (not-true _ (c .if4 .taken)))
 
 add-hops : tie.Need-add-hops Inv-loop μ-loop
 add-hops c =
-    let turn = c .before .before .before .before .before .before .before .before .before .before .before .before in
+    let turn = c .before .before .before .before .before .before .before .before .before .before in
     let below =
-    steps-below (turn .loop .inv .0) (c .before .before .before .before .before .before .before .before .before .before .before .loop-test .taken)
-    (c .before .before .before .before .before .before .before .before .before .before .if1 .left)
-    (c .before .before .before .before .before .before .before .if2 .left)
-    (c .before .before .before .before .before .before .if3 .left)
+    steps-below (turn .loop .inv .0) (c .before .before .before .before .before .before .before .before .before .loop-test .taken)
+    (c .before .before .before .before .before .before .before .before .if1 .left)
+    (c .before .before .before .before .before .if2 .left)
+    (c .before .before .before .before .if3 .left)
     (turn .loop .inv .1)
     (c .before .stands-over .ensures)
     (not-false _ (c .if4 .left)) in
@@ -175,25 +148,22 @@ loop-less-2 c = search needs
 
 loop-again-2 : tie.Need-loop-again-2 Inv-loop μ-loop
 loop-again-2 c =
-    let turn = c .before .before .before .before .before .before .before .before .before .before .before .before in (
+    let turn = c .before .before .before .before .before .before .before .before .before .before in (
       turn .loop .inv .0,
-      over-passed (turn .loop .inv .0) (c .before .before .before .before .before .before .before .before .before .before .before .loop-test .taken)
-          (c .before .before .before .before .before .before .before .before .before .before .if1 .left)
-          (c .before .before .before .before .before .before .before .if2 .left)
-          (c .before .before .before .before .before .before .if3 .left)
+      over-passed (turn .loop .inv .0) (c .before .before .before .before .before .before .before .before .before .loop-test .taken)
+          (c .before .before .before .before .before .before .before .before .if1 .left)
+          (c .before .before .before .before .before .if2 .left)
+          (c .before .before .before .before .if3 .left)
           (turn .loop .inv .1)
           (c .before .stands-over .ensures)
           (not-false _ (c .if4 .left)),
-      turn .loop .inv .2,
-      turn .loop .inv .3,
     )
 
 returns-4 : tie.Need-returns-4 Inv-loop μ-loop
 returns-4 c =
     let end = c .before in
-    let k = end .before .before .before .before .before .before .before .before .before .before .before .before .args .t1 in
-    let whole : end .loop .i ≡ k .count = omega (arith, end .loop .inv .1 .within, c .loop-test .left) in
-    sym (ap (λ i. standOver (latest (take i (k .list)))) (sym whole) ∙ end .loop .inv .1 .stands)
+    let whole : end .loop .i ≡ end .before .before .before .before .before .before .before .args .t1 .count = omega (arith, end .loop .inv .1 .within, c .loop-test .left) in
+    sym (ap (λ i. standOver (latest (take i (end .before .before .before .before .before .before .before .args .t1 .list)))) (sym whole) ∙ end .loop .inv .1 .stands)
 
 pub claims-over-spec : {M : Type 1} → statement M
 claims-over-spec =
@@ -201,12 +171,7 @@ claims-over-spec =
     (tie.spec
     Inv-loop
     μ-loop
-    claim-columns-requires
-    slice-aggregate-earlier-places
-    slice-aggregate-earlier-places-2
     earlier-places-requires
-    slice-aggregate-earlier-places-3
-    slice-aggregate-earlier-places-4
     earlier-places-requires-2
     loop-holds
     mul-if1
@@ -227,8 +192,6 @@ claims-over-spec =
     mul-steps
     array-read-steps
     slice-aggregate-stands-over
-    slice-aggregate-stands-over-2
-    slice-aggregate-stands-over-3
     stands-over-requires
     returns-3
     add-hops

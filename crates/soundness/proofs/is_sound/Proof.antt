@@ -1,14 +1,14 @@
 -- `soundness::is_sound` meets its contract: the first part that fails decides, and past them all the claims do (`Whole`): over those before
 -- them, and else by themselves (`Judging`). Assumes nothing.
-use mathlib.Core.Path.{_≡_, sym, _∙_}
-use mathlib.Core.Bool.{true, false}
+use mathlib.Core.Path.{_≡_, sym, ap, _∙_}
+use mathlib.Core.Bool.{Bool, true, false}
 use Prim.Native.Nat.{_≤_}
 use borrow.Author.Needs.{needs}
 use borrow.Author.Tests.{not-true, not-false}
 use Rattle.register.specs.Limits.{actorLimit, resourceLimit, claimLimit}
 use Rattle.register.specs.Register.{actorsOf, resourcesOf, claimsOf}
 use Rattle.register.specs.declared.Register.{Register}
-use Rattle.rules.specs.Sound.{worldOf, soundActors, soundResources}
+use Rattle.rules.specs.Sound.{worldOf, soundActors, soundResources, sound}
 use Rattle.rules.specs.Registers.{sound-actors-out, sound-resources-out}
 use Rattle.soundness.proofs.Judging.{over-failed, alone-decides}
 use Rattle.soundness.proofs.Whole.{actors-over, resources-over, claims-over, actors-unsound, resources-unsound, claims-decide}
@@ -58,13 +58,23 @@ passed e = record {
   tidy = sym (e .before .resources-sound .ensures) ∙ not-false _ (e .if5 .left);
 }
 
+claim-columns-requires : tie.Need-claim-columns-requires
+claim-columns-requires c κs = search needs
+
 claims-over-requires : tie.Need-claims-over-requires
-claims-over-requires c κs = passed c .short
+claims-over-requires c κs =
+    let columns = c .before .before .before .before .before .before .before .before .before .claim-columns .ensures in (
+      passed (c .before .before .before .before .before .before .before .before .before .before) .short,
+      ap (λ r. r .ids) columns,
+      ap (λ r. r .parents) columns,
+      ap (λ r. r .grantors) columns,
+      ap (λ r. r .holders) columns,
+    )
 
 returns-6 : tie.Need-returns-6
 returns-6 c =
-    let r = c .before .before .before .before .before .before .before .before .before .before .before .before .before .before .before .args .r in
-    let p = passed (c .before .before) in
+    let r = c .before .before .before .before .before .before .before .before .before .before .before .before .before .before .before .before .before .before .before .before .before .before .before .before .before .args .r in
+    let p = passed (c .before .before .before .before .before .before .before .before .before .before .before .before) in
     claims-decide r (p .few) (p .scant) (p .short) (p .sane) (p .tidy) false
     (sym
     (over-failed (worldOf (actorsOf (r .actors)) (resourcesOf (r .resources))) (claimsOf (r .claims))
@@ -72,24 +82,28 @@ returns-6 c =
 
 claims-alone-requires : tie.Need-claims-alone-requires
 claims-alone-requires c κs =
-    let r = c .before .before .before .before .before .before .before .before .before .before .before .before .before .before .before .args .r in
-    let p = passed (c .before .before) in (
+    let r = c .before .before .before .before .before .before .before .before .before .before .before .before .before .before .before .before .before .before .before .before .before .before .before .before .before .before .before .before .before .before .before .before .args .r in
+    let p = passed (c .before .before .before .before .before .before .before .before .before .before .before .before .before .before .before .before .before .before .before) in
+    let columns = c .before .before .before .before .before .before .before .before .before .before .before .before .before .before .before .before .before .before .claim-columns .ensures in (
       p .few,
       p .scant,
       p .short,
       sound-actors-out (actorsOf (r .actors)) (p .sane) .apart,
       sound-resources-out (actorsOf (r .actors)) (resourcesOf (r .resources)) (p .tidy) .apart,
+      ap (λ r. r .grantors) columns,
+      ap (λ r. r .holders) columns,
+      ap (λ r. r .claimed) columns,
     )
 
 returns-7 : tie.Need-returns-7
 returns-7 c =
-    let r = c .before .before .before .before .before .before .before .before .before .before .before .before .before .before .before .before .args .r in
-    let p = passed (c .before .before .before) in
+    let r = c .before .before .before .before .before .before .before .before .before .before .before .before .before .before .before .before .before .before .before .before .before .before .before .before .before .before .before .before .before .before .before .before .before .args .r in
+    let p = passed (c .before .before .before .before .before .before .before .before .before .before .before .before .before .before .before .before .before .before .before .before) in
     claims-decide r (p .few) (p .scant) (p .short) (p .sane) (p .tidy) (c .claims-alone .result)
     (c .claims-alone .ensures
     ∙ sym
     (alone-decides (worldOf (actorsOf (r .actors)) (resourcesOf (r .resources))) (claimsOf (r .claims))
-    (sym (c .before .before .claims-over .ensures) ∙ not-false _ (c .before .if6 .left))))
+    (sym (c .before .before .before .before .before .before .before .before .before .claims-over .ensures) ∙ not-false _ (c .before .before .before .before .before .before .before .before .if6 .left))))
 
 pub is-sound-spec : {M : Type 1} → statement M
 is-sound-spec =
@@ -102,6 +116,7 @@ is-sound-spec =
     returns-4
     resources-sound-requires
     returns-5
+    claim-columns-requires
     claims-over-requires
     returns-6
     claims-alone-requires
