@@ -26,11 +26,11 @@ use Rattle.gate.specs.declared.View.{View}
 
 -- what is told of the view of a register is told of the register
 module _ (r : Register) (a : Action) {v : View} (viewed : v ≡ viewOf r) where
-  pub outcome-seen : {outcome : Outcome} → outcome ≡ outcomeOf (lentTests (v .actors .ids) (r .actors .count) a) → outcome ≡ outcomeOf (actionTests r a)
-  outcome-seen e = e ∙ ap (λ w. outcomeOf (lentTests (w .actors .ids) (r .actors .count) a)) viewed ∙ ap outcomeOf (tests-natural r a)
+  pub outcome-seen : {outcome : Outcome} → outcome ≡ outcomeOf (lentTests (v .actors .ids) (v .counts .actors) a) → outcome ≡ outcomeOf (actionTests r a)
+  outcome-seen e = e ∙ ap (λ w. outcomeOf (lentTests (w .actors .ids) (w .counts .actors) a)) viewed ∙ ap outcomeOf (tests-natural r a)
 
-  pub judged-seen : Typed r → {judged : UsesJudged} → judged ≡ judgedBy (lentOf r v) a → judged ≡ actionJudged r a
-  judged-seen typed e = e ∙ ap (λ w. judgedBy (lentOf r w) a) viewed ∙ view-natural r typed a
+  pub judged-seen : Typed r → {judged : UsesJudged} → judged ≡ judgedBy (lentOf v) a → judged ≡ actionJudged r a
+  judged-seen typed e = e ∙ ap (λ w. judgedBy (lentOf w) a) viewed ∙ view-natural r typed a
 
 -- permitted means an empty list
 decided-natural : (vs : List Violation) → cond (eqb (length vs) 0) Permitted Refused ≡ decided vs

@@ -27,14 +27,21 @@ use Rattle.gate.specs.Judged.{besides, viewOf, Lent, machineBy, ownerBy,
 use Rattle.gate.specs.declared.View.{View}
 
 -- columns that are each the register's are its view
-pub viewed : (r : Register) {actors : ActorColumns} {resources : ResourceColumns} {claims : ClaimColumns} {paths : Paths} {spots tops ups : List ℕ}
+pub viewed : (r : Register) {actors : ActorColumns} {resources : ResourceColumns} {claims : ClaimColumns} {paths : Paths} {spots ups : List ℕ}
     → actors ≡ actorColumns (r .actors .list) → resources ≡ resourceColumns (r .resources .list) → claims ≡ claimColumns (r .claims .list)
     → paths ≡ laid (r .resources) → spots ≡ placesOf (resources .ids) (r .resources .count) (claims .claimed) (r .claims .count) resourceLimit
-    → tops ≡ placesOf (claims .ids) (r .claims .count) (claims .parents) (r .claims .count) claimLimit
     → ups ≡ earlierPlaces (claims .ids) (claims .parents) (r .claims .count) claimLimit
-    → _≡_ {A = View} (record { actors = actors; resources = resources; claims = claims; paths = paths; spots = spots; tops = tops; ups = ups }) (viewOf r)
-viewed r of-actors of-resources of-claims of-paths of-spots of-tops of-ups =
-    rw (of-spots, of-tops, of-ups, of-actors, of-resources, of-claims, of-paths)
+    → _≡_ {A = View} (record {
+      counts = record { actors = r .actors .count; resources = r .resources .count; claims = r .claims .count };
+      actors = actors;
+      resources = resources;
+      claims = claims;
+      paths = paths;
+      spots = spots;
+      ups = ups;
+    }) (viewOf r)
+viewed r of-actors of-resources of-claims of-paths of-spots of-ups =
+    rw (of-spots, of-ups, of-actors, of-resources, of-claims, of-paths)
 
 module _ (l : Lent) (a : Action) {machine : Bool} {owner asked : ℕ} {vs : Violations} {own theirs : Gathered} {y : UsesJudged} where
   -- the uses judged by what was gathered, behind the other violations
@@ -52,7 +59,6 @@ module _ (l : Lent) (a : Action) {machine : Bool} {owner asked : ℕ} {vs : Viol
         lens = l .lens;
         publics = l .publics;
         parents = l .parents;
-        tops = l .tops;
         ups = l .ups;
       }) (l .reports) (l .resources) a vs
       → y ≡ judgedBy l a

@@ -19,7 +19,7 @@ use Rattle.violations.specs.Pushed.{pushedAll}
 use Rattle.flat_paths.specs.Laid.{laid}
 use Rattle.gathering.specs.Gathering.{heldPlaces}
 use Rattle.use_judging.specs.Uses.{Sight}
-use Rattle.sights.specs.Sights.{ownerAt, ownerIn, spotsOf, topsOf, upsOf, sightOf}
+use Rattle.sights.specs.Sights.{ownerAt, ownerIn, spotsOf, upsOf, sightOf}
 use Rattle.uses_judging.specs.Judging.{usesJudged}
 use Rattle.uses_judging.specs.declared.UsesJudged.{UsesJudged}
 use Rattle.gate.specs.declared.View.{View}
@@ -38,12 +38,12 @@ actionJudged r a =
 -- what is looked at of a register, taken out of it
 abbrev pub viewOf : Register → View
 viewOf r = record {
+  counts = record { actors = r .actors .count; resources = r .resources .count; claims = r .claims .count };
   actors = actorColumns (r .actors .list);
   resources = resourceColumns (r .resources .list);
   claims = claimColumns (r .claims .list);
   paths = laid (r .resources);
   spots = spotsOf r;
-  tops = topsOf r;
   ups = upsOf r;
 }
 
@@ -64,20 +64,19 @@ pub record Lent : Type 0 where
   pub weights : List ℕ
   pub expiries : List ℕ
   pub spots : List ℕ
-  pub tops : List ℕ
   pub ups : List ℕ
   pub claims : ℕ
 
--- those of a register's view
-abbrev pub lentOf : Register → View → Lent
-lentOf r v = record {
+-- those of a view
+abbrev pub lentOf : View → Lent
+lentOf v = record {
   names = v .actors .ids;
   kinds = v .actors .kinds;
   owners = v .actors .owners;
-  actors = r .actors .count;
+  actors = v .counts .actors;
   reports = v .resources .ids;
   publics = v .resources .publics;
-  resources = r .resources .count;
+  resources = v .counts .resources;
   bytes = v .paths .bytes;
   lens = v .paths .lens;
   parents = v .claims .parents;
@@ -86,9 +85,8 @@ lentOf r v = record {
   weights = v .claims .weights;
   expiries = v .claims .expiries;
   spots = v .spots;
-  tops = v .tops;
   ups = v .ups;
-  claims = r .claims .count;
+  claims = v .counts .claims;
 }
 
 -- tests 2 and 3, over the ids of the first n actors
@@ -119,7 +117,6 @@ module _ (l : Lent) where
     lens = l .lens;
     publics = l .publics;
     parents = l .parents;
-    tops = l .tops;
     ups = l .ups;
   }
 

@@ -87,12 +87,12 @@ turned a b = iff-same (eqb a b) (eqb b a) (λ t. eq-eqb b a (sym (eqb-true a b t
 
 module _ (r : Register) where
   -- tests 2 and 3 by the ids of the actors
-  pub tests-natural : (a : Action) → lentTests (viewOf r .actors .ids) (r .actors .count) a ≡ actionTests r a
+  pub tests-natural : (a : Action) → lentTests (viewOf r .actors .ids) (viewOf r .counts .actors) a ≡ actionTests r a
   unfolding actionTests
   tests-natural a = rw (among-natural actorId (a .actor) (r .actors .count) (r .actors .list))
 
   -- a machine, by the columns of ids and kinds
-  machine-natural : (x : ℕ) → machineBy (lentOf r (viewOf r)) x ≡ isMachine r x
+  machine-natural : (x : ℕ) → machineBy (lentOf (viewOf r)) x ≡ isMachine r x
   unfolding isMachine
   machine-natural x =
       beside-natural actorId kindOf x machineKind (r .actors .count) (r .actors .list)
@@ -107,7 +107,7 @@ module _ (r : Register) where
     theirs-natural false x now =
         held-none (map holderOf (r .claims .list)) (map weightOf (r .claims .list)) (map expiryOf (r .claims .list)) x now
 
-    sight-natural : (now x : ℕ) → sightBy (lentOf r (viewOf r)) now x ≡ sightOf r now x
+    sight-natural : (now x : ℕ) → sightBy (lentOf (viewOf r)) now x ≡ sightOf r now x
     sight-natural now x =
         rw (
           machine-natural x,
@@ -116,6 +116,6 @@ module _ (r : Register) where
         )
 
     -- an action judged by what is lent of a register's view is judged by the register
-    pub view-natural : (a : Action) → judgedBy (lentOf r (viewOf r)) a ≡ actionJudged r a
+    pub view-natural : (a : Action) → judgedBy (lentOf (viewOf r)) a ≡ actionJudged r a
     unfolding judgedBy
     view-natural a = rw (sight-natural (a .now) (a .actor), machine-natural (a .actor))

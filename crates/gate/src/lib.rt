@@ -30,15 +30,22 @@ use register::Actor;
 use register::Register;
 use uses_judging::UsesJudged;
 
-// What the gate looks at of a register: the columns of its lists, the paths, the place of each claim's resource, 64 for none, and those of its
-// parent among all claims and among those before it, 256 for none.
+// How many actors, resources and claims a register has.
+pub struct Counts {
+    pub actors: usize,
+    pub resources: usize,
+    pub claims: usize,
+}
+
+// What the gate looks at of a register: the columns of its lists with their counts, the paths, the place of each claim's resource, 64 for none,
+// and that of its parent among the claims before it, 256 for none. The counts stand here so that the register need not be kept.
 pub struct View {
+    pub counts: Counts,
     pub actors: ActorColumns,
     pub resources: ResourceColumns,
     pub claims: ClaimColumns,
     pub paths: Paths,
     pub spots: [usize; Register::CLAIMS],
-    pub tops: [usize; Register::CLAIMS],
     pub ups: [usize; Register::CLAIMS],
 }
 
@@ -60,21 +67,19 @@ pub fn view_of(r: Register) -> View
         c.count,
         Register::RESOURCES,
     );
-    let tops = finding::places_of(
-        &claims.ids,
-        c.count,
-        &claims.parents,
-        c.count,
-        Register::CLAIMS,
-    );
     let ups = finding::earlier_places(&claims.ids, &claims.parents, c.count, Register::CLAIMS);
+    let counts = Counts {
+        actors: a.count,
+        resources: o.count,
+        claims: c.count,
+    };
     View {
+        counts,
         actors,
         resources,
         claims,
         paths,
         spots,
-        tops,
         ups,
     }
 }
@@ -131,12 +136,11 @@ pub fn judge_by<'a>(
     weights: &'a [u32],
     expiries: &'a [u64],
     spots: &'a [usize],
-    tops: &'a [usize],
     ups: &'a [usize],
     claims: usize,
     a: Action,
 ) -> UsesJudged
-    ensures { λ y. ⌜ y ≡ judgedBy (record { names = now (names .entry); kinds = now (kinds .entry); owners = now (owners .entry); actors = actors; reports = now (reports .entry); publics = now (publics .entry); resources = resources; bytes = now (bytes .entry); lens = now (lens .entry); parents = now (parents .entry); holders = now (holders .entry); rights = now (rights .entry); weights = now (weights .entry); expiries = now (expiries .entry); spots = now (spots .entry); tops = now (tops .entry); ups = now (ups .entry); claims = claims }) a ⌝ }
+    ensures { λ y. ⌜ y ≡ judgedBy (record { names = now (names .entry); kinds = now (kinds .entry); owners = now (owners .entry); actors = actors; reports = now (reports .entry); publics = now (publics .entry); resources = resources; bytes = now (bytes .entry); lens = now (lens .entry); parents = now (parents .entry); holders = now (holders .entry); rights = now (rights .entry); weights = now (weights .entry); expiries = now (expiries .entry); spots = now (spots .entry); ups = now (ups .entry); claims = claims }) a ⌝ }
 {
     let machine = columns::is_beside(names, kinds, actors, a.actor, Actor::MACHINE);
     let owner = owner_of(names, owners, actors, a.actor);
@@ -161,7 +165,6 @@ pub fn judge_by<'a>(
         reports,
         resources,
         parents,
-        tops,
         ups,
     )
 }
@@ -220,7 +223,7 @@ pub fn gate(r: Register, a: Action) -> Verdict
         return stopped(Refusal::Unsound);
     }
     let v = view_of(r);
-    let outcome = action_outcome(&v.actors.ids, r.actors.count, a);
+    let outcome = action_outcome(&v.actors.ids, v.counts.actors, a);
     match outcome {
         Outcome::Refused(why) => stopped(why),
         Outcome::Accepted => {
@@ -228,10 +231,10 @@ pub fn gate(r: Register, a: Action) -> Verdict
                 &v.actors.ids,
                 &v.actors.kinds,
                 &v.actors.owners,
-                r.actors.count,
+                v.counts.actors,
                 &v.resources.ids,
                 &v.resources.publics,
-                r.resources.count,
+                v.counts.resources,
                 &v.paths.bytes,
                 &v.paths.lens,
                 &v.claims.parents,
@@ -240,9 +243,8 @@ pub fn gate(r: Register, a: Action) -> Verdict
                 &v.claims.weights,
                 &v.claims.expiries,
                 &v.spots,
-                &v.tops,
                 &v.ups,
-                r.claims.count,
+                v.counts.claims,
                 a,
             );
             decided(judged)

@@ -113,9 +113,9 @@ module _ {l : Lent} {p : Plan} {top : ℕ} where
 
 -- the verdicts by what is lent of the view of a register are those of the plan
 pub planned-lent : (r : Register) (p : Plan) → Typed r → haltOf r p ≡ runs → {v : View} → v ≡ viewOf r → {answer : PlanVerdict}
-    → answer ≡ held (judgementsBy (lentOf r v) false (actionsOf p)) → answer ≡ planned r p
+    → answer ≡ held (judgementsBy (lentOf v) false (actionsOf p)) → answer ≡ planned r p
 planned-lent r p typed e viewed answered =
     let passed = halt-runs r p e in
-    answered ∙ ap (λ w. held (judgementsBy (lentOf r w) false (actionsOf p))) viewed
+    answered ∙ ap (λ w. held (judgementsBy (lentOf w) false (actionsOf p))) viewed
     ∙ ap held (judgements-natural r typed (passed .soundly) false (actionsOf p) (passed .fit))
     ∙ sym (planned-runs r p e)

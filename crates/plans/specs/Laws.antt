@@ -40,7 +40,7 @@ module _ (names : List ℕ) (n i : ℕ) where
   unfolding haltBy
   halt-by-fail a actions why e = rw e
 
-pub halt-natural : (r : Register) (i : ℕ) (actions : List Action) → haltBy (viewOf r .actors .ids) (r .actors .count) i actions ≡ firstHalt r i actions
+pub halt-natural : (r : Register) (i : ℕ) (actions : List Action) → haltBy (viewOf r .actors .ids) (viewOf r .counts .actors) i actions ≡ firstHalt r i actions
 unfolding haltBy firstHalt
 halt-natural r i [] = refl
 halt-natural r i (a ∷ actions) = rw (tests-natural r a, halt-natural r (suc i) actions)
@@ -64,15 +64,15 @@ judged-counted (v ∷ vs) = refl
 
 module _ (r : Register) (typed : Typed r) (h : sound r ≡ true) where
   -- the verdict on an action in range
-  verdict-natural : (a : Action) → Fit r a → judgedAs (judgedBy (lentOf r (viewOf r)) a .violations .count) ≡ judged (violationsOf r a)
+  verdict-natural : (a : Action) → Fit r a → judgedAs (judgedBy (lentOf (viewOf r)) a .violations .count) ≡ judged (violationsOf r a)
   verdict-natural a fit =
       ap (λ y. judgedAs (y .violations .count)) (view-natural r typed a ∙ judged-natural r typed h a (fit .fits)) ∙ judged-counted (violationsOf r a)
 
   -- the verdicts on actions in range
   pub judgements-natural : (cancelled : Bool) (actions : List Action) → All (λ a. Fit r a) actions
-      → judgementsBy (lentOf r (viewOf r)) cancelled actions ≡ judgements r cancelled actions
-  judgements-natural cancelled [] fit = judgements-by-nil (lentOf r (viewOf r)) cancelled ∙ sym (judgements-nil r cancelled)
+      → judgementsBy (lentOf (viewOf r)) cancelled actions ≡ judgements r cancelled actions
+  judgements-natural cancelled [] fit = judgements-by-nil (lentOf (viewOf r)) cancelled ∙ sym (judgements-nil r cancelled)
   judgements-natural cancelled (a ∷ actions) fit =
-      judgements-by-cons (lentOf r (viewOf r)) cancelled a actions
+      judgements-by-cons (lentOf (viewOf r)) cancelled a actions
       ∙ rw (verdict-natural a (fit .0), judgements-natural (cancelled || not (eqb (a .flags) 0)) actions (fit .1))
       (sym (judgements-cons r cancelled a actions))

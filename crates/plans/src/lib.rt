@@ -84,13 +84,12 @@ fn judge<'a>(
     weights: &'a [u32],
     expiries: &'a [u64],
     spots: &'a [usize],
-    tops: &'a [usize],
     ups: &'a [usize],
     claims: usize,
     a: Action,
     cancelled: bool,
 ) -> Judgement
-    ensures { λ v. ⌜ v ≡ cond cancelled Judgement.Cancelled (judgedAs (judgedBy (record { names = now (names .entry); kinds = now (kinds .entry); owners = now (owners .entry); actors = actors; reports = now (reports .entry); publics = now (publics .entry); resources = resources; bytes = now (bytes .entry); lens = now (lens .entry); parents = now (parents .entry); holders = now (holders .entry); rights = now (rights .entry); weights = now (weights .entry); expiries = now (expiries .entry); spots = now (spots .entry); tops = now (tops .entry); ups = now (ups .entry); claims = claims }) a .violations .count)) ⌝ }
+    ensures { λ v. ⌜ v ≡ cond cancelled Judgement.Cancelled (judgedAs (judgedBy (record { names = now (names .entry); kinds = now (kinds .entry); owners = now (owners .entry); actors = actors; reports = now (reports .entry); publics = now (publics .entry); resources = resources; bytes = now (bytes .entry); lens = now (lens .entry); parents = now (parents .entry); holders = now (holders .entry); rights = now (rights .entry); weights = now (weights .entry); expiries = now (expiries .entry); spots = now (spots .entry); ups = now (ups .entry); claims = claims }) a .violations .count)) ⌝ }
 {
     if cancelled {
         return Judgement::Cancelled;
@@ -111,7 +110,6 @@ fn judge<'a>(
         weights,
         expiries,
         spots,
-        tops,
         ups,
         claims,
         a,
@@ -140,12 +138,11 @@ fn judge_all<'a>(
     weights: &'a [u32],
     expiries: &'a [u64],
     spots: &'a [usize],
-    tops: &'a [usize],
     ups: &'a [usize],
     claims: usize,
     p: Plan,
 ) -> PlanVerdict
-    ensures { λ v. ⌜ v ≡ held (judgementsBy (record { names = now (names .entry); kinds = now (kinds .entry); owners = now (owners .entry); actors = actors; reports = now (reports .entry); publics = now (publics .entry); resources = resources; bytes = now (bytes .entry); lens = now (lens .entry); parents = now (parents .entry); holders = now (holders .entry); rights = now (rights .entry); weights = now (weights .entry); expiries = now (expiries .entry); spots = now (spots .entry); tops = now (tops .entry); ups = now (ups .entry); claims = claims }) false (actionsOf p)) ⌝ }
+    ensures { λ v. ⌜ v ≡ held (judgementsBy (record { names = now (names .entry); kinds = now (kinds .entry); owners = now (owners .entry); actors = actors; reports = now (reports .entry); publics = now (publics .entry); resources = resources; bytes = now (bytes .entry); lens = now (lens .entry); parents = now (parents .entry); holders = now (holders .entry); rights = now (rights .entry); weights = now (weights .entry); expiries = now (expiries .entry); spots = now (spots .entry); ups = now (ups .entry); claims = claims }) false (actionsOf p)) ⌝ }
 {
     let top = columns::least(p.count, Plan::ACTIONS);
     let none = Judged {
@@ -172,7 +169,6 @@ fn judge_all<'a>(
             weights,
             expiries,
             spots,
-            tops,
             ups,
             claims,
             a,
@@ -201,7 +197,7 @@ pub fn plan(r: Register, p: Plan) -> PlanVerdict
         return stopped(Refusal::OutOfRange, 0);
     }
     let v = gate::view_of(r);
-    let stop = first_stop(&v.actors.ids, r.actors.count, p);
+    let stop = first_stop(&v.actors.ids, v.counts.actors, p);
     let outcome = stop.outcome;
     match outcome {
         Outcome::Refused(why) => stopped(why, stop.position),
@@ -209,10 +205,10 @@ pub fn plan(r: Register, p: Plan) -> PlanVerdict
             &v.actors.ids,
             &v.actors.kinds,
             &v.actors.owners,
-            r.actors.count,
+            v.counts.actors,
             &v.resources.ids,
             &v.resources.publics,
-            r.resources.count,
+            v.counts.resources,
             &v.paths.bytes,
             &v.paths.lens,
             &v.claims.parents,
@@ -221,9 +217,8 @@ pub fn plan(r: Register, p: Plan) -> PlanVerdict
             &v.claims.weights,
             &v.claims.expiries,
             &v.spots,
-            &v.tops,
             &v.ups,
-            r.claims.count,
+            v.counts.claims,
             p,
         ),
     }

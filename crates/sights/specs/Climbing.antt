@@ -2,7 +2,7 @@
 use mathlib.Core.Path.{_≡_, sym, ap}
 use mathlib.Core.Bool.{not, _&&_, cond}
 use mathlib.Core.List.{List}
-use Prim.Native.Nat.{ℕ, zero, suc, _-_, _≤_, _<_, min}
+use Prim.Native.Nat.{ℕ, zero, suc, _≤_, _<_, min}
 use native.Mathlib.Omega.{arith}
 use borrow.Author.Tests.{lt-ltb, eqb-true, eqb-false}
 use lib.Dec.{eqb, ltb}
@@ -11,24 +11,18 @@ use Rattle.lists.specs.Tests.{cases}
 use Rattle.lists.specs.Lists.{any}
 use Rattle.register.specs.Limits.{hopLimit, claimLimit}
 use Rattle.columns.specs.Columns.{latestPlace, chainPlaces}
-use Rattle.columns.specs.Laws.{place-cases, place-found, nowhere-none, none-nowhere, chain-places-zero, chain-places-at, chain-places-nowhere}
+use Rattle.columns.specs.Laws.{place-cases, place-found, nowhere-none, place-among, chain-places-zero, chain-places-at, chain-places-nowhere}
 use Rattle.columns.specs.declared.Place.the-variants.{At}
-use Rattle.finding.specs.Finding.{numberOf, asked, placesOf, earlierPlaces}
-use Rattle.finding.specs.Laws.{places-at, earlier-at}
+use Rattle.finding.specs.Finding.{numberOf, asked, earlierPlaces}
+use Rattle.finding.specs.Laws.{earlier-at}
 use Rattle.use_judging.specs.Uses.{climbed, hopsFrom, parentlessAt}
 
 module _ (ids parents : List ℕ) (n : ℕ) (few : n ≤ claimLimit) (long : n ≤ length parents) where
-  abbrev tops : List ℕ
-  tops = placesOf ids n parents n claimLimit
-
   abbrev ups : List ℕ
   ups = earlierPlaces ids parents n claimLimit
 
   all-asked : (j : ℕ) → j < n → j < asked n parents
   all-asked j h = omega arith
-
-  all-sought : min n claimLimit ≡ n
-  all-sought = omega arith
 
   -- a step up from the number p among the first m, where the steps behind it are known
   step : (left m p : ℕ) → m ≤ n
@@ -51,24 +45,20 @@ module _ (ids parents : List ℕ) (n : ℕ) (few : n ≤ claimLimit) (long : n �
       rw (earlier-at ids parents n claimLimit k claimLimit (all-asked k h))
       (step left k (getD parents k 0) (omega arith) (λ i below. climbs left i (omega arith)))
 
-  -- the hop count of the claim at a place is the number of steps of its chain, up to the limit
-  pub hops-climbed : (j : ℕ) → j < n → hopsFrom parents tops ups (At j) ≡ min hopLimit (length (chainPlaces ids parents n (getD parents j 0)))
-  hops-climbed j h =
-      rw (places-at ids n parents n claimLimit j claimLimit (all-asked j h), all-sought)
-      (step (hopLimit - 1) n (getD parents j 0) (omega arith) (climbs (hopLimit - 1)))
+  -- the hop count of the claim at a place is the number of steps of its chain among the claims before it, up to the limit
+  pub hops-climbed : (j : ℕ) → j < n → hopsFrom parents ups (At j) ≡ min hopLimit (length (chainPlaces ids parents j (getD parents j 0)))
+  hops-climbed j h = climbs hopLimit j h
 
-  found-among : (p : ℕ) → ltb (numberOf claimLimit (latestPlace ids n p)) claimLimit ≡ any (eqb p) (take n ids)
-  found-among p =
-      place-cases (latestPlace ids n p)
-      (λ i q. let inside : i < claimLimit = omega (arith, place-found ids p n i q .0) in
-      rw (q, lt-ltb i claimLimit inside)
-      (cases (any (eqb p) (take n ids)) sym
-      (λ none. let never : _≡_ {A = ℕ} 0 1 = cc (none-nowhere ids p n none) in absurd (omega arith))))
-      (λ q. rw q (sym (nowhere-none ids p n q)))
+  found-among : (j p : ℕ) → j < n → ltb (numberOf claimLimit (latestPlace ids j p)) claimLimit ≡ any (eqb p) (take j ids)
+  found-among j p h =
+      place-cases (latestPlace ids j p)
+      (λ i q. let inside : i < claimLimit = omega (arith, place-found ids p j i q .0) in
+      rw (q, lt-ltb i claimLimit inside) (sym (place-among ids p j i q)))
+      (λ q. rw q (sym (nowhere-none ids p j q)))
 
-  -- a claim is parentless where its parent's number is no claim's
+  -- a claim is parentless where its parent's number is no claim's before it
   pub parentless-found : (j : ℕ) → j < n
-      → parentlessAt parents tops (At j) ≡ not (eqb (getD parents j 0) 0) && not (any (eqb (getD parents j 0)) (take n ids))
+      → parentlessAt parents ups (At j) ≡ not (eqb (getD parents j 0) 0) && not (any (eqb (getD parents j 0)) (take j ids))
   parentless-found j h =
-      rw (places-at ids n parents n claimLimit j claimLimit (all-asked j h), all-sought)
-      (ap (λ b. not (eqb (getD parents j 0) 0) && not b) (found-among (getD parents j 0)))
+      rw (earlier-at ids parents n claimLimit j claimLimit (all-asked j h))
+      (ap (λ b. not (eqb (getD parents j 0) 0) && not b) (found-among j (getD parents j 0) h))

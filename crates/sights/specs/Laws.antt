@@ -1,15 +1,18 @@
 -- The judgement of a use by columns is 01's: the violations and the hop count of the use. Assumes nothing.
 use mathlib.Core.Path.{_≡_, refl, sym, ap, _∙_}
-use mathlib.Core.Bool.{Bool, true, false, not, _&&_, cond, or-false, and-assoc}
-use mathlib.Core.List.{List, [], _∷_, map}
-use Prim.Native.Nat.{ℕ, _≤_, _<_}
+use mathlib.Core.Bool.{Bool, true, false, not, _&&_, cond, or-false, and-false, and-assoc}
+use mathlib.Core.List.{List, [], _∷_, _++_, map}
+use Prim.Native.Nat.{ℕ, suc, _≤_, _<_}
 use native.Mathlib.Omega.{arith}
+use borrow.Author.Tests.{eqb-false}
 use lib.Dec.{eqb}
-use lib.ListN.{length, getD, length-map, length-take, List·getD-map}
-use Rattle.lists.specs.Lists.{any}
-use Rattle.lists.specs.Each.{All, all-unmap, all-imp, all-both}
+use lib.ListN.{length, getD, take, drop, length-map, length-take, List·getD-map}
+use lib.Seq.{split-at, getD-take, take-take}
+use Rattle.lists.specs.Tests.{cases}
+use Rattle.lists.specs.Lists.{any, any-reverse}
+use Rattle.lists.specs.Each.{all-imp}
 use Rattle.register.specs.Limits.{claimLimit, machineKind}
-use Rattle.register.specs.Register.{actorsOf, claimsOf, noActor, noClaim}
+use Rattle.register.specs.Register.{actorsOf, resourcesOf, claimsOf, noActor, noClaim}
 use Rattle.register.specs.Chain.{latest, hopsOf}
 use Rattle.register.specs.declared.Actor.{Actor}
 use Rattle.register.specs.declared.Register.{Register}
@@ -17,19 +20,22 @@ use Rattle.columns.specs.Columns.{actorId, ownerOf, publicOf, claimId, parentOf
 use Rattle.columns.specs.Laws.{among-natural, chain-natural}
 use Rattle.columns.specs.declared.Place.{Place}
 use Rattle.columns.specs.declared.Place.the-variants.{At, Nowhere}
-use Rattle.rules.specs.Sound.{sound}
+use Rattle.rules.specs.Sound.{World, worldOf, soundClaims, sound}
 use Rattle.rules.specs.Registers.{sound-out}
+use Rattle.rules.specs.Places.{place-parent}
+use Rattle.rules.specs.Chains.{place-hops-whole}
 use Rattle.actions.specs.declared.Usage.{Usage}
 use Rattle.actions.specs.declared.Violation.the-variants.{NotCovered as UseNotCovered, OwnerNotCovering as UseOwnerNotCovering, ParentGone as UseParentGone}
 use Rattle.verdicts.specs.Gate.{covers, isMachine, ownerLacks, parentless, parentGone, useViolation, hopsIn, hopsFor}
-use Rattle.verdicts.specs.Places.{Place as Stands, each-place}
+use Rattle.verdicts.specs.Places.{Place as Stands, latest-split}
+use Rattle.verdicts.specs.Coverage.{sound-place, parent-stands}
 use Rattle.verdicts.specs.Trace.{place-hops-most}
 use Rattle.use_judging.specs.Uses.{openTo, hopsFrom, parentlessAt, coveredBy, faultOf, reliedOn, useJudged}
 use Rattle.gathering.specs.Gathering.{coverPlaces}
-use Rattle.sights.specs.Sights.{Typed, ownerAt, ownerIn, ownedIn, topsOf, upsOf, sightOf, spotFor, faultAt}
+use Rattle.sights.specs.Sights.{Typed, ownerAt, ownerIn, ownedIn, upsOf, sightOf, spotFor, faultAt}
 use Rattle.rules.specs.Distinct.{askedAt, asked-natural}
 use Rattle.sights.specs.Climbing.{hops-climbed, parentless-found}
-use Rattle.sights.specs.Relying.{aloneAt, claimAt, claimPlaces, firstPlace, first-any, claims-read, places-within, relied-natural, place-natural, covers-natural}
+use Rattle.sights.specs.Relying.{aloneAt, claimAt, claimPlaces, firstPlace, first-any, places-within, relied-natural, place-natural, covers-natural}
 
 -- ---- the claim relied on: its parent and its hops
 module _ (r : Register) (typed : Typed r) (h : sound r ≡ true) where
@@ -38,6 +44,9 @@ module _ (r : Register) (typed : Typed r) (h : sound r ≡ true) where
 
   abbrev parents : List ℕ
   parents = map parentOf (r .claims .list)
+
+  abbrev around : World
+  around = worldOf (actorsOf (r .actors)) (resourcesOf (r .resources))
 
   few : r .claims .count ≤ claimLimit
   few = sound-out r h .limits .claimCount
@@ -51,48 +60,72 @@ module _ (r : Register) (typed : Typed r) (h : sound r ≡ true) where
   below : (j : ℕ) → j < length (claimsOf (r .claims)) → j < r .claims .count
   below j inside = omega (arith, length-take (r .claims .count) (r .claims .list))
 
-  -- the claim at a place has a parent that does not stand where the columns say so
+  -- the claim at a place of the register stands there, behind the claims at the places below
+  abbrev stands-at : (j : ℕ) → j < length (claimsOf (r .claims)) → Stands (claimsOf (r .claims)) (claimAt r j)
+  stands-at j inside =
+      let before = take-take j (r .claims .count) (r .claims .list) (omega (arith, below j inside)) in
+      let here = getD-take (r .claims .count) (r .claims .list) j noClaim (below j inside) in
+      record {
+        before = take j (r .claims .list);
+        after = drop (suc j) (claimsOf (r .claims));
+        split = split-at (claimsOf (r .claims)) j noClaim inside
+            ∙ ap (λ l. l ++ getD (claimsOf (r .claims)) j noClaim ∷ drop (suc j) (claimsOf (r .claims))) before
+            ∙ ap (λ c. take j (r .claims .list) ++ c ∷ drop (suc j) (claimsOf (r .claims))) here;
+      }
+
+  -- in a sound register the claims around it are sound
+  sound-at : (j : ℕ) (inside : j < length (claimsOf (r .claims)))
+      → soundClaims around (latest (stands-at j inside .after) ++ claimAt r j ∷ latest (take j (r .claims .list))) ≡ true
+  sound-at j inside = sound-place r h (claimAt r j) (stands-at j inside)
+
+  -- so its parent stands before it
+  parent-before : (j : ℕ) → j < length (claimsOf (r .claims)) → (claimAt r j .parent ≡ 0 → ⊥)
+      → any (λ d. eqb (claimAt r j .parent) (d .id)) (take j (r .claims .list)) ≡ true
+  parent-before j inside other =
+      sym (any-reverse (λ d. eqb (claimAt r j .parent) (d .id)) (take j (r .claims .list)))
+      ∙ place-parent around (latest (stands-at j inside .after)) (claimAt r j) (latest (take j (r .claims .list))) (sound-at j inside) other
+
+  -- the claim at a place has a parent that stands, and the columns say so
   parentless-at : (j : ℕ) → j < length (claimsOf (r .claims))
-      → any (parentless r) (aloneAt (claimAt r) (At j)) ≡ parentlessAt parents (topsOf r) (At j)
+      → any (parentless r) (aloneAt (claimAt r) (At j)) ≡ parentlessAt parents (upsOf r) (At j)
   parentless-at j inside =
       or-false (parentless r (claimAt r j))
+      ∙ parent-stands r h (claimAt r j) (stands-at j inside)
       ∙ sym (parentless-found ids parents (r .claims .count) few long j (below j inside)
-      ∙ rw (parent-at j, among-natural claimId (claimAt r j .parent) (r .claims .count) (r .claims .list)))
+      ∙ rw (parent-at j, among-natural claimId (claimAt r j .parent) j (r .claims .list))
+      (cases (eqb (claimAt r j .parent) 0) (λ e. rw e)
+      (λ e. rw (parent-before j inside (eqb-false (claimAt r j .parent) 0 e)) (and-false (not (eqb (claimAt r j .parent) 0))))))
 
   -- the claim relied on has a parent that does not stand where the columns say so of the first place
-  pub parent-natural : (now x : ℕ) (u : Usage) → parentGone r now x u ≡ parentlessAt parents (topsOf r) (firstPlace r now x u)
+  pub parent-natural : (now x : ℕ) (u : Usage) → parentGone r now x u ≡ parentlessAt parents (upsOf r) (firstPlace r now x u)
   unfolding parentGone
   parent-natural now x u =
       ap (any (parentless r)) (relied-natural r now x u)
-      ∙ first-any (λ p. any (parentless r) (aloneAt (claimAt r) p) ≡ parentlessAt parents (topsOf r) p) _ (claimPlaces r) refl
+      ∙ first-any (λ p. any (parentless r) (aloneAt (claimAt r) p) ≡ parentlessAt parents (upsOf r) p) _ (claimPlaces r) refl
       (all-imp (λ j. j < length (claimsOf (r .claims)))
-      (λ j. any (parentless r) (aloneAt (claimAt r) (At j)) ≡ parentlessAt parents (topsOf r) (At j)) parentless-at (claimPlaces r) (places-within r))
+      (λ j. any (parentless r) (aloneAt (claimAt r) (At j)) ≡ parentlessAt parents (upsOf r) (At j)) parentless-at (claimPlaces r) (places-within r))
 
   -- the claim at a place of the register has as many hops as its chain by columns has steps
-  hops-at : (j : ℕ) → (j < length (claimsOf (r .claims))) × Stands (claimsOf (r .claims)) (claimAt r j)
-      → hopsIn r (aloneAt (claimAt r) (At j)) ≡ hopsFrom parents (topsOf r) (upsOf r) (At j)
-  hops-at j at =
-      let chained : length (chainPlaces ids parents (r .claims .count) (getD parents j 0)) ≡ hopsOf (latest (claimsOf (r .claims))) (claimAt r j) =
-      rw (parent-at j) (sym (length-map (chainPlaces ids parents (r .claims .count) (claimAt r j .parent)) (claimAt r))
-      ∙ ap length (chain-natural (r .claims .list) (r .claims .count) (claimAt r j .parent))) in
-      sym (hops-climbed ids parents (r .claims .count) few long j (below j (at .0))
-      ∙ rw chained (omega (arith, place-hops-most r h (claimAt r j) (at .1))))
-
-  -- each place of the register's claims is that of a claim that stands
-  claims-stand : All (λ j. (j < length (claimsOf (r .claims))) × Stands (claimsOf (r .claims)) (claimAt r j)) (claimPlaces r)
-  claims-stand =
-      all-both (λ j. j < length (claimsOf (r .claims))) (λ j. Stands (claimsOf (r .claims)) (claimAt r j))
-      (λ j. (j < length (claimsOf (r .claims))) × Stands (claimsOf (r .claims)) (claimAt r j)) (λ j inside at. (inside, at)) (claimPlaces r) (places-within r)
-      (all-unmap (claimAt r) (λ c. Stands (claimsOf (r .claims)) c) (claimPlaces r) (rw (claims-read r) (each-place (claimsOf (r .claims)))))
+  hops-at : (j : ℕ) → j < length (claimsOf (r .claims)) → hopsIn r (aloneAt (claimAt r) (At j)) ≡ hopsFrom parents (upsOf r) (At j)
+  hops-at j inside =
+      let at = stands-at j inside in
+      let whole : hopsOf (latest (claimsOf (r .claims))) (claimAt r j) ≡ hopsOf (latest (take j (r .claims .list))) (claimAt r j) =
+      ap (λ l. hopsOf l (claimAt r j)) (ap latest (at .split) ∙ latest-split (at .before) (claimAt r j) (at .after))
+      ∙ place-hops-whole around (latest (at .after)) (claimAt r j) (latest (take j (r .claims .list))) (sound-at j inside) in
+      let chained : length (chainPlaces ids parents j (getD parents j 0)) ≡ hopsOf (latest (claimsOf (r .claims))) (claimAt r j) =
+      rw (parent-at j) (sym (length-map (chainPlaces ids parents j (claimAt r j .parent)) (claimAt r))
+      ∙ ap length (chain-natural (r .claims .list) j (claimAt r j .parent)) ∙ sym whole) in
+      sym (hops-climbed ids parents (r .claims .count) few long j (below j inside)
+      ∙ rw chained (omega (arith, place-hops-most r h (claimAt r j) at)))
 
   -- the hop count of the claim relied on, by columns
-  pub hops-natural : (now x : ℕ) (u : Usage) → hopsFor r now x u ≡ hopsFrom parents (topsOf r) (upsOf r) (firstPlace r now x u)
+  pub hops-natural : (now x : ℕ) (u : Usage) → hopsFor r now x u ≡ hopsFrom parents (upsOf r) (firstPlace r now x u)
   unfolding hopsFor
   hops-natural now x u =
       ap (hopsIn r) (relied-natural r now x u)
-      ∙ first-any (λ p. hopsIn r (aloneAt (claimAt r) p) ≡ hopsFrom parents (topsOf r) (upsOf r) p) _ (claimPlaces r) refl
-      (all-imp (λ j. (j < length (claimsOf (r .claims))) × Stands (claimsOf (r .claims)) (claimAt r j))
-      (λ j. hopsIn r (aloneAt (claimAt r) (At j)) ≡ hopsFrom parents (topsOf r) (upsOf r) (At j)) hops-at (claimPlaces r) claims-stand)
+      ∙ first-any (λ p. hopsIn r (aloneAt (claimAt r) p) ≡ hopsFrom parents (upsOf r) p) _ (claimPlaces r) refl
+      (all-imp (λ j. j < length (claimsOf (r .claims)))
+      (λ j. hopsIn r (aloneAt (claimAt r) (At j)) ≡ hopsFrom parents (upsOf r) (At j)) hops-at (claimPlaces r) (places-within r))
 
 -- ---- the actor: whether it is a machine, and its owner
 module _ (r : Register) (h : sound r ≡ true) (x : ℕ) where
@@ -159,8 +192,8 @@ module _ (r : Register) (typed : Typed r) (h : sound r ≡ true) (now x : ℕ) (
       ∙ ap (λ b. ownedIn r x && not b) (covered-natural (ownerIn r x))
       ∙ sym (owner-natural r h x now u)
 
-  gone-natural : parentlessAt (map parentOf (r .claims .list)) (topsOf r) (place x) ≡ parentGone r now x u
-  gone-natural = ap (parentlessAt (map parentOf (r .claims .list)) (topsOf r)) (place-natural r typed h now x u x) ∙ sym (parent-natural r typed h now x u)
+  gone-natural : parentlessAt (map parentOf (r .claims .list)) (upsOf r) (place x) ≡ parentGone r now x u
+  gone-natural = ap (parentlessAt (map parentOf (r .claims .list)) (upsOf r)) (place-natural r typed h now x u x) ∙ sym (parent-natural r typed h now x u)
 
   pub fault-natural : (n : ℕ) → faultAt n (useJudged (sightOf r now x) (spotFor r u) (u .right) .fault) ≡ useViolation r now x n u
   unfolding useJudged useViolation
@@ -170,7 +203,7 @@ module _ (r : Register) (typed : Typed r) (h : sound r ≡ true) (now x : ℕ) (
   pub hop-natural : useJudged (sightOf r now x) (spotFor r u) (u .right) .hops ≡ hopsFor r now x u
   unfolding useJudged
   hop-natural =
-      ap (hopsFrom (map parentOf (r .claims .list)) (topsOf r) (upsOf r)) (place-natural r typed h now x u x) ∙ sym (hops-natural r typed h now x u)
+      ap (hopsFrom (map parentOf (r .claims .list)) (upsOf r)) (place-natural r typed h now x u x) ∙ sym (hops-natural r typed h now x u)
 
 -- a use judged by columns is the use as the gate judges it: its violations and its hop count
 pub use-natural : (r : Register) → Typed r → sound r ≡ true → (now x n : ℕ) (u : Usage)

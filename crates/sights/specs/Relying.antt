@@ -87,7 +87,7 @@ abbrev pub firstPlace : Register → ℕ → ℕ → Usage → Place
 firstPlace r now x u = firstOf (λ j. covering r now x u (claimAt r j)) (claimPlaces r)
 
 -- the claims at those places are the register's
-pub claims-read : (r : Register) → map (claimAt r) (claimPlaces r) ≡ claimsOf (r .claims)
+claims-read : (r : Register) → map (claimAt r) (claimPlaces r) ≡ claimsOf (r .claims)
 claims-read r = counted-first noClaim (r .claims .list) (r .claims .count)
 
 -- each is that of a claim

@@ -47,10 +47,7 @@ abbrev pub spotsOf : Register → List ℕ
 spotsOf r =
     placesOf (map resourceId (r .resources .list)) (r .resources .count) (map claimedOf (r .claims .list)) (r .claims .count) resourceLimit
 
--- the place of each claim's parent, and that among the claims before it
-abbrev pub topsOf : Register → List ℕ
-topsOf r = placesOf (map claimId (r .claims .list)) (r .claims .count) (map parentOf (r .claims .list)) (r .claims .count) claimLimit
-
+-- the place of each claim's parent among the claims before it
 abbrev pub upsOf : Register → List ℕ
 upsOf r = earlierPlaces (map claimId (r .claims .list)) (map parentOf (r .claims .list)) (r .claims .count) claimLimit
 
@@ -66,7 +63,6 @@ sightOf r now x = record {
   lens = laid (r .resources) .lens;
   publics = map publicOf (r .resources .list);
   parents = map parentOf (r .claims .list);
-  tops = topsOf r;
   ups = upsOf r;
 }
 

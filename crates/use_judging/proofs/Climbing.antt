@@ -30,10 +30,10 @@ module _ (parents ups : List ℕ) where
 -- so many steps were made, and those from `at` on are left
 pub record Climbing (parents ups : List ℕ) (from at steps : ℕ) : Type 0 where
   pub within : steps ≤ hopLimit
-  pub left : suc (climbed parents ups (hopLimit - 1) from) ≡ steps + climbed parents ups (hopLimit - steps) at
+  pub left : climbed parents ups hopLimit from ≡ steps + climbed parents ups (hopLimit - steps) at
 
 module _ {parents ups : List ℕ} {from : ℕ} where
-  pub climbing-start : Climbing parents ups from from 1
+  pub climbing-start : Climbing parents ups from from 0
   climbing-start = record { within = omega arith; left = omega arith }
 
   module _ {at steps : ℕ} (s : Climbing parents ups from at steps) where
@@ -48,10 +48,10 @@ module _ {parents ups : List ℕ} {from : ℕ} where
         left = s .left ∙ rw (more, climbed-up parents ups (hopLimit - (steps + 1)) at (sym e ∙ t), u) (omega arith);
       }
 
-      pub climbing-stays : {drawn : Bool} → drawn ≡ drawnAt parents ups at → drawn ≡ false → steps ≡ suc (climbed parents ups (hopLimit - 1) from)
+      pub climbing-stays : {drawn : Bool} → drawn ≡ drawnAt parents ups at → drawn ≡ false → steps ≡ climbed parents ups hopLimit from
       climbing-stays e t = sym (s .left ∙ rw (more, climbed-stays parents ups (hopLimit - (steps + 1)) at (sym e ∙ t)) (omega arith))
 
-    pub climbing-done : hopLimit ≤ steps → steps ≡ suc (climbed parents ups (hopLimit - 1) from)
+    pub climbing-done : hopLimit ≤ steps → steps ≡ climbed parents ups hopLimit from
     climbing-done h =
         let none : hopLimit - steps ≡ 0 = omega arith in
         sym (s .left ∙ rw (none, climbed-end parents ups at) (omega arith))

@@ -1,7 +1,7 @@
 -- Working definitions: a use judged by columns. What they are in 01's words is `use-natural` of sights/specs/Laws.
 use mathlib.Core.Bool.{Bool, true, false, not, _&&_, cond}
 use mathlib.Core.List.{List}
-use Prim.Native.Nat.{ℕ, zero, suc, _-_}
+use Prim.Native.Nat.{ℕ, zero, suc}
 use lib.Dec.{eqb, ltb}
 use lib.ListN.{getD}
 use Rattle.rights.specs.Rights.{reading}
@@ -17,24 +17,24 @@ use Rattle.use_judging.specs.declared.UseJudged.{UseJudged}
 abbrev pub openTo : List ℕ → ℕ → ℕ → Bool
 openTo publics spot right = eqb right reading && eqb (getD publics spot 0) 1
 
--- whether the claim at a place has a parent, and that stands at a place of the claims
+-- whether the claim at a place has a parent, and that stands at a place of the claims before it
 abbrev pub drawnAt : List ℕ → List ℕ → ℕ → Bool
-drawnAt parents places at = not (eqb (getD parents at 0) 0) && ltb (getD places at claimLimit) claimLimit
+drawnAt parents ups at = not (eqb (getD parents at 0) 0) && ltb (getD ups at claimLimit) claimLimit
 
 -- the number of steps up from a place, at most so many
 unfoldable pub climbed : List ℕ → List ℕ → ℕ → ℕ → ℕ
 climbed parents ups zero at = 0
 climbed parents ups (suc most) at = let more = suc (climbed parents ups most (getD ups at claimLimit)) in cond (drawnAt parents ups at) more 0
 
--- the hop count of the claim relied on: its parent stands at its place of `tops`, and the parent of that one at its place of `ups`
-abbrev pub hopsFrom : List ℕ → List ℕ → List ℕ → Place → ℕ
-hopsFrom parents tops ups Nowhere = 0
-hopsFrom parents tops ups (At j) = cond (drawnAt parents tops j) (suc (climbed parents ups (hopLimit - 1) (getD tops j claimLimit))) 0
+-- the hop count of the claim relied on
+abbrev pub hopsFrom : List ℕ → List ℕ → Place → ℕ
+hopsFrom parents ups Nowhere = 0
+hopsFrom parents ups (At j) = climbed parents ups hopLimit j
 
--- whether the claim relied on has a parent that does not stand
+-- whether the claim relied on has a parent that does not stand before it
 abbrev pub parentlessAt : List ℕ → List ℕ → Place → Bool
-parentlessAt parents tops Nowhere = false
-parentlessAt parents tops (At j) = not (eqb (getD parents j 0) 0) && not (ltb (getD tops j claimLimit) claimLimit)
+parentlessAt parents ups Nowhere = false
+parentlessAt parents ups (At j) = not (eqb (getD parents j 0) 0) && not (ltb (getD ups j claimLimit) claimLimit)
 
 -- whether a use is covered: it is open, or a claim is relied on
 abbrev pub coveredBy : Bool → Place → Bool
@@ -56,7 +56,6 @@ pub record Sight : Type 0 where
   pub lens : List ℕ
   pub publics : List ℕ
   pub parents : List ℕ
-  pub tops : List ℕ
   pub ups : List ℕ
 
 -- the claim relied on, by the gathered places
@@ -68,6 +67,6 @@ unfoldable pub useJudged : Sight → ℕ → ℕ → UseJudged
 useJudged s spot right = record {
   fault = faultOf (coveredBy (openTo (s .publics) spot right) (reliedOn s (s .own) spot right))
       (s .owned && not (coveredBy (openTo (s .publics) spot right) (reliedOn s (s .theirs) spot right)))
-      (parentlessAt (s .parents) (s .tops) (reliedOn s (s .own) spot right));
-  hops = hopsFrom (s .parents) (s .tops) (s .ups) (reliedOn s (s .own) spot right);
+      (parentlessAt (s .parents) (s .ups) (reliedOn s (s .own) spot right));
+  hops = hopsFrom (s .parents) (s .ups) (reliedOn s (s .own) spot right);
 }

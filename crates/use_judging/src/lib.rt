@@ -1,7 +1,6 @@
 // One use of an action judged by lent columns: whether the actor covers it, whether a machine's owner does, whether the claim relied on has
 // a parent that stands, and the hop count of that claim.
 ghost use mathlib.Core.Path.{_≡_};
-ghost use Prim.Native.Nat.{suc, _-_};
 ghost use lib.ListN.{getD, take};
 ghost use Rattle.register.specs.Limits.{hopLimit, claimLimit};
 ghost use Rattle.use_judging.specs.Uses.{openTo, drawnAt, climbed, hopsFrom, parentlessAt, coveredBy, faultOf, useJudged};
@@ -43,21 +42,21 @@ fn place_at(places: &[usize], at: usize) -> usize
     }
 }
 
-// Whether the claim at a place has a parent, and that stands at a place of the claims.
-fn is_drawn<'a>(parents: &'a [u32], places: &'a [usize], at: usize) -> bool
-    ensures { λ r. ⌜ r ≡ drawnAt (now (parents .entry)) (now (places .entry)) at ⌝ }
+// Whether the claim at a place has a parent, and that stands at a place of the claims before it.
+fn is_drawn<'a>(parents: &'a [u32], ups: &'a [usize], at: usize) -> bool
+    ensures { λ r. ⌜ r ≡ drawnAt (now (parents .entry)) (now (ups .entry)) at ⌝ }
 {
     let parent = columns::number_at(parents, at);
-    let place = place_at(places, at);
+    let place = place_at(ups, at);
     (parent != 0) & (place < Register::CLAIMS)
 }
 
-// The hop count of a claim whose parent stands at `from`, at most 16.
+// The hop count of the claim at `from`, at most 16.
 fn climb<'a>(parents: &'a [u32], ups: &'a [usize], from: usize) -> usize
-    ensures { λ r. ⌜ r ≡ suc (climbed (now (parents .entry)) (now (ups .entry)) (hopLimit - 1) from) ⌝ }
+    ensures { λ r. ⌜ r ≡ climbed (now (parents .entry)) (now (ups .entry)) hopLimit from ⌝ }
 {
     let mut at = from;
-    let mut steps: usize = 1;
+    let mut steps: usize = 0;
     while steps < Register::HOPS {
         if is_drawn(parents, ups, at) {
             at = place_at(ups, at);
@@ -70,30 +69,24 @@ fn climb<'a>(parents: &'a [u32], ups: &'a [usize], from: usize) -> usize
 }
 
 // The hop count of the claim at a place, 0 where there is none.
-fn hops_from<'a>(parents: &'a [u32], tops: &'a [usize], ups: &'a [usize], relied: Place) -> usize
-    ensures { λ r. ⌜ r ≡ hopsFrom (now (parents .entry)) (now (tops .entry)) (now (ups .entry)) relied ⌝ }
+fn hops_from<'a>(parents: &'a [u32], ups: &'a [usize], relied: Place) -> usize
+    ensures { λ r. ⌜ r ≡ hopsFrom (now (parents .entry)) (now (ups .entry)) relied ⌝ }
 {
     match relied {
         Place::Nowhere => 0,
-        Place::At(j) => {
-            if is_drawn(parents, tops, j) {
-                climb(parents, ups, place_at(tops, j))
-            } else {
-                0
-            }
-        }
+        Place::At(j) => climb(parents, ups, j),
     }
 }
 
-// Whether the claim at a place has a parent that does not stand.
-fn is_parentless<'a>(parents: &'a [u32], tops: &'a [usize], relied: Place) -> bool
-    ensures { λ r. ⌜ r ≡ parentlessAt (now (parents .entry)) (now (tops .entry)) relied ⌝ }
+// Whether the claim at a place has a parent that does not stand before it.
+fn is_parentless<'a>(parents: &'a [u32], ups: &'a [usize], relied: Place) -> bool
+    ensures { λ r. ⌜ r ≡ parentlessAt (now (parents .entry)) (now (ups .entry)) relied ⌝ }
 {
     match relied {
         Place::Nowhere => false,
         Place::At(j) => {
             let parent = columns::number_at(parents, j);
-            let place = place_at(tops, j);
+            let place = place_at(ups, j);
             (parent != 0) & !(place < Register::CLAIMS)
         }
     }
@@ -125,8 +118,8 @@ fn fault_of(covered: bool, lacking: bool, parentless: bool) -> Fault
     Fault::NotCovered
 }
 
-// Judges a use: `own` are the first `owns` gathered places of the actor, `theirs` those of its owner where it has one. `tops` has the place
-// of each claim's parent, and `ups` that among the claims before it.
+// Judges a use: `own` are the first `owns` gathered places of the actor, `theirs` those of its owner where it has one. `ups` has the place
+// of each claim's parent among the claims before it: in a sound register that is its place among all.
 pub fn judge_use<'a>(
     own: &'a [usize],
     owns: usize,
@@ -140,19 +133,18 @@ pub fn judge_use<'a>(
     publics: &'a [u32],
     spot: usize,
     parents: &'a [u32],
-    tops: &'a [usize],
     ups: &'a [usize],
     right: u32,
 ) -> UseJudged
-    ensures { λ r. ⌜ r ≡ useJudged (record { own = take owns (now (own .entry)); theirs = take has (now (theirs .entry)); owned = owned; rights = now (rights .entry); spots = now (spots .entry); bytes = now (bytes .entry); lens = now (lens .entry); publics = now (publics .entry); parents = now (parents .entry); tops = now (tops .entry); ups = now (ups .entry) }) spot right ⌝ }
+    ensures { λ r. ⌜ r ≡ useJudged (record { own = take owns (now (own .entry)); theirs = take has (now (theirs .entry)); owned = owned; rights = now (rights .entry); spots = now (spots .entry); bytes = now (bytes .entry); lens = now (lens .entry); publics = now (publics .entry); parents = now (parents .entry); ups = now (ups .entry) }) spot right ⌝ }
 {
     let freely = is_open(publics, spot, right);
     let relied = coverage::first_covering(own, owns, rights, spots, bytes, lens, right, spot);
-    let hops = hops_from(parents, tops, ups, relied);
+    let hops = hops_from(parents, ups, relied);
     let covered = is_covered(freely, relied);
     let other = coverage::first_covering(theirs, has, rights, spots, bytes, lens, right, spot);
     let lacking = owned & !is_covered(freely, other);
-    let parentless = is_parentless(parents, tops, relied);
+    let parentless = is_parentless(parents, ups, relied);
     let fault = fault_of(covered, lacking, parentless);
     UseJudged { fault, hops }
 }

@@ -42,10 +42,9 @@ pub fn judge_uses<'a>(
     reports: &'a [u32],
     m: usize,
     parents: &'a [u32],
-    tops: &'a [usize],
     ups: &'a [usize],
 ) -> UsesJudged
-    ensures { λ r. ⌜ r ≡ usesJudged (record { own = take owns (now (own .entry)); theirs = take has (now (theirs .entry)); owned = owned; rights = now (rights .entry); spots = now (spots .entry); bytes = now (bytes .entry); lens = now (lens .entry); publics = now (publics .entry); parents = now (parents .entry); tops = now (tops .entry); ups = now (ups .entry) }) (now (reports .entry)) m a vs ⌝ }
+    ensures { λ r. ⌜ r ≡ usesJudged (record { own = take owns (now (own .entry)); theirs = take has (now (theirs .entry)); owned = owned; rights = now (rights .entry); spots = now (spots .entry); bytes = now (bytes .entry); lens = now (lens .entry); publics = now (publics .entry); parents = now (parents .entry); ups = now (ups .entry) }) (now (reports .entry)) m a vs ⌝ }
 {
     let top = columns::least(a.used, Action::USES);
     let mut violations = vs;
@@ -68,7 +67,6 @@ pub fn judge_uses<'a>(
             publics,
             spot,
             parents,
-            tops,
             ups,
             u.right,
         );

@@ -19,20 +19,16 @@ lay-requires c κs = search needs
 places-of-requires : tie.Need-places-of-requires
 places-of-requires c κs = search needs
 
-places-of-requires-2 : tie.Need-places-of-requires-2
-places-of-requires-2 c κs = search needs
-
 earlier-places-requires : tie.Need-earlier-places-requires
 earlier-places-requires c κs = search needs
 
 returns : tie.Need-returns
 returns c =
-    let standing = c .before .before .before .before .before .before in
-    let spotted = standing .before .before .before .before .before .before in
+    let spotted = c .before .before .before .before .before .before in
     let laying = spotted .before .before .before .before .before .before .before in
     let taken = laying .before .before .before in (
       viewed (taken .before .before .before .before .args .r) (taken .actor-columns .ensures) (laying .before .before .resource-columns .ensures)
-          (laying .before .claim-columns .ensures) (laying .lay .ensures .0) (spotted .places-of .ensures) (standing .places-of2 .ensures)
+          (laying .before .claim-columns .ensures) (laying .lay .ensures .0) (spotted .places-of .ensures)
           (c .earlier-places .ensures),
       laying .lay .ensures .1,
     )
@@ -46,6 +42,5 @@ view-of-spec =
     claim-columns-requires
     lay-requires
     places-of-requires
-    places-of-requires-2
     earlier-places-requires
     returns)
