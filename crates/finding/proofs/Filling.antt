@@ -1,7 +1,7 @@
 -- A loop that fills an array of places from the front, each with f of the place. Assumes nothing.
 use mathlib.Core.Path.{_≡_, ap, _∙_}
 use mathlib.Core.List.{List, [], _∷_, _++_, map, map-append}
-use Prim.Native.Nat.{ℕ, _+_, _≤_, _<_}
+use Prim.Native.Nat.{ℕ, _+_, _-_, _≤_, _<_, min}
 use native.Mathlib.Nat.{zero-add}
 use native.Mathlib.Numerals.{add-one}
 use native.Mathlib.Omega.{arith}
@@ -9,7 +9,7 @@ use lib.ListN.{length, set, replicate, length-map}
 use Rattle.lists.specs.Counts.{counted, counted-length, counted-last}
 use Rattle.lists.specs.Fills.{put-first}
 use Rattle.register.specs.Limits.{claimLimit}
-use Rattle.finding.specs.Finding.{tabled}
+use Rattle.finding.specs.Finding.{tabled, asked, shared}
 
 -- the first i places, of top that are to be filled, hold f of the place
 pub record Filling (f : ℕ → ℕ) (top none i : ℕ) (places : List ℕ) : Type 0 where
@@ -35,3 +35,15 @@ module _ {f : ℕ → ℕ} {top none : ℕ} where
 
     pub full : top ≤ i → places ≡ tabled f top none
     full h = let same : i ≡ top = omega arith in s .filled ∙ ap (λ n. tabled f n none) same
+
+-- one place more is filled, so less is left
+pub less : (top i : ℕ) → i < top → top - (i + 1) < top - i
+less top i h = omega arith
+
+-- as many places as two lists have are asked of each of them
+module _ (m : ℕ) (wanted other : List ℕ) (top : ℕ) (most : top ≡ min m (min claimLimit (min (length wanted) (length other)))) where
+  pub asked-first : asked (shared m wanted other) wanted ≡ top
+  asked-first = omega arith
+
+  pub asked-second : asked (shared m wanted other) other ≡ top
+  asked-second = omega arith

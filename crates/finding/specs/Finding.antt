@@ -7,6 +7,7 @@ use Rattle.register.specs.Limits.{claimLimit}
 use Rattle.columns.specs.Columns.{latestPlace}
 use Rattle.columns.specs.declared.Place.{Place}
 use Rattle.columns.specs.declared.Place.the-variants.{At, Nowhere}
+use Rattle.finding.specs.declared.Both.{Both}
 
 -- a place as a number
 abbrev pub numberOf : ℕ → Place → ℕ
@@ -28,3 +29,20 @@ placesOf column n wanted m none = tabled (λ i. numberOf none (latestPlace colum
 -- the latest place before i of the number wanted at i, for each of the first m
 unfoldable pub earlierPlaces : List ℕ → List ℕ → ℕ → ℕ → List ℕ
 earlierPlaces column wanted m none = tabled (λ i. numberOf none (latestPlace column i (getD wanted i 0))) (asked m wanted) none
+
+-- as many places as are asked for, where two lists have so many
+abbrev pub shared : ℕ → List ℕ → List ℕ → ℕ
+shared m wanted other = min m (min (length wanted) (length other))
+
+-- the places of two lists of wanted numbers in one column
+unfoldable pub bothPlaces : List ℕ → ℕ → List ℕ → List ℕ → ℕ → ℕ → Both
+bothPlaces column n wanted other m none = record {
+  first = placesOf column n wanted (shared m wanted other) none;
+  second = placesOf column n other (shared m wanted other) none;
+}
+
+unfoldable pub bothEarlier : List ℕ → List ℕ → List ℕ → ℕ → ℕ → Both
+bothEarlier column wanted other m none = record {
+  first = earlierPlaces column wanted (shared m wanted other) none;
+  second = earlierPlaces column other (shared m wanted other) none;
+}

@@ -4,9 +4,15 @@ ghost use Prim.Native.Nat.{min};
 ghost use lib.ListN.{length};
 ghost use Rattle.register.specs.Limits.{claimLimit};
 ghost use Rattle.columns.specs.Columns.{latestPlace};
-ghost use Rattle.finding.specs.Finding.{numberOf, placesOf, earlierPlaces};
+ghost use Rattle.finding.specs.Finding.{numberOf, placesOf, earlierPlaces, bothPlaces, bothEarlier};
 ghost use Rattle.finding.specs.Tables.{bucketOf, Indexing, Sought};
 use register::Register;
+
+// The places of two lists of numbers, looked up by one table.
+pub struct Both {
+    pub first: [usize; Register::CLAIMS],
+    pub second: [usize; Register::CLAIMS],
+}
 
 // How many buckets a table has.
 const BUCKETS: usize = 512;
@@ -102,6 +108,60 @@ pub fn earlier_places<'a>(
     let mut i: usize = 0;
     while i < top {
         places[i] = seek(&table.heads, &table.nexts, column, i, wanted[i], none);
+        i += 1;
+    }
+    places
+}
+
+// `places_of` of two lists of wanted numbers, as many as there are in each.
+pub fn both_places<'a>(
+    column: &'a [u32],
+    n: usize,
+    wanted: &'a [u32],
+    other: &'a [u32],
+    m: usize,
+    none: usize,
+) -> Both
+    ensures { λ r. ⌜ r ≡ bothPlaces (now (column .entry)) n (now (wanted .entry)) (now (other .entry)) m none ⌝ }
+{
+    let below = columns::least(n, Register::CLAIMS);
+    let table = tabulate(column, below);
+    let long = columns::least(wanted.len(), other.len());
+    let top = columns::least(m, columns::least(Register::CLAIMS, long));
+    let mut places = Both {
+        first: [none; Register::CLAIMS],
+        second: [none; Register::CLAIMS],
+    };
+    let mut i: usize = 0;
+    while i < top {
+        places.first[i] = seek(&table.heads, &table.nexts, column, below, wanted[i], none);
+        places.second[i] = seek(&table.heads, &table.nexts, column, below, other[i], none);
+        i += 1;
+    }
+    places
+}
+
+// `earlier_places` of two lists of wanted numbers, as many as there are in each.
+pub fn both_earlier<'a>(
+    column: &'a [u32],
+    wanted: &'a [u32],
+    other: &'a [u32],
+    m: usize,
+    none: usize,
+) -> Both
+    ensures { λ r. ⌜ r ≡ bothEarlier (now (column .entry)) (now (wanted .entry)) (now (other .entry)) m none ⌝ }
+{
+    let long = columns::least(wanted.len(), other.len());
+    let top = columns::least(m, columns::least(Register::CLAIMS, long));
+    let table = tabulate(column, top);
+    let mut places = Both {
+        first: [none; Register::CLAIMS],
+        second: [none; Register::CLAIMS],
+    };
+    let mut i: usize = 0;
+    while i < top {
+        places.first[i] = seek(&table.heads, &table.nexts, column, i, wanted[i], none);
+        places.second[i] = seek(&table.heads, &table.nexts, column, i, other[i], none);
         i += 1;
     }
     places
