@@ -8,7 +8,7 @@ use lib.ListN.{length, getD, replicate, length-map, length-append, length-replic
 use Rattle.lists.specs.Counts.{counted, counted-length}
 use Rattle.register.specs.Limits.{claimLimit}
 use Rattle.columns.specs.Columns.{latestPlace}
-use Rattle.finding.specs.Finding.{numberOf, tabled, asked, placesOf, earlierPlaces}
+use Rattle.finding.specs.Finding.{numberOf, tabled, asked, shared, placesOf, earlierPlaces, bothPlaces, bothEarlier}
 
 counted-read : (n i j d : ℕ) → j < n → getD (counted i n) j d ≡ i + j
 counted-read zero i j d h = absurd (omega arith)
@@ -44,3 +44,24 @@ pub earlier-at : (column wanted : List ℕ) (m none i d : ℕ) → i < asked m w
     getD (earlierPlaces column wanted m none) i d ≡ numberOf none (latestPlace column i (getD wanted i 0))
 unfolding earlierPlaces
 earlier-at column wanted m none i d h = tabled-at (λ i. numberOf none (latestPlace column i (getD wanted i 0))) (asked m wanted) none i d h
+
+-- where both lists have as many as are asked for, each is looked up as it is alone
+module _ (column wanted other : List ℕ) (m none : ℕ) (few : m ≤ length wanted) (fewer : m ≤ length other) where
+  all-shared : shared m wanted other ≡ m
+  all-shared = omega arith
+
+  pub first-places : (n : ℕ) → bothPlaces column n wanted other m none .first ≡ placesOf column n wanted m none
+  unfolding bothPlaces
+  first-places n = ap (λ k. placesOf column n wanted k none) all-shared
+
+  pub second-places : (n : ℕ) → bothPlaces column n wanted other m none .second ≡ placesOf column n other m none
+  unfolding bothPlaces
+  second-places n = ap (λ k. placesOf column n other k none) all-shared
+
+  pub first-earlier : bothEarlier column wanted other m none .first ≡ earlierPlaces column wanted m none
+  unfolding bothEarlier
+  first-earlier = ap (λ k. earlierPlaces column wanted k none) all-shared
+
+  pub second-earlier : bothEarlier column wanted other m none .second ≡ earlierPlaces column other m none
+  unfolding bothEarlier
+  second-earlier = ap (λ k. earlierPlaces column other k none) all-shared

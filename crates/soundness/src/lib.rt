@@ -30,12 +30,11 @@ fn claims_over<'a>(
     ensures { λ r. ⌜ r ≡ standOver (latest (claimsOf k)) ⌝ }
 {
     let n = k.count;
-    let ups = finding::earlier_places(ids, parents, n, Register::CLAIMS);
-    let twins = finding::earlier_places(ids, ids, n, Register::CLAIMS);
+    let earlier = finding::both_earlier(ids, parents, ids, n, Register::CLAIMS);
     let mut hops = [0usize; Register::CLAIMS];
     let mut i: usize = 0;
     while i < n {
-        if twins[i] < Register::CLAIMS {
+        if earlier.second[i] < Register::CLAIMS {
             return false;
         }
         let c = k.list[i];
@@ -43,13 +42,13 @@ fn claims_over<'a>(
             hops[i] = 0;
             i += 1;
         } else {
-            let up = ups[i];
+            let up = earlier.first[i];
             if Register::CLAIMS <= up {
                 return false;
             }
             let p = k.list[up];
             let steps = hops[up];
-            if !over::stands_over(&ups, grantors, holders, up, steps, p, c) {
+            if !over::stands_over(&earlier.first, grantors, holders, up, steps, p, c) {
                 return false;
             }
             hops[i] = steps + 1;
@@ -80,18 +79,17 @@ fn claims_alone<'a>(
     let reports = resources.ids;
     let keepers = resources.keepers;
     let top = k.count;
-    let granting = finding::places_of(&known, a.count, grantors, top, Register::CLAIMS);
-    let holding = finding::places_of(&known, a.count, holders, top, Register::CLAIMS);
+    let named = finding::both_places(&known, a.count, grantors, holders, top, Register::CLAIMS);
     let reported = finding::places_of(&reports, o.count, claimed, top, Register::CLAIMS);
     let mut i: usize = 0;
     while i < top {
         let c = k.list[i];
-        let grantor = granting[i];
+        let grantor = named.first[i];
         let report = reported[i];
         let kind = columns::number_at(&kinds, grantor);
         let owner = columns::number_at(&owners, grantor);
         let keeper = columns::number_at(&keepers, report);
-        if !alone::stands_alone(c, grantor, holding[i], report, kind, owner, keeper) {
+        if !alone::stands_alone(c, grantor, named.second[i], report, kind, owner, keeper) {
             return false;
         }
         i += 1;

@@ -1,13 +1,17 @@
 -- `soundness::claims_alone` meets its contract. The loop's invariant: the claims before place `i` are as they should be by themselves, by
 -- what was looked up of them, which is what 01 asks (Judging). The measure is what is left of the claims. Assumes nothing.
 use mathlib.Core.Path.{_≡_, sym, ap, _∙_}
-use Prim.Native.Nat.{_-_}
+use mathlib.Core.List.{map}
+use Prim.Native.Nat.{_-_, _≤_}
 use native.Mathlib.Omega.{arith}
 use borrow.Author.Tests.{not-true, not-false}
-use lib.ListN.{length, getD}
+use lib.ListN.{length, getD, length-map}
 use Rattle.lists.specs.Loops.{length-mapped}
-use Rattle.register.specs.Limits.{actorLimit, resourceLimit}
+use Rattle.register.specs.Limits.{actorLimit, resourceLimit, claimLimit}
 use Rattle.register.specs.Register.{noClaim}
+use Rattle.columns.specs.Columns.{actorId, grantorOf, holderOf}
+use Rattle.finding.specs.Finding.{bothPlaces}
+use Rattle.finding.specs.Laws.{first-places, second-places}
 use Rattle.alone.specs.Judged.{aloneAt}
 use Rattle.soundness.proofs.Judging.{Looked, foundAt, Judged, judged-none, judged-next, alone-failed, alone-passed}
 use borrow.Author.Needs.{needs}
@@ -15,14 +19,14 @@ use Rattle.soundness.proofs.claims_alone.Statement.{statement}
 use Rattle.soundness.proofs.claims_alone.Tie as tie
 
 abbrev Inv-loop : tie.InvT-loop
-Inv-loop grantors holders claimed k kinds owners keepers top granting holding reported i₀ i =
-    Judged (k .list) top (foundAt kinds owners keepers granting holding reported) i
+Inv-loop grantors holders claimed k kinds owners keepers top named reported i₀ i =
+    Judged (k .list) top (foundAt kinds owners keepers (named .first) (named .second) reported) i
     × (length kinds ≡ actorLimit)
     × (length owners ≡ actorLimit)
     × (length keepers ≡ resourceLimit)
 
 abbrev μ-loop : tie.MeasureT-loop
-μ-loop grantors holders claimed k kinds owners keepers top granting holding reported i₀ i = top - i
+μ-loop grantors holders claimed k kinds owners keepers top named reported i₀ i = top - i
 
 actor-columns-requires : tie.Need-actor-columns-requires Inv-loop μ-loop
 actor-columns-requires c κs = search needs
@@ -30,23 +34,17 @@ actor-columns-requires c κs = search needs
 resource-columns-requires : tie.Need-resource-columns-requires Inv-loop μ-loop
 resource-columns-requires c κs = search needs
 
+slice-aggregate-both-places : tie.Need-slice-aggregate-both-places Inv-loop μ-loop
+slice-aggregate-both-places c = search needs
+
+both-places-requires : tie.Need-both-places-requires Inv-loop μ-loop
+both-places-requires c κs = search needs
+
 slice-aggregate-places-of : tie.Need-slice-aggregate-places-of Inv-loop μ-loop
 slice-aggregate-places-of c = search needs
 
 places-of-requires : tie.Need-places-of-requires Inv-loop μ-loop
 places-of-requires c κs = search needs
-
-slice-aggregate-places-of-2 : tie.Need-slice-aggregate-places-of-2 Inv-loop μ-loop
-slice-aggregate-places-of-2 c = search needs
-
-places-of-requires-2 : tie.Need-places-of-requires-2 Inv-loop μ-loop
-places-of-requires-2 c κs = search needs
-
-slice-aggregate-places-of-3 : tie.Need-slice-aggregate-places-of-3 Inv-loop μ-loop
-slice-aggregate-places-of-3 c = search needs
-
-places-of-requires-3 : tie.Need-places-of-requires-3 Inv-loop μ-loop
-places-of-requires-3 c κs = search needs
 
 -- the actors' columns are as long as their list
 kinds-long : (e : tie.After-actor-columns Inv-loop μ-loop) → length (e .actor-columns .result .kinds) ≡ actorLimit
@@ -56,7 +54,7 @@ owners-long : (e : tie.After-actor-columns Inv-loop μ-loop) → length (e .acto
 owners-long e = search needs
 
 loop-holds : tie.Need-loop-holds Inv-loop μ-loop
-loop-holds c = (judged-none (search needs), kinds-long (c .before .before .before .before .before .before .before .before .before .before .before .before), owners-long (c .before .before .before .before .before .before .before .before .before .before .before .before), search needs)
+loop-holds c = (judged-none (search needs), kinds-long (c .before .before .before .before .before .before .before .before .before .before), owners-long (c .before .before .before .before .before .before .before .before .before .before), search needs)
 
 mul-c : tie.Need-mul-c Inv-loop μ-loop
 mul-c c = search needs
@@ -67,8 +65,8 @@ element-copy-out-c c = search needs
 mul-grantor : tie.Need-mul-grantor Inv-loop μ-loop
 mul-grantor c = search needs
 
-array-read-grantor : tie.Need-array-read-grantor Inv-loop μ-loop
-array-read-grantor c = search needs
+element-copy-out-grantor : tie.Need-element-copy-out-grantor Inv-loop μ-loop
+element-copy-out-grantor c = search needs
 
 mul-report : tie.Need-mul-report Inv-loop μ-loop
 mul-report c = search needs
@@ -97,23 +95,31 @@ number-at-requires-3 c κs = search needs
 mul-stands-alone : tie.Need-mul-stands-alone Inv-loop μ-loop
 mul-stands-alone c = search needs
 
-array-read-stands-alone : tie.Need-array-read-stands-alone Inv-loop μ-loop
-array-read-stands-alone c = search needs
+element-copy-out-stands-alone : tie.Need-element-copy-out-stands-alone Inv-loop μ-loop
+element-copy-out-stands-alone c = search needs
 
 stands-alone-requires : tie.Need-stands-alone-requires Inv-loop μ-loop
 stands-alone-requires c κs = search needs
 
 -- what was looked up is what 01 asks
-told : (e : tie.After-places-of3 Inv-loop μ-loop) →
-    Looked (e .before .before .before .before .before .before .before .before .before .before .before .before .before .before .before .before .args .a .list) (e .before .before .before .before .before .before .before .before .before .before .before .before .before .before .before .before .args .a .count) (e .before .before .before .before .before .before .before .before .before .before .before .before .before .before .before .before .args .o .list) (e .before .before .before .before .before .before .before .before .before .before .before .before .before .before .before .before .args .o .count) (e .before .before .before .before .before .before .before .before .before .before .before .before .before .before .before .before .args .t3 .list) (e .before .before .before .before .before .before .before .before .before .before .before .before .before .before .before .before .args .t3 .count)
-    (e .before .before .before .before .before .before .before .before .before .before .before .before .actor-columns .result .kinds) (e .before .before .before .before .before .before .before .before .before .before .before .before .actor-columns .result .owners) (e .before .before .before .before .before .before .before .before .resource-columns .result .keepers)
-    (e .before .before .before .before .places-of .result) (e .before .before .places-of2 .result) (e .places-of3 .result)
+told : (e : tie.After-places-of Inv-loop μ-loop) →
+    Looked (e .before .before .before .before .before .before .before .before .before .before .before .before .before .before .args .a .list) (e .before .before .before .before .before .before .before .before .before .before .before .before .before .before .args .a .count) (e .before .before .before .before .before .before .before .before .before .before .before .before .before .before .args .o .list) (e .before .before .before .before .before .before .before .before .before .before .before .before .before .before .args .o .count) (e .before .before .before .before .before .before .before .before .before .before .before .before .before .before .args .t3 .list) (e .before .before .before .before .before .before .before .before .before .before .before .before .before .before .args .t3 .count)
+    (e .before .before .before .before .before .before .before .before .before .before .actor-columns .result .kinds) (e .before .before .before .before .before .before .before .before .before .before .actor-columns .result .owners) (e .before .before .before .before .before .before .resource-columns .result .keepers)
+    (e .before .before .both-places .result .first) (e .before .before .both-places .result .second) (e .places-of .result)
 told e =
-    let start = e .before .before .before .before .before .before .before .before .before .before .before .before .before .before .before .before in
-    let actors = e .before .before .before .before .before .before .before .before .before .before .before .before .actor-columns .ensures in
-    let resources = e .before .before .before .before .before .before .before .before .resource-columns .ensures in
+    let start = e .before .before .before .before .before .before .before .before .before .before .before .before .before .before in
+    let actors = e .before .before .before .before .before .before .before .before .before .before .actor-columns .ensures in
+    let resources = e .before .before .before .before .before .before .resource-columns .ensures in
+    let cs = start .args .t3 .list in
+    let n = start .args .t3 .count in
+    let known = map actorId (start .args .a .list) in
+    let long : length cs ≡ claimLimit = search (needs, length-mapped) in
+    let few : n ≤ length (map grantorOf cs) = omega (arith, start .pre .2, length-map cs grantorOf) in
+    let fewer : n ≤ length (map holderOf cs) = omega (arith, start .pre .2, length-map cs holderOf) in
+    let found : e .before .before .both-places .result ≡ bothPlaces known (start .args .a .count) (map grantorOf cs) (map holderOf cs) n claimLimit =
+    e .before .before .both-places .ensures ∙ rw (ap (λ r. r .ids) actors, start .pre .5, start .pre .6) in
     record {
-      long = search (needs, length-mapped);
+      long = long;
       short = start .pre .2;
       few = omega (arith, start .pre .0);
       apart = start .pre .3;
@@ -122,25 +128,25 @@ told e =
       kinded = ap (λ r. r .kinds) actors;
       owned = ap (λ r. r .owners) actors;
       kept = ap (λ r. r .keepers) resources;
-      granted = e .before .before .before .before .places-of .ensures ∙ rw (ap (λ r. r .ids) actors, start .pre .5);
-      held = e .before .before .places-of2 .ensures ∙ rw (ap (λ r. r .ids) actors, start .pre .6);
-      listed = e .places-of3 .ensures ∙ rw (ap (λ r. r .ids) resources, start .pre .7);
+      granted = ap (λ r. r .first) found ∙ first-places known (map grantorOf cs) (map holderOf cs) n claimLimit few fewer (start .args .a .count);
+      held = ap (λ r. r .second) found ∙ second-places known (map grantorOf cs) (map holderOf cs) n claimLimit few fewer (start .args .a .count);
+      listed = e .places-of .ensures ∙ rw (ap (λ r. r .ids) resources, start .pre .7);
     }
 
 -- what is asked of the claim at a place is asked by what was looked up of it
 asked : (e : tie.After-stands-alone Inv-loop μ-loop) →
     e .stands-alone .result
-    ≡ aloneAt (getD (e .before .before .before .before .before .before .before .before .before .before .before .before .before .before .before .before .before .before .before .before .before .before .before .before .before .before .args .t3 .list) (e .before .before .before .before .before .before .before .before .before .loop .i) noClaim)
+    ≡ aloneAt (getD (e .before .before .before .before .before .before .before .before .before .before .before .before .before .before .before .before .before .before .before .before .before .before .before .before .before .before .args .t3 .list) (e .before .before .before .before .before .before .before .before .before .before .before .loop .i) noClaim)
     (foundAt (e .before .before .before .before .before .before .before .before .before .before .before .before .before .before .before .before .before .before .before .before .before .before .actor-columns .result .kinds) (e .before .before .before .before .before .before .before .before .before .before .before .before .before .before .before .before .before .before .before .before .before .before .actor-columns .result .owners) (e .before .before .before .before .before .before .before .before .before .before .before .before .before .before .before .before .before .before .resource-columns .result .keepers)
-    (e .before .before .before .before .before .before .before .before .before .before .before .before .before .before .places-of .result) (e .before .before .before .before .before .before .before .before .before .before .before .before .places-of2 .result) (e .before .before .before .before .before .before .before .before .before .before .places-of3 .result) (e .before .before .before .before .before .before .before .before .before .loop .i))
-asked e = e .stands-alone .ensures ∙ rw (e .before .before .before .before .before .number-at .ensures, e .before .before .before .number-at2 .ensures, e .before .number-at3 .ensures)
+    (e .before .before .before .before .before .before .before .before .before .before .before .before .before .before .both-places .result .first) (e .before .before .before .before .before .before .before .before .before .before .before .before .before .before .both-places .result .second) (e .before .before .before .before .before .before .before .before .before .before .before .before .places-of .result) (e .before .before .before .before .before .before .before .before .before .before .before .loop .i))
+asked e = e .stands-alone .ensures ∙ rw (e .before .before .before .before .before .before .number-at .ensures, e .before .before .before .before .number-at2 .ensures, e .before .before .number-at3 .ensures)
 
 returns : tie.Need-returns Inv-loop μ-loop
 returns c =
-    let turn = c .before .before .before .before .before .before .before .before .before .before in
+    let turn = c .before .before .before .before .before .before .before .before .before .before .before .before in
     let i = turn .loop .i in
     sym
-    (alone-failed (told (turn .before)) i (c .before .before .before .before .before .before .before .before .before .loop-test .taken)
+    (alone-failed (told (turn .before)) i (c .before .before .before .before .before .before .before .before .before .before .before .loop-test .taken)
     (sym (asked (c .before)) ∙ not-true _ (c .if1 .taken)))
 
 add-i : tie.Need-add-i Inv-loop μ-loop
@@ -151,8 +157,8 @@ loop-less c = search needs
 
 loop-again : tie.Need-loop-again Inv-loop μ-loop
 loop-again c =
-    let turn = c .before .before .before .before .before .before .before .before .before .before in (
-      judged-next (turn .loop .inv .0) (c .before .before .before .before .before .before .before .before .before .loop-test .taken) (sym (asked (c .before)) ∙ not-false _ (c .if1 .left)),
+    let turn = c .before .before .before .before .before .before .before .before .before .before .before .before in (
+      judged-next (turn .loop .inv .0) (c .before .before .before .before .before .before .before .before .before .before .before .loop-test .taken) (sym (asked (c .before)) ∙ not-false _ (c .if1 .left)),
       turn .loop .inv .1,
       turn .loop .inv .2,
       turn .loop .inv .3,
@@ -169,17 +175,15 @@ claims-alone-spec =
     μ-loop
     actor-columns-requires
     resource-columns-requires
+    slice-aggregate-both-places
+    both-places-requires
     slice-aggregate-places-of
     places-of-requires
-    slice-aggregate-places-of-2
-    places-of-requires-2
-    slice-aggregate-places-of-3
-    places-of-requires-3
     loop-holds
     mul-c
     element-copy-out-c
     mul-grantor
-    array-read-grantor
+    element-copy-out-grantor
     mul-report
     array-read-report
     slice-aggregate-number-at
@@ -189,7 +193,7 @@ claims-alone-spec =
     slice-aggregate-number-at-3
     number-at-requires-3
     mul-stands-alone
-    array-read-stands-alone
+    element-copy-out-stands-alone
     stands-alone-requires
     returns
     add-i
