@@ -52,6 +52,11 @@ module _ (test : ℕ → Bool) (o : Resource) where
   unfolding resourceFits
   resource-unnumbered e = rw e
 
+  -- a keeper out of range is refused, whatever is told of it
+  pub resource-keeperless : isId (o .keeper) ≡ false → resourceFits test o ≡ false
+  unfolding resourceFits
+  resource-keeperless e = rw (e, and-false (leb (o .public) 1)) (and-false (isId (o .id)))
+
   module _ (numbered : isId (o .id) ≡ true) where
     pub resource-beyond-public : 1 < o .public → resourceFits test o ≡ false
     unfolding resourceFits

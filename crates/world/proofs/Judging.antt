@@ -1,5 +1,5 @@
--- A loop from the front over the first n of an array's list, each element put to a test until one fails it; and what the answers by
--- columns are in 01's words. Assumes nothing.
+-- A loop from the front over the first n of an array's list, each element put to a test until one fails it; and what the actors' answers
+-- by columns are in 01's words. Assumes nothing.
 use mathlib.Core.Path.{_≡_, refl, sym, ap, _∙_}
 use mathlib.Core.Bool.{Bool, true, false}
 use mathlib.Core.List.{List}
@@ -8,12 +8,10 @@ use lib.ListN.{length, take, getD}
 use Rattle.lists.specs.Lists.{every}
 use Rattle.lists.specs.Loops.{Loop, start, turn, next, done}
 use Rattle.register.specs.declared.Actors.{Actors}
-use Rattle.register.specs.declared.Resources.{Resources}
-use Rattle.register.specs.Register.{actorsOf, resourcesOf}
-use Rattle.columns.specs.Columns.{actorId, resourceId, actorColumns, resourceColumns}
+use Rattle.register.specs.Register.{actorsOf}
+use Rattle.columns.specs.Columns.{actorId, actorColumns}
 use Rattle.columns.specs.declared.ActorColumns.{ActorColumns}
-use Rattle.columns.specs.declared.ResourceColumns.{ResourceColumns}
-use Rattle.rules.specs.Sound.{distinct, human, actorFits, resourceFits, soundActors, soundResources}
+use Rattle.rules.specs.Sound.{distinct, human, actorFits, soundActors}
 use Rattle.world.specs.Judged.{humanIn}
 use Rattle.world.specs.Laws.{take-map, same-humans}
 
@@ -51,15 +49,3 @@ module _ (a : Actors) {people : ActorColumns} (actors : people ≡ actorColumns 
       → soundActors (actorsOf a) ≡ distinct (take (a .count) (people .ids))
   unfolding soundActors
   actors-distinct e = rw (← by-columns, e, actors, take-map actorId (a .count) (a .list))
-
-  module _ (k : Resources) where
-    pub resources-refused : every (resourceFits (humanIn (people .ids) (people .kinds) (a .count))) (resourcesOf k) ≡ false
-        → soundResources (actorsOf a) (resourcesOf k) ≡ false
-    unfolding soundResources
-    resources-refused e = rw (← by-columns, e)
-
-    pub resources-distinct : {things : ResourceColumns} → things ≡ resourceColumns (k .list)
-        → every (resourceFits (humanIn (people .ids) (people .kinds) (a .count))) (resourcesOf k) ≡ true
-        → soundResources (actorsOf a) (resourcesOf k) ≡ distinct (take (k .count) (things .ids))
-    unfolding soundResources
-    resources-distinct resources e = rw (← by-columns, e, resources, take-map resourceId (k .count) (k .list))

@@ -1,3 +1,5 @@
 pub mod Passing
 pub mod Judging
 pub mod Fits
+pub mod Naming
+pub mod Keeping

@@ -1,21 +1,22 @@
 -- Laws of distinct numbers, and what the tests of actors and resources by columns are in 01's words. Assumes nothing.
-use mathlib.Core.Path.{_≡_, refl, sym, ap, fun-ext}
-use mathlib.Core.Bool.{Bool, true, false, not, _&&_, _||_, or-false, and-false}
+use mathlib.Core.Path.{_≡_, refl, sym, ap, _∙_, fun-ext}
+use mathlib.Core.Bool.{Bool, true, false, not, _&&_, _||_, or-false, and-true, and-false}
 use mathlib.Core.List.{List, [], _∷_, _++_, map}
-use Prim.Native.Nat.{ℕ, zero, suc, _<_}
+use Prim.Native.Nat.{ℕ, zero, suc, _≤_, _<_, min}
 use native.Mathlib.Omega.{arith}
-use borrow.Author.Tests.{eq-eqb, ne-eqb, eqb-true, eqb-false, not-true}
-use lib.Dec.{eqb}
-use lib.ListN.{length, take, getD}
+use borrow.Author.Tests.{lt-ltb, eq-eqb, ne-eqb, eqb-true, eqb-false, not-true}
+use lib.Dec.{eqb, ltb}
+use lib.ListN.{length, take, getD, length-map}
 use Rattle.lists.specs.Tests.{cases, and-left, and-right}
 use Rattle.lists.specs.Lists.{any, any-append}
 use Rattle.register.specs.declared.Actor.{Actor}
 use Rattle.register.specs.declared.Resource.{Resource}
-use Rattle.columns.specs.Columns.{actorId, kindOf}
-use Rattle.columns.specs.Laws.{beside-natural}
-use Rattle.register.specs.Limits.{humanKind}
+use Rattle.columns.specs.Columns.{actorId, kindOf, latestPlace}
+use Rattle.columns.specs.Laws.{beside-natural, among-natural, place-cases, place-within, place-found, place-among, nowhere-none}
+use Rattle.finding.specs.Finding.{numberOf}
+use Rattle.register.specs.Limits.{claimLimit, humanKind}
 use Rattle.rules.specs.Sound.{distinct, human, actorFits, resourceFits}
-use Rattle.world.specs.Judged.{humanIn}
+use Rattle.world.specs.Judged.{humanIn, humanId}
 
 -- the first n of a column
 pub take-map : {A : Type 0} (f : A → ℕ) (n : ℕ) (l : List A) → take n (map f l) ≡ map f (take n l)
@@ -81,8 +82,31 @@ module _ (l : List Actor) (n : ℕ) where
   pub actor-fits-natural : (a : Actor) → actorFits (humanIn (map actorId l) (map kindOf l) n) a ≡ actorFits (human (take n l)) a
   actor-fits-natural a = ap (λ test. actorFits test a) same-humans
 
-  pub resource-fits-natural : (o : Resource) → resourceFits (humanIn (map actorId l) (map kindOf l) n) o ≡ resourceFits (human (take n l)) o
-  resource-fits-natural o = ap (λ test. resourceFits test o) same-humans
+-- a number that is not 0 has a place among the humans' ids exactly where it is a human's
+module _ (l : List Actor) (n x : ℕ) (short : length l ≤ claimLimit) (some : x ≡ 0 → ⊥) where
+  human-told : (a : Actor) → eqb x (humanId a) ≡ eqb x (a .id) && eqb humanKind (a .kind)
+  human-told a =
+      cases (eqb (a .kind) humanKind)
+      (λ e. rw (eqb-turned humanKind (a .kind), e) (sym (and-true (eqb x (a .id)))))
+      (λ e. rw (eqb-turned humanKind (a .kind), e, ne-eqb x 0 some) (sym (and-false (eqb x (a .id)))))
+
+  human-among : any (eqb x) (take n (map humanId l)) ≡ human (take n l) x
+  human-among = among-natural humanId x n l ∙ ap (λ test. any test (take n l)) (fun-ext human-told)
+
+  all-sought : latestPlace (map humanId l) (min n claimLimit) x ≡ latestPlace (map humanId l) n x
+  all-sought =
+      let same : min (min n claimLimit) (length (map humanId l)) ≡ min n (length (map humanId l)) = omega (arith, length-map l humanId) in
+      place-within (map humanId l) x (min n claimLimit)
+      ∙ ap (λ m. latestPlace (map humanId l) m x) same
+      ∙ sym (place-within (map humanId l) x n)
+
+  pub human-found : ltb (numberOf claimLimit (latestPlace (map humanId l) (min n claimLimit) x)) claimLimit ≡ human (take n l) x
+  human-found =
+      ap (λ p. ltb (numberOf claimLimit p) claimLimit) all-sought
+      ∙ place-cases (latestPlace (map humanId l) n x)
+      (λ k e. let found = place-found (map humanId l) x n k e in
+      rw e (lt-ltb k claimLimit (omega (arith, found .1, length-map l humanId))) ∙ sym (place-among (map humanId l) x n k e) ∙ human-among)
+      (λ e. ap (λ p. ltb (numberOf claimLimit p) claimLimit) e ∙ sym (nowhere-none (map humanId l) x n e) ∙ human-among)
 
 -- an actor and a resource are asked of one number whether it is a human's: the owner, the keeper
 pub actor-fits-same : (f g : ℕ → Bool) (a : Actor) → f (a .owner) ≡ g (a .owner) → actorFits f a ≡ actorFits g a

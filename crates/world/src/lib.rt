@@ -1,12 +1,13 @@
 // Whether the actors and the resources of a register are as they should be: fields in range, owners and keepers who are humans of the
 // register, paths of the right bytes, distinct ids. Every call answers for every count and content.
 ghost use mathlib.Core.Path.{_≡_};
+ghost use mathlib.Core.List.{map};
 ghost use lib.ListN.{take};
 ghost use Rattle.lists.specs.Lists.{every};
 ghost use Rattle.register.specs.Limits.{ranged, pathByteLeast, pathByteGreatest};
 ghost use Rattle.register.specs.Register.{actorsOf, resourcesOf, pathOf};
 ghost use Rattle.rules.specs.Sound.{distinct, actorFits, resourceFits, soundActors, soundResources};
-ghost use Rattle.world.specs.Judged.{humanIn};
+ghost use Rattle.world.specs.Judged.{humanIn, humanId};
 use register::Actor;
 use register::Actors;
 use register::Register;
@@ -86,9 +87,32 @@ pub fn path_fits(o: Resource) -> bool
     fit
 }
 
-// Whether a resource's fields are as they should be among the first `n` actors.
-pub fn resource_fits<'a>(ids: &'a [u32], kinds: &'a [u32], n: usize, o: Resource) -> bool
-    ensures { λ r. ⌜ r ≡ resourceFits (humanIn (now (ids .entry)) (now (kinds .entry)) n) o ⌝ }
+// A human's id; 0 for any other actor.
+fn human_id(a: Actor) -> u32
+    ensures { λ r. ⌜ r ≡ humanId a ⌝ }
+{
+    if a.kind != Actor::HUMAN {
+        return 0;
+    }
+    a.id
+}
+
+// The humans' ids, each at its place; 0 at the place of any other.
+fn human_ids(k: Actors) -> [u32; Register::ACTORS]
+    ensures { λ r. ⌜ r ≡ map humanId (k .list) ⌝ }
+{
+    let mut ids = [0; Register::ACTORS];
+    let mut i: usize = 0;
+    while i < Register::ACTORS {
+        ids[i] = human_id(k.list[i]);
+        i += 1;
+    }
+    ids
+}
+
+// Whether a resource's fields are as they should be, where it is told whether its keeper is a human.
+pub fn resource_fits(kept: bool, o: Resource) -> bool
+    ensures { λ r. ⌜ r ≡ resourceFits (λ x. kept) o ⌝ }
 {
     if !register::is_id(o.id) {
         return false;
@@ -102,31 +126,28 @@ pub fn resource_fits<'a>(ids: &'a [u32], kinds: &'a [u32], n: usize, o: Resource
     if Register::PATH < o.len {
         return false;
     }
-    if !columns::is_beside(ids, kinds, n, o.keeper, Actor::HUMAN) {
+    if !kept {
         return false;
     }
     path_fits(o)
 }
 
-// Whether the resources are as they should be among the actors, with distinct ids.
+// Whether the resources are as they should be among the actors, with distinct ids. The keepers are looked up among the humans at once.
 pub fn resources_sound(a: Actors, k: Resources) -> bool
     ensures { λ r. ⌜ r ≡ soundResources (actorsOf a) (resourcesOf k) ⌝ }
 {
-    let actors = columns::actor_columns(a);
-    let resources = columns::resource_columns(k);
-    let ids = actors.ids;
-    let kinds = actors.kinds;
-    let reports = resources.ids;
-    let m = a.count;
+    let humans = human_ids(a);
+    let columns = columns::resource_columns(k);
     let n = k.count;
     let top = columns::least(n, Register::RESOURCES);
+    let keeping = finding::places_of(&humans, a.count, &columns.keepers, top, Register::CLAIMS);
     let mut i: usize = 0;
     while i < top {
         let o = k.list[i];
-        if !resource_fits(&ids, &kinds, m, o) {
+        if !resource_fits(keeping[i] < Register::CLAIMS, o) {
             return false;
         }
         i += 1;
     }
-    is_distinct(&reports, n)
+    is_distinct(&columns.ids, n)
 }

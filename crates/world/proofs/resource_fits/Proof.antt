@@ -33,30 +33,27 @@ returns-4 c =
     let numbered = flagged .before .before in
     sym (resource-beyond-path _ _ (sym (numbered .before .is-id .ensures) ∙ not-false _ (numbered .if1 .left)) (flagged .if2 .left) (sym (kept .before .is-id2 .ensures) ∙ not-false _ (kept .if3 .left)) (c .if4 .taken))
 
-is-beside-requires : tie.Need-is-beside-requires
-is-beside-requires c κs = search needs
-
 returns-5 : tie.Need-returns-5
 returns-5 c =
-    let roomy = c .before .before in
+    let roomy = c .before in
     let kept = roomy .before .before in
     let flagged = kept .before .before in
     let numbered = flagged .before .before in
     sym (resource-kept-by-other _ _ (sym (numbered .before .is-id .ensures) ∙ not-false _ (numbered .if1 .left)) (flagged .if2 .left) (sym (kept .before .is-id2 .ensures) ∙ not-false _ (kept .if3 .left)) (roomy .if4 .left)
-    (sym (c .before .is-beside .ensures) ∙ not-true _ (c .if5 .taken)))
+    (not-true _ (c .if5 .taken)))
 
 path-fits-requires : tie.Need-path-fits-requires
 path-fits-requires c κs = search needs
 
 returns-6 : tie.Need-returns-6
 returns-6 c =
-    let roomy = c .before .before .before in
+    let roomy = c .before .before in
     let kept = roomy .before .before in
     let flagged = kept .before .before in
     let numbered = flagged .before .before in
     c .path-fits .ensures
     ∙ sym (resource-path _ _ (sym (numbered .before .is-id .ensures) ∙ not-false _ (numbered .if1 .left)) (flagged .if2 .left) (sym (kept .before .is-id2 .ensures) ∙ not-false _ (kept .if3 .left)) (roomy .if4 .left)
-    (sym (c .before .before .is-beside .ensures) ∙ not-false _ (c .before .if5 .left)))
+    (not-false _ (c .before .if5 .left)))
 
 pub resource-fits-spec : {M : Type 1} → statement M
 resource-fits-spec =
@@ -68,7 +65,6 @@ resource-fits-spec =
     is-id-requires-2
     returns-3
     returns-4
-    is-beside-requires
     returns-5
     path-fits-requires
     returns-6)
