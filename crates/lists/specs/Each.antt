@@ -110,11 +110,7 @@ module _ {E C : Type 0} (f : E → C) where
   every-map p [] = refl
   every-map p (e ∷ L) = rw (every-map p L)
 
-  -- what holds of each read through f holds of each of the mapped list, and back
+  -- what holds of each read through f holds of each of the mapped list
   pub all-map : (Q : C → Type 0) (L : List E) → All (λ e. Q (f e)) L → All Q (map f L)
   all-map Q [] h = tt
   all-map Q (e ∷ L) h = (h .0, all-map Q L (h .1))
-
-  pub all-unmap : (Q : C → Type 0) (L : List E) → All Q (map f L) → All (λ e. Q (f e)) L
-  all-unmap Q [] h = tt
-  all-unmap Q (e ∷ L) h = (h .0, all-unmap Q L (h .1))
