@@ -139,8 +139,7 @@ fn grant_outcome(r: Register, c: Claim, now: u64) -> Outcome
     let o = r.resources;
     let k = r.claims;
     let claims = columns::claim_columns(k);
-    let ids = claims.ids;
-    let stands = columns::is_among(&ids, k.count, c.id);
+    let stands = columns::is_among(&claims.ids, k.count, c.id);
     let first = world_outcome(a, o, stands, k.count, c);
     match first {
         Outcome::Refused(why) => Outcome::Refused(why),
@@ -148,15 +147,21 @@ fn grant_outcome(r: Register, c: Claim, now: u64) -> Outcome
             if c.parent == 0 {
                 return Outcome::Accepted;
             }
-            let place = columns::latest_place(&ids, k.count, c.parent);
+            let place = columns::latest_place(&claims.ids, k.count, c.parent);
             match place {
                 Place::Nowhere => Outcome::Refused(Refusal::ParentAbsent),
                 Place::At(at) => {
                     let p = k.list[at];
-                    let parents = claims.parents;
-                    let grantors = claims.grantors;
-                    let holders = claims.holders;
-                    parent_outcome(&ids, &parents, &grantors, &holders, k.count, p, c, now)
+                    parent_outcome(
+                        &claims.ids,
+                        &claims.parents,
+                        &claims.grantors,
+                        &claims.holders,
+                        k.count,
+                        p,
+                        c,
+                        now,
+                    )
                 }
             }
         }

@@ -54,9 +54,6 @@ returns-3 c =
 claim-columns-requires : tie.Need-claim-columns-requires
 claim-columns-requires c κs = search needs
 
-slice-aggregate-is-among : tie.Need-slice-aggregate-is-among
-slice-aggregate-is-among c = search needs
-
 is-among-requires : tie.Need-is-among-requires
 is-among-requires c κs = search needs
 
@@ -71,18 +68,15 @@ enum-told c = search needs
 
 returns-4 : tie.Need-returns-4
 returns-4 c =
-    let given = c .before .before .before .before .before .before .before .before .before .before .before .before .before .before .before .before .before .args in
+    let given = c .before .before .before .before .before .before .before .before .before .before .before .before .before .before .before .before .before .before .args in
     sym
     (root-granted (given .r) (given .c) (given .now)
-    (sym (c .before .before .before .before .before .before .before .before .before .before .before .before .before .before .before .before .is-sound .ensures) ∙ not-false _ (c .before .before .before .before .before .before .before .before .before .before .before .before .before .before .before .if1 .left))
-    (sym (c .before .before .before .before .before .before .before .before .before .before .before .before .before .before .claim-fits .ensures) ∙ not-false _ (c .before .before .before .before .before .before .before .before .before .before .before .before .before .if2 .left))
-    (lt-ltb _ _ (c .before .before .before .before .before .before .before .before .before .before .before .before .if3 .left))
-    (stands-asked (given .r .claims) (given .c) (c .before .before .before .before .before .before .before .before .claim-columns .ensures) (c .before .before .before .before .before .is-among .ensures))
+    (sym (c .before .before .before .before .before .before .before .before .before .before .before .before .before .before .before .before .before .is-sound .ensures) ∙ not-false _ (c .before .before .before .before .before .before .before .before .before .before .before .before .before .before .before .before .if1 .left))
+    (sym (c .before .before .before .before .before .before .before .before .before .before .before .before .before .before .before .claim-fits .ensures) ∙ not-false _ (c .before .before .before .before .before .before .before .before .before .before .before .before .before .before .if2 .left))
+    (lt-ltb _ _ (c .before .before .before .before .before .before .before .before .before .before .before .before .before .if3 .left))
+    (stands-asked (given .r .claims) (given .c) (c .before .before .before .before .before .before .before .before .before .claim-columns .ensures) (c .before .before .before .before .before .is-among .ensures))
     (sym (c .before .before .before .before .world-outcome .ensures) ∙ c .before .before .enum-told .given .1)
     (c .if4 .taken))
-
-slice-aggregate-latest-place : tie.Need-slice-aggregate-latest-place
-slice-aggregate-latest-place c = search needs
 
 latest-place-requires : tie.Need-latest-place-requires
 latest-place-requires c κs = search needs
@@ -96,9 +90,9 @@ enum-known-place c = search needs
 -- the place that was found is one of them
 found-inside : (e : tie.After-known-told2) → e .before .place .given .0 .0 < 256
 found-inside e =
-    let given = e .before .before .before .before .before .before .before .before .before .before .before .before .before .before .before .before .before .before .before .before .before .before .args in
-    let long : length (given .r .claims .list) ≡ 256 = places (e .before .before .before .before .before .before .before .before .before .before .before .before .before .before .before .before .before .before .before .before .before .before) in
-    let inside = parent-inside (given .r .claims) (given .c) (e .before .before .before .before .before .before .before .before .before .before .before .before .before .claim-columns .ensures) (sym (e .before .before .before .latest-place .ensures) ∙ e .before .place .given .1) in
+    let given = e .before .before .before .before .before .before .before .before .before .before .before .before .before .before .before .before .before .before .before .before .before .before .before .before .before .args in
+    let long : length (given .r .claims .list) ≡ 256 = places (e .before .before .before .before .before .before .before .before .before .before .before .before .before .before .before .before .before .before .before .before .before .before .before .before .before) in
+    let inside = parent-inside (given .r .claims) (given .c) (e .before .before .before .before .before .before .before .before .before .before .before .before .before .before .before .before .claim-columns .ensures) (sym (e .before .before .before .latest-place .ensures) ∙ e .before .place .given .1) in
     omega arith
 
 mul-p : tie.Need-mul-p
@@ -109,66 +103,48 @@ mul-p c =
 element-copy-out-p : tie.Need-element-copy-out-p
 element-copy-out-p c = found-inside c
 
-slice-aggregate-parent-outcome : tie.Need-slice-aggregate-parent-outcome
-slice-aggregate-parent-outcome c = search needs
-
-slice-aggregate-parent-outcome-2 : tie.Need-slice-aggregate-parent-outcome-2
-slice-aggregate-parent-outcome-2 c =
-    let sized = c .before .before .before .before .before .before .before .before .before .before .before .before .before .before .before .before .before .before .before .claim-columns .ok in
-    search needs
-
-slice-aggregate-parent-outcome-3 : tie.Need-slice-aggregate-parent-outcome-3
-slice-aggregate-parent-outcome-3 c =
-    let sized = c .before .before .before .before .before .before .before .before .before .before .before .before .before .before .before .before .before .before .before .before .claim-columns .ok in
-    search needs
-
-slice-aggregate-parent-outcome-4 : tie.Need-slice-aggregate-parent-outcome-4
-slice-aggregate-parent-outcome-4 c =
-    let sized = c .before .before .before .before .before .before .before .before .before .before .before .before .before .before .before .before .before .before .before .before .before .claim-columns .ok in
-    search needs
-
 parent-outcome-requires : tie.Need-parent-outcome-requires
 parent-outcome-requires c κs = search needs
 
 returns-5 : tie.Need-returns-5
 returns-5 c =
-    let given = c .before .before .before .before .before .before .before .before .before .before .before .before .before .before .before .before .args in
+    let given = c .before .before .before .before .before .before .before .before .before .before .before .before .before .before .before .before .before .args in
     sym
     (world-refuses (given .r) (given .c) (given .now)
-    (sym (c .before .before .before .before .before .before .before .before .before .before .before .before .before .before .before .is-sound .ensures) ∙ not-false _ (c .before .before .before .before .before .before .before .before .before .before .before .before .before .before .if1 .left))
-    (sym (c .before .before .before .before .before .before .before .before .before .before .before .before .before .claim-fits .ensures) ∙ not-false _ (c .before .before .before .before .before .before .before .before .before .before .before .before .if2 .left))
-    (lt-ltb _ _ (c .before .before .before .before .before .before .before .before .before .before .before .if3 .left))
-    (stands-asked (given .r .claims) (given .c) (c .before .before .before .before .before .before .before .claim-columns .ensures) (c .before .before .before .before .is-among .ensures))
+    (sym (c .before .before .before .before .before .before .before .before .before .before .before .before .before .before .before .before .is-sound .ensures) ∙ not-false _ (c .before .before .before .before .before .before .before .before .before .before .before .before .before .before .before .if1 .left))
+    (sym (c .before .before .before .before .before .before .before .before .before .before .before .before .before .before .claim-fits .ensures) ∙ not-false _ (c .before .before .before .before .before .before .before .before .before .before .before .before .before .if2 .left))
+    (lt-ltb _ _ (c .before .before .before .before .before .before .before .before .before .before .before .before .if3 .left))
+    (stands-asked (given .r .claims) (given .c) (c .before .before .before .before .before .before .before .before .claim-columns .ensures) (c .before .before .before .before .is-among .ensures))
     (sym (c .before .before .before .world-outcome .ensures) ∙ c .before .first .given .1))
 
 returns-6 : tie.Need-returns-6
 returns-6 c =
-    let given = c .before .before .before .before .before .before .before .before .before .before .before .before .before .before .before .before .before .before .before .before .before .args in
+    let given = c .before .before .before .before .before .before .before .before .before .before .before .before .before .before .before .before .before .before .before .before .before .before .before .before .args in
     sym
     (parent-decides (given .r) (given .c) (given .now)
-    (sym (c .before .before .before .before .before .before .before .before .before .before .before .before .before .before .before .before .before .before .before .before .is-sound .ensures) ∙ not-false _ (c .before .before .before .before .before .before .before .before .before .before .before .before .before .before .before .before .before .before .before .if1 .left))
-    (sym (c .before .before .before .before .before .before .before .before .before .before .before .before .before .before .before .before .before .before .claim-fits .ensures) ∙ not-false _ (c .before .before .before .before .before .before .before .before .before .before .before .before .before .before .before .before .before .if2 .left))
-    (lt-ltb _ _ (c .before .before .before .before .before .before .before .before .before .before .before .before .before .before .before .before .if3 .left))
-    (stands-asked (given .r .claims) (given .c) (c .before .before .before .before .before .before .before .before .before .before .before .before .claim-columns .ensures) (c .before .before .before .before .before .before .before .before .before .is-among .ensures))
-    (sym (c .before .before .before .before .before .before .before .before .world-outcome .ensures) ∙ c .before .before .before .before .before .before .enum-told .given .1)
-    (c .before .before .before .before .if4 .left)
+    (sym (c .before .before .before .before .before .before .before .before .before .before .before .before .before .before .before .before .before .before .before .before .before .before .before .is-sound .ensures) ∙ not-false _ (c .before .before .before .before .before .before .before .before .before .before .before .before .before .before .before .before .before .before .before .before .before .before .if1 .left))
+    (sym (c .before .before .before .before .before .before .before .before .before .before .before .before .before .before .before .before .before .before .before .before .before .claim-fits .ensures) ∙ not-false _ (c .before .before .before .before .before .before .before .before .before .before .before .before .before .before .before .before .before .before .before .before .if2 .left))
+    (lt-ltb _ _ (c .before .before .before .before .before .before .before .before .before .before .before .before .before .before .before .before .before .before .before .if3 .left))
+    (stands-asked (given .r .claims) (given .c) (c .before .before .before .before .before .before .before .before .before .before .before .before .before .before .before .claim-columns .ensures) (c .before .before .before .before .before .before .before .before .before .before .before .is-among .ensures))
+    (sym (c .before .before .before .before .before .before .before .before .before .before .world-outcome .ensures) ∙ c .before .before .before .before .before .before .before .before .enum-told .given .1)
+    (c .before .before .before .before .before .before .if4 .left)
     (parent-absent (given .now) (above (latest (claimsOf (given .r .claims))) (given .c)) (given .c)
-    (parent-nowhere (given .r .claims) (given .c) (c .before .before .before .before .before .before .before .before .before .before .before .before .claim-columns .ensures) (sym (c .before .before .latest-place .ensures) ∙ c .enum-told2 .given .1))))
+    (parent-nowhere (given .r .claims) (given .c) (c .before .before .before .before .before .before .before .before .before .before .before .before .before .before .before .claim-columns .ensures) (sym (c .before .before .latest-place .ensures) ∙ c .enum-told2 .given .1))))
 
 returns-7 : tie.Need-returns-7
 returns-7 c =
-    let given = c .before .before .before .before .before .before .before .before .before .before .before .before .before .before .before .before .before .before .before .before .before .before .before .before .before .before .before .before .before .before .before .args in
+    let given = c .before .before .before .before .before .before .before .before .before .before .before .before .before .before .before .before .before .before .before .before .before .before .before .before .before .before .before .before .before .before .before .before .before .before .before .before .args in
     sym
     (parent-decides (given .r) (given .c) (given .now)
-    (sym (c .before .before .before .before .before .before .before .before .before .before .before .before .before .before .before .before .before .before .before .before .before .before .before .before .before .before .before .before .before .before .is-sound .ensures) ∙ not-false _ (c .before .before .before .before .before .before .before .before .before .before .before .before .before .before .before .before .before .before .before .before .before .before .before .before .before .before .before .before .before .if1 .left))
-    (sym (c .before .before .before .before .before .before .before .before .before .before .before .before .before .before .before .before .before .before .before .before .before .before .before .before .before .before .before .before .claim-fits .ensures) ∙ not-false _ (c .before .before .before .before .before .before .before .before .before .before .before .before .before .before .before .before .before .before .before .before .before .before .before .before .before .before .before .if2 .left))
-    (lt-ltb _ _ (c .before .before .before .before .before .before .before .before .before .before .before .before .before .before .before .before .before .before .before .before .before .before .before .before .before .before .if3 .left))
-    (stands-asked (given .r .claims) (given .c) (c .before .before .before .before .before .before .before .before .before .before .before .before .before .before .before .before .before .before .before .before .before .before .claim-columns .ensures) (c .before .before .before .before .before .before .before .before .before .before .before .before .before .before .before .before .before .before .before .is-among .ensures))
-    (sym (c .before .before .before .before .before .before .before .before .before .before .before .before .before .before .before .before .before .before .world-outcome .ensures) ∙ c .before .before .before .before .before .before .before .before .before .before .before .before .before .before .before .before .enum-told .given .1)
-    (c .before .before .before .before .before .before .before .before .before .before .before .before .before .before .if4 .left)
+    (sym (c .before .before .before .before .before .before .before .before .before .before .before .before .before .before .before .before .before .before .before .before .before .before .before .before .before .before .before .before .before .before .before .before .before .before .before .is-sound .ensures) ∙ not-false _ (c .before .before .before .before .before .before .before .before .before .before .before .before .before .before .before .before .before .before .before .before .before .before .before .before .before .before .before .before .before .before .before .before .before .before .if1 .left))
+    (sym (c .before .before .before .before .before .before .before .before .before .before .before .before .before .before .before .before .before .before .before .before .before .before .before .before .before .before .before .before .before .before .before .before .before .claim-fits .ensures) ∙ not-false _ (c .before .before .before .before .before .before .before .before .before .before .before .before .before .before .before .before .before .before .before .before .before .before .before .before .before .before .before .before .before .before .before .before .if2 .left))
+    (lt-ltb _ _ (c .before .before .before .before .before .before .before .before .before .before .before .before .before .before .before .before .before .before .before .before .before .before .before .before .before .before .before .before .before .before .before .if3 .left))
+    (stands-asked (given .r .claims) (given .c) (c .before .before .before .before .before .before .before .before .before .before .before .before .before .before .before .before .before .before .before .before .before .before .before .before .before .before .before .claim-columns .ensures) (c .before .before .before .before .before .before .before .before .before .before .before .before .before .before .before .before .before .before .before .before .before .before .before .is-among .ensures))
+    (sym (c .before .before .before .before .before .before .before .before .before .before .before .before .before .before .before .before .before .before .before .before .before .before .world-outcome .ensures) ∙ c .before .before .before .before .before .before .before .before .before .before .before .before .before .before .before .before .before .before .before .before .enum-told .given .1)
+    (c .before .before .before .before .before .before .before .before .before .before .before .before .before .before .before .before .before .before .if4 .left)
     (parent-present (given .now) (above (latest (claimsOf (given .r .claims))) (given .c)) (given .c)
-    (parent-stands (given .r .claims) (given .c) (c .before .before .before .before .before .before .before .before .before .before .before .before .before .before .before .before .before .before .before .before .before .before .claim-columns .ensures) (sym (c .before .before .before .before .before .before .before .before .before .before .before .before .latest-place .ensures) ∙ c .before .before .before .before .before .before .before .before .before .before .place .given .1) (c .before .before .before .before .before .before .before .before .before .before .before .before .before .before .if4 .left))
-    ∙ ap (λ tests. outcomeOf (drawnTests (given .now) (getD (given .r .claims .list) (c .before .before .before .before .before .before .before .before .before .before .place .given .0 .0) noClaim) (given .c) ++ tests)) (sym (chain-asked (given .r .claims) (given .c) (c .before .before .before .before .before .before .before .before .before .before .before .before .before .before .before .before .before .before .before .before .before .before .claim-columns .ensures)))
+    (parent-stands (given .r .claims) (given .c) (c .before .before .before .before .before .before .before .before .before .before .before .before .before .before .before .before .before .before .before .before .before .before .before .before .before .before .before .claim-columns .ensures) (sym (c .before .before .before .before .before .before .before .before .before .before .before .before .before .before .latest-place .ensures) ∙ c .before .before .before .before .before .before .before .before .before .before .before .before .place .given .1) (c .before .before .before .before .before .before .before .before .before .before .before .before .before .before .before .before .before .before .if4 .left))
+    ∙ ap (λ tests. outcomeOf (drawnTests (given .now) (getD (given .r .claims .list) (c .before .before .before .before .before .before .before .before .before .before .before .before .place .given .0 .0) noClaim) (given .c) ++ tests)) (sym (chain-asked (given .r .claims) (given .c) (c .before .before .before .before .before .before .before .before .before .before .before .before .before .before .before .before .before .before .before .before .before .before .before .before .before .before .before .claim-columns .ensures)))
     ∙ sym (c .parent-outcome .ensures)))
 
 pub grant-outcome-spec : {M : Type 1} → statement M
@@ -181,22 +157,16 @@ grant-outcome-spec =
     returns-2
     returns-3
     claim-columns-requires
-    slice-aggregate-is-among
     is-among-requires
     world-outcome-requires
     enum-known-first
     enum-told
     returns-4
-    slice-aggregate-latest-place
     latest-place-requires
     enum-told-2
     enum-known-place
     mul-p
     element-copy-out-p
-    slice-aggregate-parent-outcome
-    slice-aggregate-parent-outcome-2
-    slice-aggregate-parent-outcome-3
-    slice-aggregate-parent-outcome-4
     parent-outcome-requires
     returns-5
     returns-6
