@@ -7,9 +7,10 @@ use Prim.Native.Nat.{ℕ, _-_, _≤_, _<_}
 use native.Mathlib.Omega.{arith}
 use lib.ListN.{length, take, drop, length-drop}
 use lib.Seq.{length-take-le, take-all}
+use Rattle.lists.specs.Tests.{cases}
 use Rattle.paths.specs.Containment.{isEmpty, slashed, climbing, trimmed, starting, contained}
 use Rattle.paths.specs.Trimming.{beneath}
-use Rattle.paths.specs.Laws.{contained-parts}
+use Rattle.paths.specs.Laws.{contained-parts, beneath-clean}
 use Rattle.paths.proofs.Walks.{starting-short}
 
 pub outer-empty : (p q : List ℕ) → length p ≡ 0 → isEmpty p || beneath (trimmed p) q ≡ true
@@ -43,19 +44,15 @@ module _ (p q : List ℕ) (n : ℕ) (some : length p ≡ 0 → ⊥) (trim : take
     parted follows = judged ∙ rw (rw (tail q n long) at follows) (and-true (starting (take n p) q))
 
 module _ (p q : List ℕ) where
-  -- `..` is asked of the outer path, then of the inner one
-  pub outer-climbing : climbing p ≡ true → not (climbing p) && not (climbing q) ≡ false
-  outer-climbing climbs = rw climbs
+  settled : isEmpty p || beneath (trimmed p) q ≡ true → not (climbing p) && not (climbing q) ≡ not (climbing q)
+  settled here =
+      cases (climbing q) (λ climbs. rw climbs (and-false (not (climbing p)))) (λ clean. rw (clean, beneath-clean p q here clean))
 
-  pub inner-climbing : climbing q ≡ true → not (climbing p) && not (climbing q) ≡ false
-  inner-climbing climbs = rw climbs (and-false (not (climbing p)))
-
-  pub none-climbing : climbing p ≡ false → climbing q ≡ false → not (climbing p) && not (climbing q) ≡ true
-  none-climbing clean-p clean-q = rw (clean-p, clean-q)
-
-  -- where inner stands is settled: it is left whether there is a `..` component
-  pub stands : isEmpty p || beneath (trimmed p) q ≡ true → contained p q ≡ not (climbing p) && not (climbing q)
-  stands here = contained-parts p q ∙ rw here (and-true (not (climbing p) && not (climbing q)))
+  -- where inner stands is settled: it is left whether it has a `..` component
+  pub stands : isEmpty p || beneath (trimmed p) q ≡ true → contained p q ≡ not (climbing q)
+  stands here =
+      contained-parts p q
+      ∙ rw here (and-true (not (climbing p) && not (climbing q)) ∙ settled here)
 
   pub elsewhere : isEmpty p || beneath (trimmed p) q ≡ false → contained p q ≡ false
   elsewhere away = contained-parts p q ∙ rw away (and-false (not (climbing p) && not (climbing q)))

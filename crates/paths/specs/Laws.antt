@@ -8,10 +8,10 @@ use native.Mathlib.Omega.{arith}
 use lib.Dec.{eqb}
 use lib.ListN.{length, drop, replicate, length-append}
 use lib.Seq.{drop-append-seam}
-use borrow.Author.Tests.{not-true}
-use Rattle.lists.specs.Tests.{cases, and-left, and-right}
+use borrow.Author.Tests.{eqb-true, not-true}
+use Rattle.lists.specs.Tests.{cases, and-left, and-right, or-left}
 use Rattle.paths.specs.Containment.{slash, same, isEmpty, components, climbing, trimmed, starting, slashed, contained}
-use Rattle.paths.specs.Components.{climbing-behind}
+use Rattle.paths.specs.Components.{climbing-append, climbing-behind}
 use Rattle.paths.specs.Trimming.{isEmpty-sound, starting-sound, starting-complete, trimmed-append, trimmed-twice, trimmed-slashes, trimmed-end, beneath, followed}
 
 -- ---- what containment says
@@ -192,3 +192,20 @@ contained-trimmed p q some = rw (climbing-trimmed p, trimmed-twice p, some, some
     some-whole : (p : List ℕ) → isEmpty (trimmed p) ≡ false → isEmpty p ≡ false
     some-whole [] h = h
     some-whole (b ∷ p) h = refl
+
+-- what follows a path is nothing, or a slash and more: the path has no `..` component where the two together have none
+followed-clean : (t r : List ℕ) → isEmpty r || slashed r ≡ true → climbing (t ++ r) ≡ false → climbing t ≡ false
+followed-clean t [] ends clean = rw (append-nil t) at clean
+followed-clean t (b ∷ r) ends clean =
+    let cut : b ≡ slash = eqb-true b slash ends in
+    or-left (climbing t) (climbing r) (sym (climbing-append t r) ∙ rw (← cut) clean)
+
+-- where the inner path stands beneath the outer one, a `..` component of the outer path is one of the inner path too
+pub beneath-clean : (p q : List ℕ) → isEmpty p || beneath (trimmed p) q ≡ true → climbing q ≡ false → climbing p ≡ false
+unfolding climbing components same
+beneath-clean [] q here clean = refl
+beneath-clean (b ∷ p) q here clean =
+    let t = trimmed (b ∷ p) in
+    let starts = starting-sound t q (and-left (starting t q) (isEmpty (drop (length t) q) || slashed (drop (length t) q)) here) in
+    let ends = and-right (starting t q) (isEmpty (drop (length t) q) || slashed (drop (length t) q)) here in
+    sym (climbing-trimmed (b ∷ p)) ∙ followed-clean t (drop (length t) q) ends (ap climbing (sym starts) ∙ clean)

@@ -74,19 +74,6 @@ fn climbs(p: &[u8]) -> bool
     }
 }
 
-// Whether neither path has a component that equals `..`.
-fn are_clean(outer: &[u8], inner: &[u8]) -> bool
-    ensures { λ r. ⌜ r ≡ (not (climbing (now (outer .entry))) && not (climbing (now (inner .entry)))) ⌝ }
-{
-    if climbs(outer) {
-        return false;
-    }
-    if climbs(inner) {
-        return false;
-    }
-    true
-}
-
 // How long the path is without the slashes at its end.
 fn trimmed_len(p: &[u8]) -> usize
     ensures { λ r. ⌜ (take r (now (p .entry)) ≡ trimmed (now (p .entry))) × (r ≤ length (now (p .entry))) ⌝ }
@@ -147,12 +134,13 @@ fn is_beneath(outer: &[u8], inner: &[u8]) -> bool
     }
 }
 
-// Whether the outer path contains the inner one.
+// Whether the outer path contains the inner one. Only the inner path is asked for `..`: where it stands beneath the outer one, a component
+// of the outer path is one of it too.
 pub fn contains(outer: &[u8], inner: &[u8]) -> bool
     ensures { λ r. ⌜ r ≡ contained (now (outer .entry)) (now (inner .entry)) ⌝ }
 {
     if is_beneath(outer, inner) {
-        are_clean(outer, inner)
+        !climbs(inner)
     } else {
         false
     }
