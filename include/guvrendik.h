@@ -165,7 +165,7 @@ typedef struct guvrendik_soundness {
  * stands; a parent has DELEGATE; a machine grants only where it has an owner, and never right 13, 15 or 16; no claim has more
  * than 16 hops; the holder of a claim with a parent holds no claim higher on the chain and did not grant its root.
  * No refusal: every register is answered.
- * Stack: 64,000 bytes. */
+ * Stack: 74,000 bytes. */
 guvrendik_soundness guvrendik_sound(guvrendik_register r);
 
 /* ---- Changes ---- */
@@ -187,7 +187,7 @@ typedef struct guvrendik_granted {
  * 11 it is not live at now; 12 it lacks DELEGATE; 13 it lacks a right; 14 it has less weight; 15 more than 16 hops; 16 a circle.
  * Refused for no other cause: a claim of weight 0, or whose expiry has passed, is granted.
  * Accepted, everything but the new claim and the count of claims is as it came, also what stands past the counts.
- * Stack: 141,000 bytes. */
+ * Stack: 156,000 bytes. */
 guvrendik_granted guvrendik_grant(guvrendik_register r, guvrendik_claim c, uint64_t now);
 
 /* The answer of guvrendik_revoke. */
@@ -205,7 +205,7 @@ typedef struct guvrendik_revoked {
  * Refusals, the first that applies: 1 register not sound; 3 revoker not in the register; 17 the claim does not stand; 18 the
  * revoker granted neither it nor a claim higher on its chain.
  * Accepted, every place past the count of claims holds a claim of all zeros: nothing of a withdrawn claim is left.
- * Stack: 113,000 bytes. */
+ * Stack: 131,000 bytes. */
 guvrendik_revoked guvrendik_revoke(guvrendik_register r, uint32_t revoker, uint32_t claim);
 
 /* ---- The gate ---- */
@@ -261,7 +261,7 @@ typedef struct guvrendik_verdict {
  *  a  the action, every field in the range that guvrendik_action gives
  * Refusals, the first that applies: 1 register not sound; 2 a field or count of the action out of range; 3 actor not in the
  * register. Then there are no violations and no hop counts.
- * Stack: 94,000 bytes. */
+ * Stack: 116,000 bytes. */
 guvrendik_verdict guvrendik_gate(guvrendik_register r, guvrendik_action a);
 
 typedef struct guvrendik_plan {
@@ -289,7 +289,7 @@ typedef struct guvrendik_plan_verdict {
  *  p  the plan
  * Refusals, the first that applies: 1 register not sound; 2 more than 16 actions; then the first action that is refused with 2
  * or 3, as by guvrendik_gate, stops the whole plan, also one that would be cancelled. Then there are no judgements.
- * Stack: 84,000 bytes. */
+ * Stack: 106,000 bytes. */
 guvrendik_plan_verdict guvrendik_judge_plan(guvrendik_register r, guvrendik_plan p);
 
 /* ---- Paths ---- */
@@ -330,7 +330,7 @@ typedef struct guvrendik_register_read {
  * Refusals: the first failing line decides between 19, not of the form or a number or path outside its field's range, and 20, a
  * count above its limit, whatever its length; a text that ends early, and bytes after the end, fail as the next line with 19.
  * Soundness comes last, with 1.
- * Stack: 148,000 bytes. */
+ * Stack: 157,000 bytes. */
 guvrendik_register_read guvrendik_read_register(const uint8_t *text, size_t text_len);
 
 /* The answer of a call that writes a text. */
@@ -346,7 +346,7 @@ typedef struct guvrendik_written {
  *                     every register. May be NULL where buffer_len is 0.
  * Refusals, the first that applies: 1 register not sound; 21 buffer too short. Then the buffer keeps every byte.
  * Accepted, the buffer keeps its bytes past the text. No zero byte is added.
- * Stack: 129,000 bytes. */
+ * Stack: 139,000 bytes. */
 guvrendik_written guvrendik_write_register(guvrendik_register r, uint8_t *buffer, size_t buffer_len);
 
 /* The answer of guvrendik_read_action. */
@@ -372,7 +372,7 @@ guvrendik_action_read guvrendik_read_action(const uint8_t *text, size_t text_len
  *                              are enough for every verdict.
  * Refusal: 21 buffer too short. Then the buffer keeps every byte. A text that is not read is no refusal of this call: its answer
  * is the text with verdict=stopped.
- * Stack: 133,000 bytes. */
+ * Stack: 143,000 bytes. */
 guvrendik_written guvrendik_verdict_text(const uint8_t *register_text, size_t register_len, const uint8_t *action_text,
                                          size_t action_len, uint8_t *buffer, size_t buffer_len);
 
