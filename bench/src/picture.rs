@@ -65,8 +65,10 @@ fn names(rows: &[Row]) -> Vec<&str> {
 fn goals(out: &mut String, rows: &[Row], top: f64) -> f64 {
     let names = names(rows);
     let (left, right, step) = (370.0, WIDTH - 30.0, 20.0);
-    let ticks = [0.25, 0.5, 1.0, 2.0, 4.0, 8.0];
-    let across = |part: f64| left + (part.clamp(0.25, 8.0) / 0.25).log2() / 5.0 * (right - left);
+    const LEAST: f64 = 1.0 / 32.0;
+    let ticks = [LEAST, 0.0625, 0.125, 0.25, 0.5, 1.0, 2.0, 4.0];
+    let most = ticks[ticks.len() - 1];
+    let across = |part: f64| left + (part.clamp(LEAST, most) / LEAST).log2() / (most / LEAST).log2() * (right - left);
     let bottom = top + 30.0 + step * names.len() as f64;
     text(out, left, top, "start", 13, "time / time that the goal allows; left of the line at 1 the goal is reached");
     for tick in ticks {
