@@ -1,7 +1,7 @@
--- `portal::stop` meets its contract: each arm by the decision that it is for. Assumes nothing.
+-- `answers::stop` meets its contract: each arm by the decision that it is for. Assumes nothing.
 use borrow.Author.Needs.{needs}
-use Rattle.portal.proofs.stop.Statement.{statement}
-use Rattle.portal.proofs.stop.Tie as tie
+use Rattle.answers.proofs.stop.Statement.{statement}
+use Rattle.answers.proofs.stop.Tie as tie
 
 enum-told : tie.Need-enum-told
 enum-told c = search needs

@@ -1,14 +1,14 @@
--- `portal::judgements` meets its contract. The loop's invariant: the numbers of the verdicts passed are in their places, and zeros past them
+-- `answers::judgements` meets its contract. The loop's invariant: the numbers of the verdicts passed are in their places, and zeros past them
 -- (Filling). The measure is the number of verdicts left. Assumes nothing.
 use mathlib.Core.Path.{refl}
 use Prim.Native.Nat.{_-_}
 use borrow.Author.Needs.{needs}
 use Rattle.lists.specs.Loops.{length-mapped}
 use Rattle.actions.specs.Actions.{actionLimit}
-use Rattle.portal.specs.Answers.{judgementNumbers, noJudgement}
-use Rattle.portal.proofs.Filling.{Filling, filling-start, filling-next, filling-done}
-use Rattle.portal.proofs.judgements.Statement.{statement}
-use Rattle.portal.proofs.judgements.Tie as tie
+use Rattle.answers.specs.Answers.{judgementNumbers, noJudgement}
+use Rattle.answers.proofs.Filling.{Filling, filling-start, filling-next, filling-done}
+use Rattle.answers.proofs.judgements.Statement.{statement}
+use Rattle.answers.proofs.judgements.Tie as tie
 
 abbrev Inv-loop : tie.InvT-loop
 Inv-loop v top list₀ i₀ list i = Filling (λ e. judgementNumbers (e .what)) noJudgement actionLimit (v .count) (v .list) top list i

@@ -1,7 +1,7 @@
--- `portal::refusal` meets its contract: each arm by the outcome that it is for. Assumes nothing.
+-- `answers::refusal` meets its contract: each arm by the outcome that it is for. Assumes nothing.
 use borrow.Author.Needs.{needs}
-use Rattle.portal.proofs.refusal.Statement.{statement}
-use Rattle.portal.proofs.refusal.Tie as tie
+use Rattle.answers.proofs.refusal.Statement.{statement}
+use Rattle.answers.proofs.refusal.Tie as tie
 
 enum-told : tie.Need-enum-told
 enum-told c = search needs

@@ -1,7 +1,7 @@
--- `portal::written` meets its contract: each number is that of the inner answer. Assumes nothing.
+-- `answers::written` meets its contract: each number is that of the inner answer. Assumes nothing.
 use borrow.Author.Needs.{needs}
-use Rattle.portal.proofs.written.Statement.{statement}
-use Rattle.portal.proofs.written.Tie as tie
+use Rattle.answers.proofs.written.Statement.{statement}
+use Rattle.answers.proofs.written.Tie as tie
 
 accepted-requires : tie.Need-accepted-requires
 accepted-requires c κs = search needs

@@ -1,9 +1,9 @@
--- `portal::accepted` meets its contract: each arm by the outcome that it is for. Assumes nothing.
+-- `answers::accepted` meets its contract: each arm by the outcome that it is for. Assumes nothing.
 use mathlib.Core.Path.{sym, ap}
 use borrow.Author.Needs.{needs}
-use Rattle.portal.specs.Answers.{acceptedNumber}
-use Rattle.portal.proofs.accepted.Statement.{statement}
-use Rattle.portal.proofs.accepted.Tie as tie
+use Rattle.answers.specs.Answers.{acceptedNumber}
+use Rattle.answers.proofs.accepted.Statement.{statement}
+use Rattle.answers.proofs.accepted.Tie as tie
 
 enum-told : tie.Need-enum-told
 enum-told c = search needs

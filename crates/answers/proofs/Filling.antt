@@ -7,7 +7,7 @@ use native.Mathlib.Numerals.{add-one}
 use native.Mathlib.Omega.{arith}
 use lib.ListN.{length, take, getD, set, replicate, length-take, length-map}
 use lib.Seq.{take-suc, take-all, getD-take, set-at, append-snoc}
-use Rattle.portal.specs.Answers.{filled}
+use Rattle.answers.specs.Answers.{filled}
 
 -- the loop has come to place i, of top: f of what stands before it is in its places, and every place past it is free
 pub record Filling {A B : Type 0} (f : A → B) (none : B) (most k : ℕ) (l : List A) (top : ℕ) (out : List B) (i : ℕ) : Type 0 where

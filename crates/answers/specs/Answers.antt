@@ -20,17 +20,17 @@ use Rattle.actions.specs.declared.PlanVerdict.{PlanVerdict}
 use Rattle.texts.specs.declared.RegisterRead.{RegisterRead}
 use Rattle.texts.specs.declared.ActionRead.{ActionRead}
 use Rattle.texts.specs.declared.Written.{Written}
-use Rattle.portal.specs.declared.Containment.{Containment}
-use Rattle.portal.specs.declared.Soundness.{Soundness}
-use Rattle.portal.specs.declared.GrantAnswer.{GrantAnswer}
-use Rattle.portal.specs.declared.RevokeAnswer.{RevokeAnswer}
-use Rattle.portal.specs.declared.ViolationNumbers.{ViolationNumbers}
-use Rattle.portal.specs.declared.GateAnswer.{GateAnswer}
-use Rattle.portal.specs.declared.JudgementNumbers.{JudgementNumbers}
-use Rattle.portal.specs.declared.PlanAnswer.{PlanAnswer}
-use Rattle.portal.specs.declared.RegisterAnswer.{RegisterAnswer}
-use Rattle.portal.specs.declared.ActionAnswer.{ActionAnswer}
-use Rattle.portal.specs.declared.WrittenAnswer.{WrittenAnswer}
+use Rattle.answers.specs.declared.Containment.{Containment}
+use Rattle.answers.specs.declared.Soundness.{Soundness}
+use Rattle.answers.specs.declared.GrantAnswer.{GrantAnswer}
+use Rattle.answers.specs.declared.RevokeAnswer.{RevokeAnswer}
+use Rattle.answers.specs.declared.ViolationNumbers.{ViolationNumbers}
+use Rattle.answers.specs.declared.GateAnswer.{GateAnswer}
+use Rattle.answers.specs.declared.JudgementNumbers.{JudgementNumbers}
+use Rattle.answers.specs.declared.PlanAnswer.{PlanAnswer}
+use Rattle.answers.specs.declared.RegisterAnswer.{RegisterAnswer}
+use Rattle.answers.specs.declared.ActionAnswer.{ActionAnswer}
+use Rattle.answers.specs.declared.WrittenAnswer.{WrittenAnswer}
 
 -- a yes is 1 and a no is 0
 abbrev pub yesNumber : Bool → ℕ

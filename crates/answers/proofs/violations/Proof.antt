@@ -1,14 +1,14 @@
--- `portal::violations` meets its contract. The loop's invariant: the numbers of the violations passed are in their places, and zeros past them
+-- `answers::violations` meets its contract. The loop's invariant: the numbers of the violations passed are in their places, and zeros past them
 -- (Filling). The measure is the number of violations left. Assumes nothing.
 use mathlib.Core.Path.{refl}
 use Prim.Native.Nat.{_-_}
 use borrow.Author.Needs.{needs}
 use Rattle.lists.specs.Loops.{length-mapped}
 use Rattle.actions.specs.Actions.{violationLimit}
-use Rattle.portal.specs.Answers.{violationNumbers, noViolation}
-use Rattle.portal.proofs.Filling.{Filling, filling-start, filling-next, filling-done}
-use Rattle.portal.proofs.violations.Statement.{statement}
-use Rattle.portal.proofs.violations.Tie as tie
+use Rattle.answers.specs.Answers.{violationNumbers, noViolation}
+use Rattle.answers.proofs.Filling.{Filling, filling-start, filling-next, filling-done}
+use Rattle.answers.proofs.violations.Statement.{statement}
+use Rattle.answers.proofs.violations.Tie as tie
 
 abbrev Inv-loop : tie.InvT-loop
 Inv-loop vs top list₀ i₀ list i = Filling (λ e. violationNumbers (e .what)) noViolation violationLimit (vs .count) (vs .list) top list i

@@ -8,16 +8,16 @@ use Rattle.actions.specs.declared.Verdict.{Verdict}
 use Rattle.actions.specs.declared.PlanVerdict.{PlanVerdict}
 use Rattle.texts.specs.declared.RegisterRead.{RegisterRead}
 use Rattle.texts.specs.declared.ActionRead.{ActionRead}
-use Rattle.portal.specs.declared.GrantAnswer.{GrantAnswer}
-use Rattle.portal.specs.declared.RevokeAnswer.{RevokeAnswer}
-use Rattle.portal.specs.declared.ViolationNumbers.{ViolationNumbers}
-use Rattle.portal.specs.declared.GateAnswer.{GateAnswer}
-use Rattle.portal.specs.declared.JudgementNumbers.{JudgementNumbers}
-use Rattle.portal.specs.declared.PlanAnswer.{PlanAnswer}
-use Rattle.portal.specs.declared.RegisterAnswer.{RegisterAnswer}
-use Rattle.portal.specs.declared.ActionAnswer.{ActionAnswer}
-use Rattle.portal.specs.Answers.{acceptedNumber, refusalNumber, grantAnswer, revokeAnswer}
-use Rattle.portal.specs.Answers.{decisionNumber, stopNumber, violationList, gateAnswer, judgementList, planAnswer, registerAnswer, actionAnswer}
+use Rattle.answers.specs.declared.GrantAnswer.{GrantAnswer}
+use Rattle.answers.specs.declared.RevokeAnswer.{RevokeAnswer}
+use Rattle.answers.specs.declared.ViolationNumbers.{ViolationNumbers}
+use Rattle.answers.specs.declared.GateAnswer.{GateAnswer}
+use Rattle.answers.specs.declared.JudgementNumbers.{JudgementNumbers}
+use Rattle.answers.specs.declared.PlanAnswer.{PlanAnswer}
+use Rattle.answers.specs.declared.RegisterAnswer.{RegisterAnswer}
+use Rattle.answers.specs.declared.ActionAnswer.{ActionAnswer}
+use Rattle.answers.specs.Answers.{acceptedNumber, refusalNumber, grantAnswer, revokeAnswer}
+use Rattle.answers.specs.Answers.{decisionNumber, stopNumber, violationList, gateAnswer, judgementList, planAnswer, registerAnswer, actionAnswer}
 
 pub grant-told : {g h : Granted} {a n : ℕ} → g ≡ h → a ≡ acceptedNumber (g .outcome) → n ≡ refusalNumber (g .outcome)
     → _≡_ {A = GrantAnswer} (record { state = g .register; accepted = a; refusal = n }) (grantAnswer h)

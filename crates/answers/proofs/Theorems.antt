@@ -15,7 +15,7 @@ use Rattle.actions.specs.declared.Decision.{Decision}
 use Rattle.actions.specs.declared.Decision.the-variants.{Permitted, Refused, Stopped}
 use Rattle.actions.specs.declared.Judgement.{Judgement}
 use Rattle.actions.specs.declared.Judgement.the-variants.{Permitted as Agreed, Refused as Denied, Cancelled}
-use Rattle.portal.specs.Answers.{acceptedNumber, refusalNumber, decisionNumber}
+use Rattle.answers.specs.Answers.{acceptedNumber, refusalNumber, decisionNumber}
 
 -- every refusal has a number above 0
 number-above : (why : Refusal) → 0 < numberOf why

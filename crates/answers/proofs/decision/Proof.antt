@@ -1,9 +1,9 @@
--- `portal::decision` meets its contract: each arm by the decision that it is for. Assumes nothing.
+-- `answers::decision` meets its contract: each arm by the decision that it is for. Assumes nothing.
 use mathlib.Core.Path.{sym, ap}
 use borrow.Author.Needs.{needs}
-use Rattle.portal.specs.Answers.{decisionNumber}
-use Rattle.portal.proofs.decision.Statement.{statement}
-use Rattle.portal.proofs.decision.Tie as tie
+use Rattle.answers.specs.Answers.{decisionNumber}
+use Rattle.answers.proofs.decision.Statement.{statement}
+use Rattle.answers.proofs.decision.Tie as tie
 
 enum-told : tie.Need-enum-told
 enum-told c = search needs

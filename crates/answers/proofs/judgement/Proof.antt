@@ -1,7 +1,7 @@
--- `portal::judgement` meets its contract: each number is that of the call that gives it. Assumes nothing.
+-- `answers::judgement` meets its contract: each number is that of the call that gives it. Assumes nothing.
 use borrow.Author.Needs.{needs}
-use Rattle.portal.proofs.judgement.Statement.{statement}
-use Rattle.portal.proofs.judgement.Tie as tie
+use Rattle.answers.proofs.judgement.Statement.{statement}
+use Rattle.answers.proofs.judgement.Tie as tie
 
 judgement-number-requires : tie.Need-judgement-number-requires
 judgement-number-requires c κs = search needs

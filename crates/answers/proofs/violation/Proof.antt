@@ -1,7 +1,7 @@
--- `portal::violation` meets its contract: each number is that of the call that gives it. Assumes nothing.
+-- `answers::violation` meets its contract: each number is that of the call that gives it. Assumes nothing.
 use borrow.Author.Needs.{needs}
-use Rattle.portal.proofs.violation.Statement.{statement}
-use Rattle.portal.proofs.violation.Tie as tie
+use Rattle.answers.proofs.violation.Statement.{statement}
+use Rattle.answers.proofs.violation.Tie as tie
 
 kind-requires : tie.Need-kind-requires
 kind-requires c κs = search needs
