@@ -1,10 +1,10 @@
--- `writing::put_kind` meets its contract: the test on the kind is the one of `kindLine`, and the bytes are those of its two lines.
+-- `sheets::put_kind` meets its contract: the test on the kind is the one of `kindLine`, and the bytes are those of its two lines.
 -- Assumes nothing.
 use borrow.Author.Needs.{needs}
 use borrow.Author.Tests.{eq-eqb, ne-eqb}
 use Rattle.lines.specs.Lines.{kindLine}
-use Rattle.writing.proofs.put_kind.Statement.{statement}
-use Rattle.writing.proofs.put_kind.Tie as tie
+use Rattle.sheets.proofs.put_kind.Statement.{statement}
+use Rattle.sheets.proofs.put_kind.Tie as tie
 
 slice-aggregate-put-bytes : tie.Need-slice-aggregate-put-bytes
 slice-aggregate-put-bytes c = search needs
