@@ -19,7 +19,7 @@ use Rattle.changes.specs.declared.Outcome.the-variants.{Accepted, Refused as Re
 use Rattle.changes.specs.declared.Refusal.{Refusal}
 use Rattle.changes.specs.declared.Refusal.the-variants.{Unsound, OutOfRange, Unknown, IdStands, Full, NotKeeper, Ownerless, MachineBarred, ParentAbsent}
 use Rattle.changes.specs.declared.Refusal.the-variants.{ParentNotHeld, ParentDead, NoDelegate, RightLacking, WeightAbove, TooManyHops, Circle, ClaimAbsent, NoGrantor}
-use Rattle.changes.specs.declared.Refusal.the-variants.{BadForm, CountAbove, BufferShort}
+use Rattle.changes.specs.declared.Refusal.the-variants.{BadForm, CountAbove, BufferShort, BadJson, BeyondJson}
 use Rattle.actions.specs.Actions.{violationLimit, flagCount, usesOf, governsOf, kindOf, valueOf, actionFits}
 use Rattle.actions.specs.declared.Usage.{Usage}
 use Rattle.actions.specs.declared.Action.{Action}
@@ -138,7 +138,7 @@ list-length vs few small =
       pairs,
     )
 
-number-most : (why : Refusal) → numberOf why ≤ 21
+number-most : (why : Refusal) → numberOf why ≤ 25
 number-most Unsound = omega arith
 number-most OutOfRange = omega arith
 number-most Unknown = omega arith
@@ -160,6 +160,8 @@ number-most NoGrantor = omega arith
 number-most BadForm = omega arith
 number-most CountAbove = omega arith
 number-most BufferShort = omega arith
+number-most BadJson = omega arith
+number-most BeyondJson = omega arith
 
 pub stopped-length : (why : Refusal) → length (stoppedText why) ≤ printedLimit
 unfolding stoppedText

@@ -1,0 +1,19 @@
+// What reading and writing an action in the builder's JSON form answer. Here are the types; in specs/ the form, in the words of 02's T-04,
+// and the definitions that the two calls are proved to equal.
+use actions::Action;
+use changes::Outcome;
+
+// How many bytes an id has at most.
+pub const ID_BYTES: usize = 64;
+
+// No action's text is longer.
+pub const JSON_TEXT: usize = 807;
+
+// An action that was read, with its id and kind. Refused: the action of all zeros, no id, and kind 0.
+pub struct JsonRead {
+    pub action: Action,
+    pub outcome: Outcome,
+    pub kind: u32,
+    pub len: usize,
+    pub id: [u8; ID_BYTES],
+}
