@@ -56,7 +56,7 @@ first-mark b t h =
     cases (eqb b trueMark) (λ e. rw (eqb-true b trueMark e))
     (λ n. cases (eqb b falseMark) (λ e. rw (eqb-true b falseMark e))
     (λ m. let marked : isMark b ≡ true = cases (isMark b) (λ e. e) (λ e. clash (eqb b falseMark)
-        (or-other (eqb b trueMark) (eqb b falseMark) (or-other (isMark b) (eqb b trueMark || eqb b falseMark) h e) n) m) in
+    (or-other (eqb b trueMark) (eqb b falseMark) (or-other (isMark b) (eqb b trueMark || eqb b falseMark) h e) n) m) in
     rw (n, m, marked-unblank b marked, marked)))
 
 -- the first token of a token's text, whatever follows it, is that token
