@@ -1,6 +1,5 @@
 -- The definitions of tokens on small texts, yes and no, computed. Assumes nothing.
 use mathlib.Core.Path.{_≡_, refl}
-use mathlib.Core.Bool.{true, false}
 use mathlib.Core.List.{[], _∷_, flatten}
 use Rattle.lists.specs.Bytes.{bytes}
 use Rattle.paths.specs.Containment.{same}
@@ -10,7 +9,7 @@ use Rattle.json_tokens.specs.Spelling.{spelled, spelledAll, spaced}
 
 -- an object with every kind of blank in it: SP, `{`, TAB, `"a"`, LF, `:`, CR, `0`, `,`, `"b"`, `:`, `false`, SP, SP, `}`, LF
 blank-rich :
-    tokens (32 ∷ 123 ∷ 9 ∷ 34 ∷ 97 ∷ 34 ∷ 10 ∷ 58 ∷ 13 ∷ 48 ∷ 44 ∷ 34 ∷ 98 ∷ 34 ∷ 58 ∷ 102 ∷ 97 ∷ 108 ∷ 115 ∷ 101 ∷ 32 ∷ 32 ∷ 125 ∷ 10 ∷ [])
+    tokens (32 ∷ 123 ∷ 9 ∷ quote ∷ 97 ∷ quote ∷ 10 ∷ 58 ∷ 13 ∷ 48 ∷ 44 ∷ quote ∷ 98 ∷ quote ∷ 58 ∷ 102 ∷ 97 ∷ 108 ∷ 115 ∷ 101 ∷ 32 ∷ 32 ∷ 125 ∷ 10 ∷ [])
     ≡ mark opensObject ∷ text (bytes "a") ∷ mark colon ∷ mark zeroMark ∷ mark comma ∷ text (bytes "b") ∷ mark colon ∷ mark falseMark ∷ mark closesObject ∷ []
 unfolding tokens tokensWith firstOf unblanked quoted closing same
 blank-rich = refl
@@ -21,12 +20,12 @@ unfolding tokens tokensWith firstOf unblanked quoted closing same
 nothing = (refl, refl, refl)
 
 -- a text that is closed, one that is not, and the empty one
-quotes : (tokens (34 ∷ 97 ∷ 34 ∷ []) ≡ text (bytes "a") ∷ []) × (tokens (34 ∷ 97 ∷ []) ≡ bad ∷ []) × (tokens (34 ∷ 34 ∷ []) ≡ text [] ∷ [])
+quotes : (tokens (quote ∷ 97 ∷ quote ∷ []) ≡ text (bytes "a") ∷ []) × (tokens (quote ∷ 97 ∷ []) ≡ bad ∷ []) × (tokens (quote ∷ quote ∷ []) ≡ text [] ∷ [])
 unfolding tokens tokensWith firstOf unblanked quoted closing same
 quotes = (refl, refl, refl)
 
 -- a backslash is a byte as any other: it does not keep the quote behind it from closing the text
-backslash : (tokens (34 ∷ 92 ∷ 110 ∷ 34 ∷ []) ≡ text (92 ∷ 110 ∷ []) ∷ []) × (tokens (34 ∷ 92 ∷ 34 ∷ 34 ∷ []) ≡ text (92 ∷ []) ∷ bad ∷ [])
+backslash : (tokens (quote ∷ 92 ∷ 110 ∷ quote ∷ []) ≡ text (92 ∷ 110 ∷ []) ∷ []) × (tokens (quote ∷ 92 ∷ quote ∷ quote ∷ []) ≡ text (92 ∷ []) ∷ bad ∷ [])
 unfolding tokens tokensWith firstOf unblanked quoted closing same
 backslash = (refl, refl)
 
@@ -47,7 +46,7 @@ behind-bad = refl
 
 -- texts of tokens; more runs of blanks than tokens, and fewer
 spellings :
-    (spelledAll (mark comma ∷ mark trueMark ∷ text (bytes "a") ∷ []) ≡ 44 ∷ 116 ∷ 114 ∷ 117 ∷ 101 ∷ 34 ∷ 97 ∷ 34 ∷ [])
+    (spelledAll (mark comma ∷ mark trueMark ∷ text (bytes "a") ∷ []) ≡ 44 ∷ 116 ∷ 114 ∷ 117 ∷ 101 ∷ quote ∷ 97 ∷ quote ∷ [])
     × (spaced (bytes " " ∷ bytes "  " ∷ bytes " " ∷ []) (mark comma ∷ []) ≡ bytes " ,   ")
     × (spaced (bytes " " ∷ []) (mark comma ∷ mark colon ∷ []) ≡ bytes " ,:")
 unfolding spelledAll spelled spaced flatten

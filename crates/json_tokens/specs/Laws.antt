@@ -7,10 +7,9 @@ use native.Mathlib.Omega.{arith}
 use lib.Dec.{eqb}
 use lib.ListN.{length, take, drop, length-drop}
 use Rattle.lists.specs.Tests.{cases}
-use Rattle.lists.specs.Each.{list-cases}
 use Rattle.paths.specs.Containment.{same}
-use Rattle.json_tokens.specs.Tokens.{Token, mark, text, bad, First, first, ended, isBlank, isMark, quote, trueWord, falseWord, trueMark, falseMark}
-use Rattle.json_tokens.specs.Tokens.{unblanked, quoted, closing, closed, firstOf, followed, tokensWith, tokens}
+use Rattle.json_tokens.specs.Tokens.{Token, mark, bad, First, first, ended, isBlank, isMark, quote, trueWord, falseWord, trueMark, falseMark}
+use Rattle.json_tokens.specs.Tokens.{unblanked, quoted, closing, closed, firstOf, tokensWith, tokens}
 
 -- a first token taken apart, with its equation
 pub first-cases : {A : Type 0} (f : First) → ((k : Token) (rest : List ℕ) → f ≡ first k rest → A) → (f ≡ ended → A) → A

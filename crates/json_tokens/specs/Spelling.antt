@@ -13,10 +13,14 @@ spelled (mark b) = cond (eqb b trueMark) trueWord (cond (eqb b falseMark) falseW
 spelled (text x) = quote ∷ (x ++ (quote ∷ []))
 spelled bad = []
 
+-- whether a text has no quote
+abbrev pub unquoted : List ℕ → Bool
+unquoted = every (λ b. not (eqb b quote))
+
 -- which tokens have a text: the marks and the words, and every text without a quote
 abbrev pub Spelt : Token → Type 0
 Spelt (mark b) = isMark b || (eqb b trueMark || eqb b falseMark) ≡ true
-Spelt (text x) = every (λ b. not (eqb b quote)) x ≡ true
+Spelt (text x) = unquoted x ≡ true
 Spelt bad = ⊥
 
 -- whether a text is blank

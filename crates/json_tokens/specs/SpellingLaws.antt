@@ -1,17 +1,17 @@
 -- What spelled tokens read as: themselves, with any blanks between them. Assumes nothing.
 use Prim.Native.Nat.{ℕ}
-use mathlib.Core.Path.{_≡_, refl, sym, ap, _∙_}
-use mathlib.Core.List.{List, [], _∷_, _++_, append-assoc, append-nil, flatten}
-use mathlib.Core.Bool.{Bool, true, false, not, cond, _||_}
+use mathlib.Core.Path.{_≡_, refl, ap, _∙_}
+use mathlib.Core.List.{List, [], _∷_, _++_, append-assoc, flatten}
+use mathlib.Core.Bool.{true, false, not, _||_}
 use lib.Dec.{eqb}
 use borrow.Author.Tests.{eqb-true, not-true}
-use Rattle.lists.specs.Tests.{cases, clash, and-left, and-right, or-left, or-right, or-other, or-second}
-use Rattle.lists.specs.Lists.{every, every-append}
+use Rattle.lists.specs.Tests.{cases, clash, and-left, and-right, or-other}
+use Rattle.lists.specs.Lists.{every}
 use Rattle.lists.specs.Each.{All}
 use Rattle.paths.specs.Containment.{same}
-use Rattle.json_tokens.specs.Tokens.{Token, mark, text, bad, First, first, ended, isBlank, isMark, quote, trueMark, falseMark, trueWord, falseWord}
-use Rattle.json_tokens.specs.Tokens.{unblanked, quoted, closing, closed, firstOf, tokens}
-use Rattle.json_tokens.specs.Spelling.{spelled, Spelt, blanks, spelledAll, spaced}
+use Rattle.json_tokens.specs.Tokens.{Token, mark, text, bad, first, isBlank, isMark, quote, trueMark, falseMark}
+use Rattle.json_tokens.specs.Tokens.{unblanked, quoted, closing, firstOf, tokens}
+use Rattle.json_tokens.specs.Spelling.{spelled, unquoted, Spelt, blanks, spelledAll, spaced}
 use Rattle.json_tokens.specs.Laws.{tokens-first, tokens-nil, tokens-unblanked}
 
 -- blanks in front of a text are passed over
@@ -24,28 +24,28 @@ pub tokens-blanks : (w t : List ℕ) → blanks w ≡ true → tokens (w ++ t) �
 tokens-blanks w t h = tokens-unblanked (w ++ t) t (unblanked-blanks w t h)
 
 -- a text ends at its closing quote, whatever follows that
-quoted-text : (x t : List ℕ) → every (λ b. not (eqb b quote)) x ≡ true → quoted ((x ++ (quote ∷ [])) ++ t) ≡ x
+quoted-text : (x t : List ℕ) → unquoted x ≡ true → quoted ((x ++ (quote ∷ [])) ++ t) ≡ x
 unfolding quoted
 quoted-text [] t h = refl
 quoted-text (b ∷ x) t h =
-    let plain : eqb b quote ≡ false = not-true (eqb b quote) (and-left (not (eqb b quote)) (every (λ b. not (eqb b quote)) x) h) in
-    rw plain (ap (λ l. b ∷ l) (quoted-text x t (and-right (not (eqb b quote)) (every (λ b. not (eqb b quote)) x) h)))
+    let plain : eqb b quote ≡ false = not-true (eqb b quote) (and-left (not (eqb b quote)) (unquoted x) h) in
+    rw plain (ap (λ l. b ∷ l) (quoted-text x t (and-right (not (eqb b quote)) (unquoted x) h)))
 
-closing-text : (x t : List ℕ) → every (λ b. not (eqb b quote)) x ≡ true → closing ((x ++ (quote ∷ [])) ++ t) ≡ quote ∷ t
+closing-text : (x t : List ℕ) → unquoted x ≡ true → closing ((x ++ (quote ∷ [])) ++ t) ≡ quote ∷ t
 unfolding closing
 closing-text [] t h = refl
 closing-text (b ∷ x) t h =
-    let plain : eqb b quote ≡ false = not-true (eqb b quote) (and-left (not (eqb b quote)) (every (λ b. not (eqb b quote)) x) h) in
-    rw plain (closing-text x t (and-right (not (eqb b quote)) (every (λ b. not (eqb b quote)) x) h))
+    let plain : eqb b quote ≡ false = not-true (eqb b quote) (and-left (not (eqb b quote)) (unquoted x) h) in
+    rw plain (closing-text x t (and-right (not (eqb b quote)) (unquoted x) h))
 
 -- a blank is no mark
 blank-unmarked : (b : ℕ) → isBlank b ≡ true → isMark b ≡ false
 blank-unmarked b h =
     cases (eqb b 32) (λ e. rw (eqb-true b 32 e))
-    (λ n. let h1 = or-other (eqb b 32) (eqb b 9 || (eqb b 10 || eqb b 13)) h n in
+    (λ n. let nine = or-other (eqb b 32) (eqb b 9 || (eqb b 10 || eqb b 13)) h n in
     cases (eqb b 9) (λ e. rw (eqb-true b 9 e))
-    (λ n. let h2 = or-other (eqb b 9) (eqb b 10 || eqb b 13) h1 n in
-    cases (eqb b 10) (λ e. rw (eqb-true b 10 e)) (λ n. rw (eqb-true b 13 (or-other (eqb b 10) (eqb b 13) h2 n)))))
+    (λ n. let ten = or-other (eqb b 9) (eqb b 10 || eqb b 13) nine n in
+    cases (eqb b 10) (λ e. rw (eqb-true b 10 e)) (λ n. rw (eqb-true b 13 (or-other (eqb b 10) (eqb b 13) ten n)))))
 
 marked-unblank : (b : ℕ) → isMark b ≡ true → isBlank b ≡ false
 marked-unblank b h = cases (isBlank b) (λ e. clash (isMark b) h (blank-unmarked b e)) (λ e. e)
@@ -86,7 +86,7 @@ unfolding flatten
 tokens-runs [] h = tokens-nil
 tokens-runs (w ∷ ws) h = tokens-blanks w (flatten ws) (h .0) ∙ tokens-runs ws (h .1)
 
--- and so have they with blanks in front of any of them and at the end
+-- and with blanks in front of any of them and at the end they have the same
 pub tokens-spaced : (ws : List (List ℕ)) (ts : List Token) → All (λ w. every isBlank w ≡ true) ws → All Spelt ts → tokens (spaced ws ts) ≡ ts
 unfolding spaced
 tokens-spaced ws [] h k = tokens-runs ws h

@@ -1,7 +1,7 @@
 -- `json_tokens::has_word` meets its contract. A text that is shorter than the word does not have it; of one that is not, the bytes that may be
 -- the word's are as many as it has. Assumes nothing.
 use Prim.Native.Nat.{_+_, _-_}
-use mathlib.Core.Path.{_≡_, sym, _∙_}
+use mathlib.Core.Path.{_≡_, sym}
 use native.Mathlib.Omega.{arith}
 use lib.ListN.{length, take, drop, length-take, length-drop}
 use borrow.Author.Needs.{needs}

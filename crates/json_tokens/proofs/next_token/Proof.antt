@@ -1,9 +1,8 @@
 -- `json_tokens::next_token` meets its contract: past the blanks it is the first byte, the quote behind it or the word there that tells the first
 -- token, in the order of the definition. Assumes nothing.
 use mathlib.Core.Path.{sym, ap, _∙_}
-use mathlib.Core.List.{[]}
 use native.Mathlib.Omega.{arith}
-use lib.ListN.{drop, drop-of-length-le}
+use lib.ListN.{drop-of-length-le}
 use borrow.Author.Needs.{needs}
 use Rattle.json_tokens.specs.Tokens.{trueWord, falseWord, tokens}
 use Rattle.json_tokens.specs.Laws.{tokens-nil}

@@ -1,7 +1,7 @@
 -- `json_tokens::quote_at` meets its contract. The loop's invariant: from `at` up to `i` there is no quote, and what the quotes close behind
 -- that is found from `i` on. The measure is what is left of the text. Assumes nothing.
 use Prim.Native.Nat.{_≤_, _-_}
-use mathlib.Core.Path.{_≡_, refl, sym, _∙_}
+use mathlib.Core.Path.{_≡_, refl, _∙_}
 use mathlib.Core.List.{_++_}
 use native.Mathlib.Omega.{arith}
 use lib.ListN.{length, drop}
