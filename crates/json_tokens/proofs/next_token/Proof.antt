@@ -54,7 +54,7 @@ returns-4 c =
     let a = n .before .before .before .args in (
       tokens-text (a .s .now) (a .at) (n .blanks-end .result) (n .blanks-end .ensures .0) (omega arith)
           (sym (m .is-mark .ensures) ∙ q .before .before .if3 .left) (q .before .if4 .taken)
-          (q .quote-at .result) (q .quote-at .ensures .1) (q .quote-at .ensures .0) (c .if5 .taken),
+          (q .quote-at .result) (q .quote-at .ensures .1) (q .quote-at .ensures .0) (omega arith),
       omega arith,
       omega arith,
       omega arith,
@@ -67,7 +67,7 @@ returns-5 c =
     let n = m .before .before .before in
     let a = n .before .before .before .args in
     tokens-unclosed (a .s .now) (a .at) (n .blanks-end .result) (n .blanks-end .ensures .0) (omega arith)
-    (sym (m .is-mark .ensures) ∙ q .before .before .if3 .left) (q .before .if4 .taken) (q .quote-at .result) (q .quote-at .ensures .1) (c .if5 .left)
+    (sym (m .is-mark .ensures) ∙ q .before .before .if3 .left) (q .before .if4 .taken) (q .quote-at .result) (q .quote-at .ensures .1) (omega arith)
 
 slice-aggregate-has-word : tie.Need-slice-aggregate-has-word
 slice-aggregate-has-word c = search needs
