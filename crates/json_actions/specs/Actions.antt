@@ -24,40 +24,40 @@ use Rattle.writing.specs.Writing.{delivered, unwritten}
 use Rattle.json_tokens.specs.Tokens.{Token, mark, text, tokens, opensObject, closesObject, opensList, closesList, colon, comma, zeroMark, trueMark, falseMark}
 use Rattle.json_tokens.specs.Spelling.{spelledAll}
 use Rattle.json_actions.specs.Names.{keyNames, kindNames, flagNames, defaultDomain}
-use Rattle.json_actions.specs.Names.{idKey, actorKey, kindKey, readKey, writeKey, executeKey, flagsKey, domainKey, depthKey}
-use Rattle.json_actions.specs.Members.{Setting, Value, words, number, numbers, settings, Member, Taken, taken, none, membersOf, amongAll, isIdText, idLength}
+use Rattle.json_actions.specs.Names.{idPlace, actorPlace, kindPlace, readPlace, writePlace, executePlace, flagsPlace, domainPlace, depthPlace}
+use Rattle.json_actions.specs.Members.{Setting, Value, letters, figure, figures, settings, Member, Taken, took, missed, membersOf, amongAll, isIdText, idLength}
 use Rattle.json_actions.specs.declared.JsonRead.{JsonRead}
 
 -- Reading.
 
 -- what a key holds among some members, where it is one of them
 unfoldable pub heldAt : ℕ → List Member → Value
-heldAt k [] = number 0
+heldAt k [] = figure 0
 heldAt k (m ∷ ms) = let more = heldAt k ms in cond (eqb k (m .key)) (m .value) more
 
-abbrev pub wordsOf : Value → List ℕ
-wordsOf (words x) = x
-wordsOf (number n) = []
-wordsOf (numbers ns) = []
-wordsOf (settings ss) = []
+abbrev pub asLetters : Value → List ℕ
+asLetters (letters x) = x
+asLetters (figure n) = []
+asLetters (figures ns) = []
+asLetters (settings ss) = []
 
-abbrev pub numberOf : Value → ℕ
-numberOf (words x) = 0
-numberOf (number n) = n
-numberOf (numbers ns) = 0
-numberOf (settings ss) = 0
+abbrev pub asFigure : Value → ℕ
+asFigure (letters x) = 0
+asFigure (figure n) = n
+asFigure (figures ns) = 0
+asFigure (settings ss) = 0
 
-abbrev pub numbersOf : Value → List ℕ
-numbersOf (words x) = []
-numbersOf (number n) = []
-numbersOf (numbers ns) = ns
-numbersOf (settings ss) = []
+abbrev pub asFigures : Value → List ℕ
+asFigures (letters x) = []
+asFigures (figure n) = []
+asFigures (figures ns) = ns
+asFigures (settings ss) = []
 
-abbrev pub settingsOf : Value → List Setting
-settingsOf (words x) = []
-settingsOf (number n) = []
-settingsOf (numbers ns) = []
-settingsOf (settings ss) = ss
+abbrev pub asSettings : Value → List Setting
+asSettings (letters x) = []
+asSettings (figure n) = []
+asSettings (figures ns) = []
+asSettings (settings ss) = ss
 
 -- flag i is bit i
 unfoldable pub flagsOf : List Setting → ℕ
@@ -71,22 +71,22 @@ usedWith b ns = map (λ n. record { resource = n; right = b }) ns
 -- reads, writes and executes become uses of rights 0, 1 and 2, in that order
 unfoldable pub usesIn : List Member → List Usage
 usesIn ms =
-    usedWith 0 (numbersOf (heldAt readKey ms))
-    ++ (usedWith 1 (numbersOf (heldAt writeKey ms)) ++ usedWith 2 (numbersOf (heldAt executeKey ms)))
+    usedWith 0 (asFigures (heldAt readPlace ms))
+    ++ (usedWith 1 (asFigures (heldAt writePlace ms)) ++ usedWith 2 (asFigures (heldAt executePlace ms)))
 
 -- each key once; the first seven are there, the last two may be missing; up to 32 uses
-unfoldable pub isWhole : List Member → Bool
-isWhole ms = ands (
+unfoldable pub isFull : List Member → Bool
+isFull ms = ands (
     distinct (map (λ m. m .key) ms)
-    ∷ amongAll (counted 0 domainKey) (map (λ m. m .key) ms)
+    ∷ amongAll (counted 0 domainPlace) (map (λ m. m .key) ms)
     ∷ leb (length (usesIn ms)) useLimit
     ∷ [])
 
 -- the action of some members at a moment: nothing is governed, and zeros stand behind the uses
 unfoldable pub actionIn : ℕ → List Member → Action
 actionIn moment ms = record {
-  actor = numberOf (heldAt actorKey ms);
-  flags = flagsOf (settingsOf (heldAt flagsKey ms));
+  actor = asFigure (heldAt actorPlace ms);
+  flags = flagsOf (asSettings (heldAt flagsPlace ms));
   now = moment;
   uses = usesIn ms ++ replicate (useLimit - length (usesIn ms)) noUse;
   used = length (usesIn ms);
@@ -106,14 +106,14 @@ abbrev pub readWhole : ℕ → List Member → JsonRead
 readWhole moment ms = record {
   action = actionIn moment ms;
   outcome = Accepted;
-  kind = numberOf (heldAt kindKey ms);
-  len = length (wordsOf (heldAt idKey ms));
-  id = heldId (wordsOf (heldAt idKey ms));
+  kind = asFigure (heldAt kindPlace ms);
+  len = length (asLetters (heldAt idPlace ms));
+  id = heldId (asLetters (heldAt idPlace ms));
 }
 
 abbrev pub readMembers : ℕ → Taken (List Member) → JsonRead
-readMembers moment (taken ms ts) = cond (isWhole ms) (readWhole moment ms) (unread BadJson)
-readMembers moment none = unread BadJson
+readMembers moment (took ms ts) = cond (isFull ms) (readWhole moment ms) (unread BadJson)
+readMembers moment missed = unread BadJson
 
 -- the reading of a text at a moment: 2 for the clock, then 24
 unfoldable pub jsonRead : List ℕ → ℕ → JsonRead
@@ -136,15 +136,15 @@ settingsFrom flags = map (λ i. record { flag = i; set = isSet flags i }) (count
 -- all keys in 002's order
 unfoldable pub membersFrom : Action → List ℕ → ℕ → List Member
 membersFrom a id kind =
-    record { key = idKey; value = words id }
-    ∷ record { key = actorKey; value = number (a .actor) }
-    ∷ record { key = kindKey; value = number kind }
-    ∷ record { key = readKey; value = numbers (resourcesWith 0 (usesOf a)) }
-    ∷ record { key = writeKey; value = numbers (resourcesWith 1 (usesOf a)) }
-    ∷ record { key = executeKey; value = numbers (resourcesWith 2 (usesOf a)) }
-    ∷ record { key = flagsKey; value = settings (settingsFrom (a .flags)) }
-    ∷ record { key = domainKey; value = words defaultDomain }
-    ∷ record { key = depthKey; value = number 0 }
+    record { key = idPlace; value = letters id }
+    ∷ record { key = actorPlace; value = figure (a .actor) }
+    ∷ record { key = kindPlace; value = figure kind }
+    ∷ record { key = readPlace; value = figures (resourcesWith 0 (usesOf a)) }
+    ∷ record { key = writePlace; value = figures (resourcesWith 1 (usesOf a)) }
+    ∷ record { key = executePlace; value = figures (resourcesWith 2 (usesOf a)) }
+    ∷ record { key = flagsPlace; value = settings (settingsFrom (a .flags)) }
+    ∷ record { key = domainPlace; value = letters defaultDomain }
+    ∷ record { key = depthPlace; value = figure 0 }
     ∷ []
 
 -- the tokens of things with commas between them
@@ -153,18 +153,18 @@ commaed [] = []
 commaed (ts ∷ []) = ts
 commaed (ts ∷ us ∷ more) = ts ++ (mark comma ∷ commaed (us ∷ more))
 
--- the tokens of what a key holds: the actor's number and the resources' as texts, the kind by its name, the depth as a number
+-- the tokens of what a key holds: the numbers of the actor and of the resources as texts, the kind by its name, the depth as a number
 abbrev pub settingTokens : Setting → List Token
 settingTokens s = text (getD flagNames (s .flag) []) ∷ mark colon ∷ mark (cond (s .set) trueMark falseMark) ∷ []
 
 unfoldable pub numberTokens : ℕ → ℕ → List Token
 numberTokens k n =
-    cond (eqb k actorKey) (text (digits n) ∷ []) (cond (eqb k kindKey) (text (getD kindNames n []) ∷ []) (mark zeroMark ∷ []))
+    cond (eqb k actorPlace) (text (digits n) ∷ []) (cond (eqb k kindPlace) (text (getD kindNames n []) ∷ []) (mark zeroMark ∷ []))
 
 unfoldable pub valueTokens : ℕ → Value → List Token
-valueTokens k (words x) = text x ∷ []
-valueTokens k (number n) = numberTokens k n
-valueTokens k (numbers ns) = mark opensList ∷ (commaed (map (λ n. text (digits n) ∷ []) ns) ++ (mark closesList ∷ []))
+valueTokens k (letters x) = text x ∷ []
+valueTokens k (figure n) = numberTokens k n
+valueTokens k (figures ns) = mark opensList ∷ (commaed (map (λ n. text (digits n) ∷ []) ns) ++ (mark closesList ∷ []))
 valueTokens k (settings ss) = mark opensObject ∷ (commaed (map settingTokens ss) ++ (mark closesObject ∷ []))
 
 unfoldable pub memberTokens : Member → List Token

@@ -13,9 +13,9 @@ use Rattle.rights.specs.Rights.{rightCount}
 use Rattle.rules.specs.Sound.{distinct}
 use Rattle.actions.specs.Actions.{useLimit, flagCount}
 use Rattle.decimals.specs.Decimals.{Parsed, got, large, bad, parse}
-use Rattle.json_tokens.specs.Tokens.{Token, mark, text, bad as untaken, opensObject, closesObject, opensList, closesList, colon, comma, zeroMark, trueMark, falseMark, quote}
+use Rattle.json_tokens.specs.Tokens.{Token, mark, text, noToken, opensObject, closesObject, opensList, closesList, colon, comma, zeroMark, trueMark, falseMark, quote}
 use Rattle.json_actions.specs.Names.{keyNames, kindNames, flagNames, defaultDomain, placeOf, keyCount}
-use Rattle.json_actions.specs.Names.{idKey, actorKey, kindKey, readKey, writeKey, executeKey, flagsKey, domainKey, depthKey}
+use Rattle.json_actions.specs.Names.{idPlace, actorPlace, kindPlace, readPlace, writePlace, executePlace, flagsPlace, domainPlace, depthPlace}
 
 -- a flag and whether it is set
 pub record Setting : Type 0 where
@@ -24,9 +24,9 @@ pub record Setting : Type 0 where
 
 -- what a key holds: a text; a number; a list of numbers; the flags
 pub data Value : Type 0 where
-  words : List ℕ → Value
-  number : ℕ → Value
-  numbers : List ℕ → Value
+  letters : List ℕ → Value
+  figure : ℕ → Value
+  figures : List ℕ → Value
   settings : List Setting → Value
 
 -- a key, by its place among the nine, and what it holds
@@ -36,90 +36,90 @@ pub record Member : Type 0 where
 
 -- what some tokens begin with, and the tokens behind it; or nothing of that kind
 pub data Taken (A : Type 0) : Type 0 where
-  taken : A → List Token → Taken A
-  none : Taken A
+  took : A → List Token → Taken A
+  missed : Taken A
 
 -- what stands behind a mark
-abbrev pub behind : {A : Type 0} → ℕ → (List Token → Taken A) → List Token → Taken A
-behind b more [] = none
-behind b more (mark c ∷ ts) = cond (eqb c b) (more ts) none
-behind b more (text x ∷ ts) = none
-behind b more (untaken ∷ ts) = none
+abbrev pub past : {A : Type 0} → ℕ → (List Token → Taken A) → List Token → Taken A
+past b more [] = missed
+past b more (mark c ∷ ts) = cond (eqb c b) (more ts) missed
+past b more (text x ∷ ts) = missed
+past b more (noToken ∷ ts) = missed
 
 -- what is made of what was taken, where it may stand
 abbrev pub made : {A B : Type 0} → (A → Bool) → (A → B) → Taken A → Taken B
-made fits make (taken a ts) = cond (fits a) (taken (make a) ts) none
-made fits make none = none
+made fits make (took a ts) = cond (fits a) (took (make a) ts) missed
+made fits make missed = missed
 
 -- a text
 abbrev pub takeText : List Token → Taken (List ℕ)
-takeText [] = none
-takeText (mark b ∷ ts) = none
-takeText (text x ∷ ts) = taken x ts
-takeText (untaken ∷ ts) = none
+takeText [] = missed
+takeText (mark b ∷ ts) = missed
+takeText (text x ∷ ts) = took x ts
+takeText (noToken ∷ ts) = missed
 
 -- one of our decimals, up to 65,535, and nothing else
-abbrev pub isWhole : Parsed → Bool
-isWhole (got n []) = true
-isWhole (got n (b ∷ rest)) = false
-isWhole (large rest) = false
-isWhole bad = false
+abbrev pub isExact : Parsed → Bool
+isExact (got n []) = true
+isExact (got n (b ∷ rest)) = false
+isExact (large rest) = false
+isExact bad = false
 
-abbrev pub wholeOf : Parsed → ℕ
-wholeOf (got n rest) = n
-wholeOf (large rest) = 0
-wholeOf bad = 0
+abbrev pub exactOf : Parsed → ℕ
+exactOf (got n rest) = n
+exactOf (large rest) = 0
+exactOf bad = 0
 
 -- a text that holds a number
 unfoldable pub takeNumber : List Token → Taken ℕ
-takeNumber ts = made (λ x. isWhole (parse idLimit x)) (λ x. wholeOf (parse idLimit x)) (takeText ts)
+takeNumber ts = made (λ x. isExact (parse idLimit x)) (λ x. exactOf (parse idLimit x)) (takeText ts)
 
 -- an item is followed by a comma and more, or by the closing mark
-abbrev pub joined : {A : Type 0} → A → Taken (List A) → Taken (List A)
-joined a (taken as ts) = taken (a ∷ as) ts
-joined a none = none
+abbrev pub ledBy : {A : Type 0} → A → Taken (List A) → Taken (List A)
+ledBy a (took more ts) = took (a ∷ more) ts
+ledBy a missed = missed
 
 abbrev pub separated : {A : Type 0} → ℕ → (List Token → Taken (List A)) → A → List Token → Taken (List A)
-separated close more a [] = none
-separated close more a (mark b ∷ ts) = cond (eqb b comma) (joined a (more ts)) (cond (eqb b close) (taken (a ∷ []) ts) none)
-separated close more a (text x ∷ ts) = none
-separated close more a (untaken ∷ ts) = none
+separated close more a [] = missed
+separated close more a (mark b ∷ ts) = cond (eqb b comma) (ledBy a (more ts)) (cond (eqb b close) (took (a ∷ []) ts) missed)
+separated close more a (text x ∷ ts) = missed
+separated close more a (noToken ∷ ts) = missed
 
 abbrev pub further : {A : Type 0} → ℕ → (List Token → Taken (List A)) → Taken A → Taken (List A)
-further close more (taken a ts) = separated close more a ts
-further close more none = none
+further close more (took a ts) = separated close more a ts
+further close more missed = missed
 
 -- items up to the closing mark, with commas between them; with fuel
 unfoldable pub itemsWith : {A : Type 0} → (List Token → Taken A) → ℕ → ℕ → List Token → Taken (List A)
-itemsWith item close zero ts = none
+itemsWith item close zero ts = missed
 itemsWith item close (suc f) ts = further close (itemsWith item close f) (item ts)
 
 -- one item or more: each takes a token at least
 unfoldable pub items : {A : Type 0} → (List Token → Taken A) → ℕ → List Token → Taken (List A)
 items item close ts = itemsWith item close (length ts) ts
 
--- none, or items
+-- nothing, or items
 abbrev pub anyItems : {A : Type 0} → (List Token → Taken A) → ℕ → List Token → Taken (List A)
-anyItems item close [] = none
-anyItems item close (mark b ∷ ts) = cond (eqb b close) (taken [] ts) (items item close (mark b ∷ ts))
+anyItems item close [] = missed
+anyItems item close (mark b ∷ ts) = cond (eqb b close) (took [] ts) (items item close (mark b ∷ ts))
 anyItems item close (text x ∷ ts) = items item close (text x ∷ ts)
-anyItems item close (untaken ∷ ts) = none
+anyItems item close (noToken ∷ ts) = missed
 
 -- a list of numbers
 unfoldable pub takeNumbers : List Token → Taken (List ℕ)
-takeNumbers ts = behind opensList (anyItems takeNumber closesList) ts
+takeNumbers ts = past opensList (anyItems takeNumber closesList) ts
 
 -- `true` or `false`
 abbrev pub takeWord : List Token → Taken Bool
-takeWord [] = none
-takeWord (mark b ∷ ts) = cond (eqb b trueMark) (taken true ts) (cond (eqb b falseMark) (taken false ts) none)
-takeWord (text x ∷ ts) = none
-takeWord (untaken ∷ ts) = none
+takeWord [] = missed
+takeWord (mark b ∷ ts) = cond (eqb b trueMark) (took true ts) (cond (eqb b falseMark) (took false ts) missed)
+takeWord (text x ∷ ts) = missed
+takeWord (noToken ∷ ts) = missed
 
 -- behind a name: a colon, and what it holds
 abbrev pub named : {A : Type 0} → List (List ℕ) → (ℕ → List Token → Taken A) → Taken (List ℕ) → Taken A
-named names more (taken x ts) = behind colon (more (placeOf names x)) ts
-named names more none = none
+named names more (took x ts) = past colon (more (placeOf names x)) ts
+named names more missed = missed
 
 -- a flag's name, a colon, and whether it is set
 abbrev pub takeSet : ℕ → List Token → Taken Setting
@@ -133,11 +133,11 @@ abbrev pub amongAll : List ℕ → List ℕ → Bool
 amongAll wanted ks = every (λ k. any (eqb k) ks) wanted
 
 -- the ten flags, each once
-unfoldable pub isWholeSet : List Setting → Bool
-isWholeSet ss = distinct (map (λ s. s .flag) ss) && amongAll (counted 0 flagCount) (map (λ s. s .flag) ss)
+unfoldable pub isFullSet : List Setting → Bool
+isFullSet ss = distinct (map (λ s. s .flag) ss) && amongAll (counted 0 flagCount) (map (λ s. s .flag) ss)
 
 unfoldable pub takeSettings : List Token → Taken (List Setting)
-takeSettings ts = made isWholeSet (λ ss. ss) (behind opensObject (anyItems takeSetting closesObject) ts)
+takeSettings ts = made isFullSet (λ ss. ss) (past opensObject (anyItems takeSetting closesObject) ts)
 
 -- an id: up to 64 bytes 0x20 to 0x7E without quote or backslash
 abbrev pub idLength : ℕ
@@ -151,18 +151,18 @@ isIdText x = leb (length x) idLength && every isIdByte x
 
 -- the number 0
 abbrev pub takeZero : List Token → Taken Value
-takeZero ts = behind zeroMark (λ rest. taken (number 0) rest) ts
+takeZero ts = past zeroMark (λ rest. took (figure 0) rest) ts
 
 -- what a key holds: each key has its own values
 unfoldable pub takeValue : ℕ → List Token → Taken Value
 takeValue k ts =
-    cond (eqb k idKey) (made isIdText words (takeText ts))
-    (cond (eqb k actorKey) (made (λ n. true) number (takeNumber ts))
-    (cond (eqb k kindKey) (made (λ x. ltb (placeOf kindNames x) rightCount) (λ x. number (placeOf kindNames x)) (takeText ts))
-    (cond (eqb k readKey || (eqb k writeKey || eqb k executeKey)) (made (λ ns. leb (length ns) useLimit) numbers (takeNumbers ts))
-    (cond (eqb k flagsKey) (made (λ ss. true) settings (takeSettings ts))
-    (cond (eqb k domainKey) (made (same defaultDomain) words (takeText ts))
-    (cond (eqb k depthKey) (takeZero ts) none))))))
+    cond (eqb k idPlace) (made isIdText letters (takeText ts))
+    (cond (eqb k actorPlace) (made (λ n. true) figure (takeNumber ts))
+    (cond (eqb k kindPlace) (made (λ x. ltb (placeOf kindNames x) rightCount) (λ x. figure (placeOf kindNames x)) (takeText ts))
+    (cond (eqb k readPlace || (eqb k writePlace || eqb k executePlace)) (made (λ ns. leb (length ns) useLimit) figures (takeNumbers ts))
+    (cond (eqb k flagsPlace) (made (λ ss. true) settings (takeSettings ts))
+    (cond (eqb k domainPlace) (made (same defaultDomain) letters (takeText ts))
+    (cond (eqb k depthPlace) (takeZero ts) missed))))))
 
 -- a key, a colon, and what it holds
 abbrev pub takeHeld : ℕ → List Token → Taken Member
@@ -172,10 +172,10 @@ unfoldable pub takeMember : List Token → Taken Member
 takeMember ts = named keyNames takeHeld (takeText ts)
 
 -- the members of an object; nothing follows it
-abbrev pub alone : {A : Type 0} → Taken A → Taken A
-alone (taken a []) = taken a []
-alone (taken a (k ∷ ts)) = none
-alone none = none
+abbrev pub sole : {A : Type 0} → Taken A → Taken A
+sole (took a []) = took a []
+sole (took a (k ∷ ts)) = missed
+sole missed = missed
 
 unfoldable pub membersOf : List Token → Taken (List Member)
-membersOf ts = alone (behind opensObject (anyItems takeMember closesObject) ts)
+membersOf ts = sole (past opensObject (anyItems takeMember closesObject) ts)

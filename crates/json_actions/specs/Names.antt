@@ -61,32 +61,32 @@ abbrev pub defaultDomain : List ℕ
 defaultDomain = bytes "default"
 
 -- the keys by their places
-abbrev pub idKey : ℕ
-idKey = 0
+abbrev pub idPlace : ℕ
+idPlace = 0
 
-abbrev pub actorKey : ℕ
-actorKey = 1
+abbrev pub actorPlace : ℕ
+actorPlace = 1
 
-abbrev pub kindKey : ℕ
-kindKey = 2
+abbrev pub kindPlace : ℕ
+kindPlace = 2
 
-abbrev pub readKey : ℕ
-readKey = 3
+abbrev pub readPlace : ℕ
+readPlace = 3
 
-abbrev pub writeKey : ℕ
-writeKey = 4
+abbrev pub writePlace : ℕ
+writePlace = 4
 
-abbrev pub executeKey : ℕ
-executeKey = 5
+abbrev pub executePlace : ℕ
+executePlace = 5
 
-abbrev pub flagsKey : ℕ
-flagsKey = 6
+abbrev pub flagsPlace : ℕ
+flagsPlace = 6
 
-abbrev pub domainKey : ℕ
-domainKey = 7
+abbrev pub domainPlace : ℕ
+domainPlace = 7
 
-abbrev pub depthKey : ℕ
-depthKey = 8
+abbrev pub depthPlace : ℕ
+depthPlace = 8
 
 abbrev pub keyCount : ℕ
 keyCount = 9

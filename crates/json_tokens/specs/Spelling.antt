@@ -5,13 +5,13 @@ use mathlib.Core.List.{List, [], _∷_, _++_, flatten}
 use mathlib.Core.Bool.{Bool, true, not, cond, _||_}
 use lib.Dec.{eqb}
 use Rattle.lists.specs.Lists.{every}
-use Rattle.json_tokens.specs.Tokens.{Token, mark, text, bad, isBlank, isMark, quote, trueMark, falseMark, trueWord, falseWord}
+use Rattle.json_tokens.specs.Tokens.{Token, mark, text, noToken, isBlank, isMark, quote, trueMark, falseMark, trueWord, falseWord}
 
 -- a token's text
 unfoldable pub spelled : Token → List ℕ
 spelled (mark b) = cond (eqb b trueMark) trueWord (cond (eqb b falseMark) falseWord (b ∷ []))
 spelled (text x) = quote ∷ (x ++ (quote ∷ []))
-spelled bad = []
+spelled noToken = []
 
 -- whether a text has no quote
 abbrev pub unquoted : List ℕ → Bool
@@ -21,7 +21,7 @@ unquoted = every (λ b. not (eqb b quote))
 abbrev pub Spelt : Token → Type 0
 Spelt (mark b) = isMark b || (eqb b trueMark || eqb b falseMark) ≡ true
 Spelt (text x) = unquoted x ≡ true
-Spelt bad = ⊥
+Spelt noToken = ⊥
 
 -- whether a text is blank
 abbrev pub blanks : List ℕ → Bool

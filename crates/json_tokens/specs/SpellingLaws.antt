@@ -9,8 +9,8 @@ use Rattle.lists.specs.Tests.{cases, clash, and-left, and-right, or-other}
 use Rattle.lists.specs.Lists.{every}
 use Rattle.lists.specs.Each.{All}
 use Rattle.paths.specs.Containment.{same}
-use Rattle.json_tokens.specs.Tokens.{Token, mark, text, bad, first, isBlank, isMark, quote, trueMark, falseMark}
-use Rattle.json_tokens.specs.Tokens.{unblanked, quoted, closing, firstOf, tokens}
+use Rattle.json_tokens.specs.Tokens.{Token, mark, text, noToken, first, isBlank, isMark, quote, trueMark, falseMark}
+use Rattle.json_tokens.specs.Tokens.{unblanked, quoted, closing, leading, tokens}
 use Rattle.json_tokens.specs.Spelling.{spelled, unquoted, Spelt, blanks, spelledAll, spaced}
 use Rattle.json_tokens.specs.Laws.{tokens-first, tokens-nil, tokens-unblanked}
 
@@ -50,8 +50,8 @@ blank-unmarked b h =
 marked-unblank : (b : ℕ) → isMark b ≡ true → isBlank b ≡ false
 marked-unblank b h = cases (isBlank b) (λ e. clash (isMark b) h (blank-unmarked b e)) (λ e. e)
 
-first-mark : (b : ℕ) (t : List ℕ) → Spelt (mark b) → firstOf (unblanked (spelled (mark b) ++ t)) ≡ first (mark b) t
-unfolding spelled firstOf unblanked same
+first-mark : (b : ℕ) (t : List ℕ) → Spelt (mark b) → leading (unblanked (spelled (mark b) ++ t)) ≡ first (mark b) t
+unfolding spelled leading unblanked same
 first-mark b t h =
     cases (eqb b trueMark) (λ e. rw (eqb-true b trueMark e))
     (λ n. cases (eqb b falseMark) (λ e. rw (eqb-true b falseMark e))
@@ -60,11 +60,11 @@ first-mark b t h =
     rw (n, m, marked-unblank b marked, marked)))
 
 -- the first token of a token's text, whatever follows it, is that token
-pub first-spelled : (k : Token) (t : List ℕ) → Spelt k → firstOf (unblanked (spelled k ++ t)) ≡ first k t
-unfolding spelled firstOf unblanked
+pub first-spelled : (k : Token) (t : List ℕ) → Spelt k → leading (unblanked (spelled k ++ t)) ≡ first k t
+unfolding spelled leading unblanked
 first-spelled (mark b) t h = first-mark b t h
 first-spelled (text x) t h = rw (quoted-text x t h, closing-text x t h)
-first-spelled bad t h = absurd h
+first-spelled noToken t h = absurd h
 
 pub tokens-spelled-first : (k : Token) (t : List ℕ) → Spelt k → tokens (spelled k ++ t) ≡ k ∷ tokens t
 tokens-spelled-first k t h = tokens-first (spelled k ++ t) k t (first-spelled k t h)

@@ -11,7 +11,7 @@ use Rattle.paths.specs.Containment.{same}
 pub data Token : Type 0 where
   mark : ℕ → Token
   text : List ℕ → Token
-  bad : Token
+  noToken : Token
 
 -- the marks
 abbrev pub opensObject : ℕ
@@ -79,31 +79,31 @@ closing (b ∷ t) = cond (eqb b quote) (b ∷ t) (closing t)
 -- the first token of a text, with what follows it; or the text's end
 pub data First : Type 0 where
   first : Token → List ℕ → First
-  ended : First
+  exhausted : First
 
 -- a text in quotes ends with a quote
-abbrev pub closed : List ℕ → List ℕ → First
-closed inside [] = first bad []
-closed inside (q ∷ t) = first (text inside) t
+abbrev pub quoteClosed : List ℕ → List ℕ → First
+quoteClosed inside [] = first noToken []
+quoteClosed inside (q ∷ t) = first (text inside) t
 
 -- the first token of a text that begins with no blank
-unfoldable pub firstOf : List ℕ → First
-firstOf [] = ended
-firstOf (b ∷ t) =
+unfoldable pub leading : List ℕ → First
+leading [] = exhausted
+leading (b ∷ t) =
     cond (isMark b) (first (mark b) t)
-    (cond (eqb b quote) (closed (quoted t) (closing t))
+    (cond (eqb b quote) (quoteClosed (quoted t) (closing t))
     (cond (same trueWord (take 4 (b ∷ t))) (first (mark trueMark) (drop 4 (b ∷ t)))
-    (cond (same falseWord (take 5 (b ∷ t))) (first (mark falseMark) (drop 5 (b ∷ t))) (first bad []))))
+    (cond (same falseWord (take 5 (b ∷ t))) (first (mark falseMark) (drop 5 (b ∷ t))) (first noToken []))))
 
 -- a token, and those of what follows it
 abbrev pub followed : (List ℕ → List Token) → First → List Token
 followed more (first k t) = k ∷ more t
-followed more ended = []
+followed more exhausted = []
 
 -- the tokens of a text, with fuel
 unfoldable pub tokensWith : ℕ → List ℕ → List Token
 tokensWith zero t = []
-tokensWith (suc f) t = followed (tokensWith f) (firstOf (unblanked t))
+tokensWith (suc f) t = followed (tokensWith f) (leading (unblanked t))
 
 -- the tokens of a text: each takes a byte at least
 unfoldable pub tokens : List ℕ → List Token

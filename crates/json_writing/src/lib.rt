@@ -154,8 +154,20 @@ fn put_flags(buf: &mut [u8], at: usize, flags: u32) -> usize
     let coerces = put_setting(buf, dominion, b",\"machine_coalition_dominion\":", flags, 5);
     let deceives = put_setting(buf, coerces, b",\"coerces\":", flags, 6);
     let modification = put_setting(buf, deceives, b",\"deceives\":", flags, 7);
-    let reduces = put_setting(buf, modification, b",\"self_modification_weakens_verifier\":", flags, 8);
-    put_setting(buf, reduces, b",\"machine_coalition_reduces_freedom\":", flags, 9)
+    let reduces = put_setting(
+        buf,
+        modification,
+        b",\"self_modification_weakens_verifier\":",
+        flags,
+        8,
+    );
+    put_setting(
+        buf,
+        reduces,
+        b",\"machine_coalition_reduces_freedom\":",
+        flags,
+        9,
+    )
 }
 
 // Puts the text of an action up to its resources into the buffer, and answers the position behind it.
@@ -186,7 +198,11 @@ fn put_tail(buf: &mut [u8], at: usize, a: Action) -> usize
     let execute_end = put_resources(buf, execute_at, a, rights::EXECUTE);
     let flags_at = sheets::put_bytes(buf, execute_end, b"],\"flags\":{");
     let flags_end = put_flags(buf, flags_at, a.flags);
-    sheets::put_bytes(buf, flags_end, b"},\"trust_domain\":\"default\",\"delegation_depth\":0}")
+    sheets::put_bytes(
+        buf,
+        flags_end,
+        b"},\"trust_domain\":\"default\",\"delegation_depth\":0}",
+    )
 }
 
 // A refused write: nothing was written.

@@ -6,7 +6,7 @@ use lib.ListN.{drop-of-length-le}
 use borrow.Author.Needs.{needs}
 use Rattle.json_tokens.specs.Tokens.{trueWord, falseWord, tokens}
 use Rattle.json_tokens.specs.Laws.{tokens-nil}
-use Rattle.json_tokens.proofs.Firsts.{word-within, tokens-none, tokens-mark, tokens-text, tokens-unclosed, tokens-true, tokens-false, tokens-bad}
+use Rattle.json_tokens.proofs.Firsts.{word-within, tokens-none, tokens-mark, tokens-text, tokens-unclosed, tokens-true, tokens-false, tokens-noToken}
 use Rattle.json_tokens.proofs.next_token.Statement.{statement}
 use Rattle.json_tokens.proofs.next_token.Tie as tie
 
@@ -126,7 +126,7 @@ returns-8 c =
     let m = o .before .before in
     let n = m .before .before .before in
     let a = n .before .before .before .args in
-    tokens-bad (a .s .now) (a .at) (n .blanks-end .result) (n .blanks-end .ensures .0) (omega arith)
+    tokens-noToken (a .s .now) (a .at) (n .blanks-end .result) (n .blanks-end .ensures .0) (omega arith)
     (sym (m .is-mark .ensures) ∙ o .before .if3 .left) (o .if4 .left) (sym (w .has-word .ensures) ∙ v .before .before .if6 .left)
     (sym (v .has-word2 .ensures) ∙ c .if7 .left)
 
