@@ -1,5 +1,7 @@
 // What reading and writing an action in the builder's JSON form answer. Here are the types; in specs/ the form, in the words of 02's T-04,
 // and the definitions that the two calls are proved to equal.
+ghost use mathlib.Core.Path.{_≡_};
+ghost use Rattle.json_actions.specs.Members.{isIdText};
 use actions::Action;
 use changes::Outcome;
 
@@ -16,4 +18,12 @@ pub struct JsonRead {
     pub kind: u32,
     pub len: usize,
     pub id: [u8; ID_BYTES],
+}
+
+// Whether the bytes may be an id.
+pub fn is_id(id: &[u8]) -> bool
+    requires { ⌜ ⊥ ⌝ }
+    ensures { λ r. ⌜ r ≡ isIdText (now (id .entry)) ⌝ }
+{
+    false
 }
