@@ -124,13 +124,13 @@ fn write_call(call: &Call, out: &mut String) {
     }
 }
 
-/// Printable bytes as they are, the rest, blanks, quotes and backslashes as `\xNN`, LF as `\n`.
+/// Printable bytes as they are, the rest, blanks and backslashes as `\xNN`, LF as `\n`.
 fn quoted(bytes: &[u8]) -> String {
     let mut out = String::from("\"");
     for &byte in bytes {
         match byte {
             b'\n' => out.push_str("\\n"),
-            0x21..=0x7E if byte != b'"' && byte != b'\\' => out.push(byte.into()),
+            0x21..=0x7E if byte != b'\\' => out.push(byte.into()),
             _ => write!(out, "\\x{byte:02x}").expect("a string takes all"),
         }
     }

@@ -82,8 +82,7 @@ fn make(change: &str, files: &mut Files) -> Result<(), String> {
 /// Puts new bytes in place of old ones, which stand there once.
 fn replace(bytes: &mut Vec<u8>, old: &str, new: &str) -> Result<(), String> {
     let (old, new) = (plain(old)?, plain(new)?);
-    let places: Vec<usize> =
-        (0..bytes.len()).filter(|&at| !old.is_empty() && bytes[at..].starts_with(&old)).collect();
+    let places: Vec<usize> = (0..bytes.len()).filter(|&at| !old.is_empty() && bytes[at..].starts_with(&old)).collect();
     let [at] = places[..] else {
         return Err(format!("what is to be changed stands there {} times", places.len()));
     };
@@ -154,8 +153,7 @@ fn printed(program: &[String], folder: &Path, files: &Files) -> io::Result<Resul
             fs::write(folder.join(name), content)?;
         }
     }
-    let output =
-        Command::new(&program[0]).args(&program[1..]).current_dir(folder).stdin(Stdio::null()).output()?;
+    let output = Command::new(&program[0]).args(&program[1..]).current_dir(folder).stdin(Stdio::null()).output()?;
     fs::remove_dir_all(folder)?;
     // The rule book does not say the exit status: it is only asked to be no signal and no failure to start.
     Ok(match output.status.code() {

@@ -543,7 +543,8 @@ fn uses() -> Vec<Vec<u8>> {
                 let mut page = page.clone();
                 let starts = [0, reads, reads + writes, all];
                 for array_at in 0..3 {
-                    page.members[3 + array_at].value = array((starts[array_at]..starts[array_at + 1]).map(|at| at as u32));
+                    page.members[3 + array_at].value =
+                        array((starts[array_at]..starts[array_at + 1]).map(|at| at as u32));
                 }
                 texts.push(page.text());
             }

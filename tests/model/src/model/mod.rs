@@ -11,6 +11,8 @@ mod rules;
 pub mod text;
 
 #[cfg(test)]
+mod json_tests;
+#[cfg(test)]
 mod tests;
 
 pub use rules::Sound;

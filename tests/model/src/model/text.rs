@@ -30,9 +30,7 @@ pub fn decimal(digits: &[u8], leading_zeros: bool) -> Option<u64> {
         _ => digits.iter().all(u8::is_ascii_digit),
     };
     is_decimal.then(|| {
-        digits
-            .iter()
-            .fold(0, |number: u64, digit| number.saturating_mul(10).saturating_add(u64::from(digit - b'0')))
+        digits.iter().fold(0, |number: u64, digit| number.saturating_mul(10).saturating_add(u64::from(digit - b'0')))
     })
 }
 
