@@ -189,12 +189,6 @@ fn blanked(random: &mut Random, tokens: &[Token], percent: usize) -> Vec<u8> {
     text
 }
 
-fn shuffle<T>(random: &mut Random, list: &mut [T]) {
-    for end in (1..list.len()).rev() {
-        list.swap(end, random.below(end + 1));
-    }
-}
-
 fn some_id(random: &mut Random) -> Vec<u8> {
     let length = match random.below(12) {
         0 => 0,
@@ -328,10 +322,10 @@ pub fn reading(random: &mut Random) -> Call {
         page.members[random.between(3, 5)].value = array((0..numbers as u32).map(|number| 7 * number));
     }
     if random.chance(70) {
-        shuffle(random, &mut page.members);
+        random.shuffle(&mut page.members);
     }
     if random.chance(50) {
-        shuffle(random, &mut page.flags);
+        random.shuffle(&mut page.flags);
     }
     let wrong = random.below(12);
     match wrong {
@@ -389,8 +383,8 @@ fn written_length(action: &Action, id: &[u8], kind: u32) -> usize {
 pub fn full_page(random: &mut Random) -> Vec<u8> {
     let (action, id, kind) = longest();
     let mut page = Page::of(&action, &id, kind);
-    shuffle(random, &mut page.members);
-    shuffle(random, &mut page.flags);
+    random.shuffle(&mut page.members);
+    random.shuffle(&mut page.flags);
     blanked(random, &page.tokens(), 30)
 }
 
