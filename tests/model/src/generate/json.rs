@@ -268,13 +268,13 @@ fn spoil_members(random: &mut Random, members: &mut Vec<Member>, names: &[&str])
             if let Some(found) = members.iter().position(|member| member.key == of) {
                 let mut again = members[found].clone();
                 if random.chance(40) && !again.value.is_empty() {
-                    again.value = vec![token(*random.pick(&VALUES))];
+                    again.value = vec![token(random.pick::<&str>(&VALUES))];
                 }
                 members.insert(random.below(members.len() + 1), again);
             }
         }
         7 => members[at].key = quoted(random.pick(names).as_bytes()),
-        _ => members[at].value = vec![token(*random.pick(&VALUES))],
+        _ => members[at].value = vec![token(random.pick::<&str>(&VALUES))],
     }
 }
 
@@ -287,8 +287,8 @@ fn spoil_tokens(random: &mut Random, tokens: &mut Vec<Token>) {
         }
         1 => tokens.insert(at, tokens[at].clone()),
         2 => tokens.swap(at, next),
-        3 => tokens[at] = token(*random.pick(&MARKS)),
-        _ => tokens.insert(at, token(*random.pick(&VALUES))),
+        3 => tokens[at] = token(random.pick::<&str>(&MARKS)),
+        _ => tokens.insert(at, token(random.pick::<&str>(&VALUES))),
     }
 }
 
