@@ -12,10 +12,11 @@ ghost use Rattle.texts.specs.Actions.{actionRead};
 ghost use Rattle.sheets.specs.Sheets.{put};
 ghost use Rattle.writing.specs.Writing.{delivered, registerWritten, registerBuffer};
 ghost use Rattle.verdict_text.specs.Printed.{printed};
+ghost use Rattle.json_actions.specs.Actions.{jsonRead, jsonWritten, jsonBuffer};
 ghost use Rattle.portal.specs.Answers.{containment, soundness, acceptedNumber, refusalNumber, grantAnswer, revokeAnswer};
 ghost use Rattle.portal.specs.Answers.{decisionNumber, stopNumber, violationNumbers, violationList, gateAnswer};
 ghost use Rattle.portal.specs.Answers.{judgementNumbers, judgementList, planAnswer};
-ghost use Rattle.portal.specs.Answers.{registerAnswer, actionAnswer, writtenAnswer};
+ghost use Rattle.portal.specs.Answers.{registerAnswer, actionAnswer, writtenAnswer, jsonAnswer};
 use actions::Action;
 use actions::Decision;
 use actions::Judgement;
@@ -24,6 +25,7 @@ use actions::PlanVerdict;
 use actions::Violation;
 use actions::Violations;
 use changes::Outcome;
+use json_actions::ID_BYTES;
 use register::Claim;
 use register::Register;
 use texts::Written;
@@ -110,6 +112,18 @@ pub struct ActionAnswer {
     pub accepted: u32,
     pub refusal: u32,
     pub line: usize,
+}
+
+// The answer of a reading of a JSON action: accepted is 1, with the action, its kind and its id, zeros behind it. Else it is 0, with 01's
+// number, the action of all zeros, no id, and kind 0.
+#[repr(C)]
+pub struct JsonAnswer {
+    pub action: Action,
+    pub accepted: u32,
+    pub refusal: u32,
+    pub kind: u32,
+    pub len: usize,
+    pub id: [u8; ID_BYTES],
 }
 
 // The answer of a writing: accepted is 1, with the length of the text. Else it is 0, with 01's number and length 0.
@@ -369,4 +383,37 @@ pub extern "C" fn guvrendik_verdict_text(
     ensures buffer { λ _. ⌜ now (buffer .exit) ≡ put 0 (printed (now (register .entry)) (now (action .entry))) (now (buffer .entry)) ⌝ }
 {
     written(verdict_text::verdict_text(register, action, buffer))
+}
+
+// Reads a JSON text of the builder's form as an action at the moment.
+#[no_mangle]
+pub extern "C" fn guvrendik_read_json(text: &[u8], moment: u64) -> JsonAnswer
+    ensures { λ y. ⌜ y ≡ jsonAnswer (jsonRead (now (text .entry)) moment) ⌝ }
+{
+    let posed = json_reading::read_json(text, moment);
+    let action = posed.action;
+    let id = posed.id;
+    let outcome = posed.outcome;
+    JsonAnswer {
+        action,
+        accepted: accepted(outcome),
+        refusal: refusal(outcome),
+        kind: posed.kind,
+        len: posed.len,
+        id,
+    }
+}
+
+// Writes the action with its id and kind into the buffer as a JSON text of the builder's form.
+#[no_mangle]
+pub extern "C" fn guvrendik_write_json(
+    a: Action,
+    id: &[u8],
+    kind: u32,
+    buffer: &mut [u8],
+) -> WrittenAnswer
+    ensures answer { λ y. ⌜ y ≡ writtenAnswer (jsonWritten a (now (id .entry)) kind (now (buffer .entry))) ⌝ }
+    ensures buffer { λ _. ⌜ now (buffer .exit) ≡ jsonBuffer a (now (id .entry)) kind (now (buffer .entry)) ⌝ }
+{
+    written(json_writing::write_json(a, id, kind, buffer))
 }
