@@ -21,7 +21,8 @@ use Rattle.actions.specs.declared.Action.{Action}
 use Rattle.json_tokens.specs.Tokens.{Token, mark, text, opensObject, closesObject, opensList, closesList, colon, comma, quote, zeroMark, trueMark, falseMark, trueWord, falseWord}
 use Rattle.json_tokens.specs.Spelling.{spelled, spelledAll}
 use Rattle.json_tokens.specs.SpellingLaws.{spelled-append}
-use Rattle.json_actions.specs.Names.{keyNames, kindNames, flagNames}
+use Rattle.json_actions.specs.Names.{keyNames, kindNames, flagNames, defaultDomain}
+use Rattle.json_actions.specs.Names.{idPlace, actorPlace, kindPlace, readPlace, writePlace, executePlace, flagsPlace, domainPlace, depthPlace}
 use Rattle.json_actions.specs.Members.{Setting, Value, letters, figure, figures, settings, Member, isIdText, isIdByte, idLength}
 use Rattle.json_actions.specs.Actions.{resourcesWith, isSet, settingsFrom, commaed, settingTokens, numberTokens, valueTokens, memberTokens, objectTokens}
 use Rattle.json_actions.specs.Actions.{membersFrom, jsonText, jsonFits, jsonLimit}
@@ -117,3 +118,62 @@ figures-spelled k b us =
 settings-spelled : (k flags : ℕ) → spelledAll (valueTokens k (settings (settingsFrom flags))) ≡ opensObject ∷ (flagsText flags ++ (closesObject ∷ []))
 unfolding valueTokens spelled
 settings-spelled k flags = enclosed-spelled settingTokens (settingsFrom flags) opensObject closesObject ∙ rw (flags-joined flags)
+
+depth-spelled : spelledAll (valueTokens depthPlace (figure 0)) ≡ zeroMark ∷ []
+unfolding valueTokens numberTokens spelledAll spelled
+depth-spelled = refl
+
+-- nine members with their values, joined or put piece by piece
+arranged : (named actor kind read write execute flags domain depth id a k r w x f d : List ℕ)
+    → opensObject ∷ (((named ++ (quote ∷ (id ++ (quote ∷ []))))
+    ++ (comma ∷ ((actor ++ (quote ∷ (a ++ (quote ∷ []))))
+    ++ (comma ∷ ((kind ++ (quote ∷ (k ++ (quote ∷ []))))
+    ++ (comma ∷ ((read ++ (opensList ∷ (r ++ (closesList ∷ []))))
+    ++ (comma ∷ ((write ++ (opensList ∷ (w ++ (closesList ∷ []))))
+    ++ (comma ∷ ((execute ++ (opensList ∷ (x ++ (closesList ∷ []))))
+    ++ (comma ∷ ((flags ++ (opensObject ∷ (f ++ (closesObject ∷ []))))
+    ++ (comma ∷ ((domain ++ (quote ∷ (d ++ (quote ∷ []))))
+    ++ (comma ∷ ((depth ++ (zeroMark ∷ [])) ++ [])))))))))))))))))
+    ++ (closesObject ∷ []))
+    ≡ ((opensObject ∷ (named ++ (quote ∷ [])))
+    ++ (id
+    ++ ((quote ∷ comma ∷ (actor ++ (quote ∷ [])))
+    ++ (a ++ ((quote ∷ comma ∷ (kind ++ (quote ∷ []))) ++ (k ++ (quote ∷ comma ∷ (read ++ (opensList ∷ [])))))))))
+    ++ (r
+    ++ ((closesList ∷ comma ∷ (write ++ (opensList ∷ [])))
+    ++ (w
+    ++ ((closesList ∷ comma ∷ (execute ++ (opensList ∷ [])))
+    ++ (x
+    ++ ((closesList ∷ comma ∷ (flags ++ (opensObject ∷ [])))
+    ++ (f ++ (closesObject ∷ comma ∷ (domain ++ (quote ∷ (d ++ (quote ∷ comma ∷ (depth ++ (zeroMark ∷ closesObject ∷ []))))))))))))))
+arranged named actor kind read write execute flags domain depth id a k r w x f d = simp append-assoc
+
+-- the text of the form is the pieces that the code puts
+pub pieces-natural : (a : Action) (id : List ℕ) (kind : ℕ) → jsonText a id kind ≡ headText (a .actor) id kind ++ tailText a
+unfolding jsonText objectTokens membersFrom numberTokens valueTokens spelled headText tailText
+pieces-natural a id kind =
+    enclosed-spelled memberTokens (membersFrom a id kind) opensObject closesObject
+    ∙ rw (
+      member-spelled idPlace (letters id),
+      letters-spelled idPlace id,
+      member-spelled actorPlace (figure (a .actor)),
+      text-spelled (digits (a .actor)),
+      member-spelled kindPlace (figure kind),
+      text-spelled (kindText kind),
+      member-spelled readPlace (figures (resourcesWith 0 (usesOf a))),
+      figures-spelled readPlace 0 (usesOf a),
+      member-spelled writePlace (figures (resourcesWith 1 (usesOf a))),
+      figures-spelled writePlace 1 (usesOf a),
+      member-spelled executePlace (figures (resourcesWith 2 (usesOf a))),
+      figures-spelled executePlace 2 (usesOf a),
+      member-spelled flagsPlace (settings (settingsFrom (a .flags))),
+      settings-spelled flagsPlace (a .flags),
+      member-spelled domainPlace (letters defaultDomain),
+      letters-spelled domainPlace defaultDomain,
+      member-spelled depthPlace (figure 0),
+      depth-spelled
+    ) (arranged (nameText (getD keyNames idPlace [])) (nameText (getD keyNames actorPlace [])) (nameText (getD keyNames kindPlace []))
+    (nameText (getD keyNames readPlace [])) (nameText (getD keyNames writePlace [])) (nameText (getD keyNames executePlace []))
+    (nameText (getD keyNames flagsPlace [])) (nameText (getD keyNames domainPlace [])) (nameText (getD keyNames depthPlace []))
+    id (digits (a .actor)) (kindText kind) (resourcesText 0 (usesOf a)) (resourcesText 1 (usesOf a)) (resourcesText 2 (usesOf a))
+    (flagsText (a .flags)) defaultDomain)
