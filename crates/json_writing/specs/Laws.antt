@@ -1,5 +1,5 @@
 -- The pieces of an action's text joined are the text of the form, and no text is longer than 807 bytes. Assumes nothing.
-use Prim.Native.Nat.{ℕ, zero, suc, _+_, _*_, _-_, _≤_}
+use Prim.Native.Nat.{ℕ, zero, suc, _+_, _*_, _-_, _^_, _≤_}
 use mathlib.Core.Path.{_≡_, refl, sym, ap, _∙_}
 use mathlib.Core.List.{List, [], _∷_, _++_, map, append-assoc, append-nil}
 use mathlib.Core.Bool.{Bool, true, false, cond, _&&_}
@@ -177,3 +177,113 @@ pieces-natural a id kind =
     (nameText (getD keyNames flagsPlace [])) (nameText (getD keyNames domainPlace [])) (nameText (getD keyNames depthPlace []))
     id (digits (a .actor)) (kindText kind) (resourcesText 0 (usesOf a)) (resourcesText 1 (usesOf a)) (resourcesText 2 (usesOf a))
     (flagsText (a .flags)) defaultDomain)
+
+-- The length of the text.
+
+-- a name among some, or none, is as long as the longest at most
+named-length : (most : ℕ) (names : List (List ℕ)) → every (λ x. leb (length x) most) names ≡ true → (k : ℕ) → length (getD names k []) ≤ most
+named-length most [] h k = omega arith
+named-length most (x ∷ names) h zero = leb-true (length x) most (and-left (leb (length x) most) (every (λ x. leb (length x) most) names) h)
+named-length most (x ∷ names) h (suc k) = named-length most names (and-right (leb (length x) most) (every (λ x. leb (length x) most) names) h) k
+
+kind-length : (kind : ℕ) → length (kindText kind) ≤ 16
+kind-length kind = named-length 16 kindNames refl kind
+
+-- of all uses, each is taken with one right at most
+taken-most : (us : List Usage) → length (resourcesWith 0 us) + (length (resourcesWith 1 us) + length (resourcesWith 2 us)) ≤ length us
+unfolding resourcesWith
+taken-most [] = omega arith
+taken-most (u ∷ us) =
+    let more = taken-most us in
+    cases (eqb (u .right) 0) (λ e. rw (eqb-true (u .right) 0 e) (omega arith))
+    (λ n. rw n (cases (eqb (u .right) 1) (λ e. rw (eqb-true (u .right) 1 e) (omega arith))
+    (λ n. rw n (cases (eqb (u .right) 2) (λ e. rw e (omega arith)) (λ n. rw n (omega arith))))))
+
+-- a resource's number takes 8 bytes at most, the first one of a list 7
+resource-length : (first : Bool) (n : ℕ) → n ≤ idLimit → length (resourceText first n) ≤ cond first 7 8
+unfolding resourceText
+resource-length true n h = omega (arith, length-append (digits n) (quote ∷ []), length-under 4 n (omega arith))
+resource-length false n h = omega (arith, length-append (digits n) (quote ∷ []), length-under 4 n (omega arith))
+
+-- whether a use's numbers are in range
+abbrev useFits : Usage → Bool
+useFits u = leb (u .resource) idLimit && isRight (u .right)
+
+resources-behind-length : (b : ℕ) (us : List Usage) → every useFits us ≡ true → length (resourcesFrom false b us) ≤ 8 * length (resourcesWith b us)
+unfolding resourcesFrom resourcesWith
+resources-behind-length b [] h = omega arith
+resources-behind-length b (u ∷ us) h =
+    let more = resources-behind-length b us (and-right (useFits u) (every useFits us) h) in
+    let small = leb-true (u .resource) idLimit (and-left (leb (u .resource) idLimit) (isRight (u .right)) (and-left (useFits u) (every useFits us) h)) in
+    cases (eqb (u .right) b)
+    (λ e. rw e (omega (arith, length-append (resourceText false (u .resource)) (resourcesFrom false b us), resource-length false (u .resource) small)))
+    (λ e. rw e more)
+
+resources-length : (b : ℕ) (us : List Usage) → every useFits us ≡ true → length (resourcesText b us) ≤ 8 * length (resourcesWith b us) - 1
+unfolding resourcesFrom resourcesWith
+resources-length b [] h = omega arith
+resources-length b (u ∷ us) h =
+    let fit = and-right (useFits u) (every useFits us) h in
+    let behind = resources-behind-length b us fit in
+    let more = resources-length b us fit in
+    let small = leb-true (u .resource) idLimit (and-left (leb (u .resource) idLimit) (isRight (u .right)) (and-left (useFits u) (every useFits us) h)) in
+    cases (eqb (u .right) b)
+    (λ e. rw e (omega (arith, length-append (resourceText true (u .resource)) (resourcesFrom false b us), resource-length true (u .resource) small)))
+    (λ e. rw e more)
+
+word-length : (b : Bool) → length (cond b trueWord falseWord) ≤ 5
+word-length true = omega arith
+word-length false = omega arith
+
+-- as long as the flags are that are not set
+abbrev flagsMost : ℕ → ℕ → ℕ
+flagsMost i zero = 0
+flagsMost i (suc n) = length (flagText i) + 5 + flagsMost (suc i) n
+
+flags-length : (flags i n : ℕ) → length (flagsFrom flags i n) ≤ flagsMost i n
+unfolding flagsFrom
+flags-length flags i zero = omega arith
+flags-length flags i (suc n) =
+    omega (
+      arith,
+      length-append (settingText (flagText i) flags i) (flagsFrom flags (suc i) n),
+      length-append (flagText i) (cond (isSet flags i) trueWord falseWord),
+      word-length (isSet flags i),
+      flags-length flags (suc i) n,
+    )
+
+-- up to the resources: an id of 64 bytes, an actor of 5 digits, the longest kind
+head-length : (actor : ℕ) (id : List ℕ) (kind : ℕ) → actor ≤ idLimit → length id ≤ idLength → length (headText actor id kind) ≤ 144
+unfolding headText
+head-length actor id kind small short = simp length-append (omega (arith, length-under 4 actor (omega arith), kind-length kind))
+
+-- from the resources on: three lists of 32 numbers together, and ten flags that are not set
+tail-length : (a : Action) → a .used ≤ useLimit → every useFits (usesOf a) ≡ true → length (tailText a) ≤ 663
+unfolding tailText
+tail-length a few fit =
+    simp length-append (omega (
+      arith,
+      resources-length 0 (usesOf a) fit,
+      resources-length 1 (usesOf a) fit,
+      resources-length 2 (usesOf a) fit,
+      taken-most (usesOf a),
+      length-take (a .used) (a .uses),
+      flags-length (a .flags) 0 flagCount,
+    ))
+
+-- no text of an action in range is longer than 807 bytes
+pub json-length : (a : Action) (id : List ℕ) (kind : ℕ) → jsonFits a id kind ≡ true → length (jsonText a id kind) ≤ jsonLimit
+unfolding jsonFits actionFits isIdText
+json-length a id kind h =
+    let told = ands-out (leb (a .actor) idLimit ∷ ltb (a .now) momentEnd ∷ ltb (a .flags) (2 ^ flagCount) ∷ leb (a .used) useLimit
+    ∷ every useFits (usesOf a) ∷ leb (a .governed) governLimit ∷ every (λ g. leb g idLimit) (governsOf a) ∷ [])
+    (and-left (actionFits a) (isIdText id && isRight kind) h) in
+    let written = and-left (isIdText id) (isRight kind) (and-right (actionFits a) (isIdText id && isRight kind) h) in
+    let short = leb-true (length id) idLength (and-left (leb (length id) idLength) (every isIdByte id) written) in
+    omega (
+      arith,
+      ap length (pieces-natural a id kind),
+      length-append (headText (a .actor) id kind) (tailText a),
+      head-length (a .actor) id kind (leb-true (a .actor) idLimit (told .0)) short,
+      tail-length a (leb-true (a .used) useLimit (told .1 .1 .1 .0)) (told .1 .1 .1 .1 .0),
+    )
