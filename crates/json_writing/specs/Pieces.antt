@@ -62,22 +62,38 @@ flagsFrom flags i (suc n) = settingText (flagText i) flags i ++ flagsFrom flags 
 abbrev pub flagsText : ℕ → List ℕ
 flagsText flags = flagsFrom flags 0 flagCount
 
+-- what leads to each value, and what ends the text
+abbrev pub idLead : List ℕ
+idLead = opensObject ∷ (nameText (getD keyNames idPlace []) ++ (quote ∷ []))
+
+abbrev pub actorLead : List ℕ
+actorLead = quote ∷ (keyText actorPlace ++ (quote ∷ []))
+
+abbrev pub kindLead : List ℕ
+kindLead = quote ∷ (keyText kindPlace ++ (quote ∷ []))
+
+abbrev pub readLead : List ℕ
+readLead = quote ∷ (keyText readPlace ++ (opensList ∷ []))
+
+abbrev pub writeLead : List ℕ
+writeLead = closesList ∷ (keyText writePlace ++ (opensList ∷ []))
+
+abbrev pub executeLead : List ℕ
+executeLead = closesList ∷ (keyText executePlace ++ (opensList ∷ []))
+
+abbrev pub flagsLead : List ℕ
+flagsLead = closesList ∷ (keyText flagsPlace ++ (opensObject ∷ []))
+
+abbrev pub ending : List ℕ
+ending =
+    closesObject ∷ (keyText domainPlace ++ (quote ∷ (defaultDomain ++ (quote ∷ (keyText depthPlace ++ (zeroMark ∷ closesObject ∷ []))))))
+
 -- up to the resources that are read, and from them on
 unfoldable pub headText : ℕ → List ℕ → ℕ → List ℕ
-headText actor id kind =
-    (opensObject ∷ (nameText (getD keyNames idPlace []) ++ (quote ∷ [])))
-    ++ (id
-    ++ ((quote ∷ (keyText actorPlace ++ (quote ∷ [])))
-    ++ (digits actor
-    ++ ((quote ∷ (keyText kindPlace ++ (quote ∷ []))) ++ (kindText kind ++ (quote ∷ (keyText readPlace ++ (opensList ∷ []))))))))
+headText actor id kind = idLead ++ (id ++ (actorLead ++ (digits actor ++ (kindLead ++ (kindText kind ++ readLead)))))
 
 unfoldable pub tailText : Action → List ℕ
 tailText a =
     resourcesText 0 (usesOf a)
-    ++ ((closesList ∷ (keyText writePlace ++ (opensList ∷ [])))
-    ++ (resourcesText 1 (usesOf a)
-    ++ ((closesList ∷ (keyText executePlace ++ (opensList ∷ [])))
-    ++ (resourcesText 2 (usesOf a)
-    ++ ((closesList ∷ (keyText flagsPlace ++ (opensObject ∷ [])))
-    ++ (flagsText (a .flags)
-    ++ (closesObject ∷ (keyText domainPlace ++ (quote ∷ (defaultDomain ++ (quote ∷ (keyText depthPlace ++ (zeroMark ∷ closesObject ∷ [])))))))))))))
+    ++ (writeLead
+    ++ (resourcesText 1 (usesOf a) ++ (executeLead ++ (resourcesText 2 (usesOf a) ++ (flagsLead ++ (flagsText (a .flags) ++ ending))))))
