@@ -171,7 +171,7 @@ pieces-natural a id kind =
       member-spelled domainPlace (letters defaultDomain),
       letters-spelled domainPlace defaultDomain,
       member-spelled depthPlace (figure 0),
-      depth-spelled
+      depth-spelled,
     ) (arranged (nameText (getD keyNames idPlace [])) (nameText (getD keyNames actorPlace [])) (nameText (getD keyNames kindPlace []))
     (nameText (getD keyNames readPlace [])) (nameText (getD keyNames writePlace [])) (nameText (getD keyNames executePlace []))
     (nameText (getD keyNames flagsPlace [])) (nameText (getD keyNames domainPlace [])) (nameText (getD keyNames depthPlace []))
