@@ -9,7 +9,7 @@ ghost use Rattle.actions.specs.Actions.{usesOf};
 ghost use Rattle.writing.specs.Writing.{unwritten};
 ghost use Rattle.json_actions.specs.Members.{isIdText};
 ghost use Rattle.json_actions.specs.Actions.{jsonHolds, jsonWritten, jsonBuffer};
-ghost use Rattle.json_writing.specs.Pieces.{kindText, resourceText, resourcesText, settingText, flagsText, headText, tailText};
+ghost use Rattle.json_writing.specs.Pieces.{kindText, openingText, resourceText, resourcesText, settingText, flagsText, headText, tailText};
 use actions::Action;
 use changes::Outcome;
 use changes::Refusal;
@@ -86,6 +86,18 @@ fn put_kind(buf: &mut [u8], at: usize, kind: u32) -> usize
     }
 }
 
+// Puts the quote before a resource's number into the buffer at `at`, with a comma before it where the number is not the first, and answers the
+// position behind it.
+fn put_opening(buf: &mut [u8], at: usize, first: bool) -> usize
+    ensures behind { λ r. ⌜ r ≡ behind at (openingText first) (now (buf .entry)) ⌝ }
+    ensures written { λ _. ⌜ now (buf .exit) ≡ put at (openingText first) (now (buf .entry)) ⌝ }
+{
+    if first {
+        return sheets::put_bytes(buf, at, b"\"");
+    }
+    sheets::put_bytes(buf, at, b",\"")
+}
+
 // Puts a resource's number in quotes into the buffer at `at`, with a comma before it where it is not the first, and answers the position
 // behind it.
 fn put_resource(buf: &mut [u8], at: usize, first: bool, resource: u32) -> usize
@@ -93,11 +105,7 @@ fn put_resource(buf: &mut [u8], at: usize, first: bool, resource: u32) -> usize
     ensures behind { λ r. ⌜ r ≡ at + length (resourceText first resource) ⌝ }
     ensures written { λ _. ⌜ now (buf .exit) ≡ splice at (resourceText first resource) (now (buf .entry)) ⌝ }
 {
-    let number_at = if first {
-        sheets::put_bytes(buf, at, b"\"")
-    } else {
-        sheets::put_bytes(buf, at, b",\"")
-    };
+    let number_at = put_opening(buf, at, first);
     let end = sheets::put_number(buf, number_at, resource as u64);
     sheets::put_bytes(buf, end, b"\"")
 }
