@@ -1,11 +1,11 @@
 -- The builder's JSON actions, in the words of 02's T-04: how a text is read as an action, and what the text of an action is. Assumes nothing.
-use Prim.Native.Nat.{ℕ, _+_, _-_, _/_, _%_, _^_}
+use Prim.Native.Nat.{ℕ, zero, suc, _+_, _-_, _/_, _%_, _^_}
 use mathlib.Core.List.{List, [], _∷_, _++_, map}
 use mathlib.Core.Bool.{Bool, true, false, cond, _&&_}
 use lib.ListN.{length, getD, replicate}
 use lib.Dec.{eqb, leb, ltb}
 use Rattle.lists.specs.Tests.{ands}
-use Rattle.lists.specs.Lists.{every}
+use Rattle.lists.specs.Lists.{any, every}
 use Rattle.lists.specs.Counts.{counted}
 use Rattle.register.specs.Limits.{momentEnd}
 use Rattle.rights.specs.Rights.{isRight}
@@ -59,10 +59,17 @@ asSettings (figure n) = []
 asSettings (figures ns) = []
 asSettings (settings ss) = ss
 
--- flag i is bit i
-unfoldable pub flagsOf : List Setting → ℕ
-flagsOf [] = 0
-flagsOf (s ∷ ss) = cond (s .set) (2 ^ s .flag) 0 + flagsOf ss
+-- whether a flag is set among some settings
+abbrev pub setAmong : List Setting → ℕ → Bool
+setAmong ss i = any (λ s. eqb i (s .flag) && s .set) ss
+
+-- flag i is bit i, whichever order the flags come in
+unfoldable pub flagsBelow : ℕ → List Setting → ℕ
+flagsBelow zero ss = 0
+flagsBelow (suc i) ss = flagsBelow i ss + cond (setAmong ss i) (2 ^ i) 0
+
+abbrev pub flagsOf : List Setting → ℕ
+flagsOf ss = flagsBelow flagCount ss
 
 -- each resource used with a right
 abbrev pub usedWith : ℕ → List ℕ → List Usage
