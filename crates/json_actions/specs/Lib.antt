@@ -1,3 +1,4 @@
 pub mod Names
 pub mod Members
 pub mod Actions
+pub mod Items
