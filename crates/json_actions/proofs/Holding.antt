@@ -41,7 +41,6 @@ module _ (P : ℕ → Value → Type 0)
     (depth : (n : ℕ) → eqb n 0 ≡ true → P depthPlace (figure n))
     (resources : (k : ℕ) (ns : List ℕ) → isListed k ≡ true → leb (length ns) useLimit ≡ true → every (λ n. leb n idLimit) ns ≡ true → P k (figures ns))
     (flags : (ss : List Setting) → isFullSet ss ≡ true → every (λ s. ltb (s .flag) flagCount) ss ≡ true → P flagsPlace (settings ss)) where
-
   -- what holds of each key with its own values holds of every value that a key may hold
   pub value-cases : (k : ℕ) (v : Value) → valueFits k v ≡ true → P k v
   unfolding valueFits

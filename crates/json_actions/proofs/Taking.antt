@@ -32,7 +32,6 @@ use Rattle.json_actions.proofs.Holding.{isListed, listed-cases, value-c
 module _ {A : Type 0} (item : List Token → Taken A) (close : ℕ) (shrinks : Shrinks item) (other : eqb close comma ≡ false)
     (name : A → List ℕ) (behind : A → List Token) (P : A → Type 0)
     (taken : (a : A) (rest : List Token) → P a → item (text (name a) ∷ (behind a ++ rest)) ≡ took a rest) where
-
   items-written : (a : A) (l : List A) (rest : List Token) → P a → All P l
       → items item close (commaed (map (λ a. text (name a) ∷ behind a) (a ∷ l)) ++ (mark close ∷ rest)) ≡ took (a ∷ l) rest
   unfolding commaed

@@ -18,17 +18,21 @@ usesWith b us = sift (λ u. not (eqb (u .right) b)) us
 unfoldable pub ordered : List Usage → List Usage
 ordered us = usesWith 0 us ++ (usesWith 1 us ++ usesWith 2 us)
 
--- an action with its uses ordered, as a reading holds it: zeros behind the uses, and nothing governed
-unfoldable pub orderedAction : Action → Action
-orderedAction a = record {
+-- an action with its uses ordered, as a reading at a moment holds it: zeros behind the uses, and nothing governed
+unfoldable pub orderedAt : ℕ → Action → Action
+orderedAt moment a = record {
   actor = a .actor;
   flags = a .flags;
-  now = a .now;
+  now = moment;
   uses = ordered (usesOf a) ++ replicate (useLimit - length (ordered (usesOf a))) noUse;
   used = length (ordered (usesOf a));
   governs = replicate governLimit 0;
   governed = 0;
 }
+
+-- the same at its own clock
+abbrev pub orderedAction : Action → Action
+orderedAction a = orderedAt (a .now) a
 
 -- two lists that differ in their order only
 pub data Shuffled {A : Type 0} : List A → List A → Type 0 where
