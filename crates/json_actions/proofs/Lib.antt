@@ -5,3 +5,5 @@ pub mod Spelling
 pub mod Bits
 pub mod Ordering
 pub mod ReadWritten
+pub mod Answering
+pub mod Theorems
