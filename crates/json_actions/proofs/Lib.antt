@@ -5,5 +5,7 @@ pub mod Spelling
 pub mod Bits
 pub mod Ordering
 pub mod ReadWritten
+pub mod Shuffling
+pub mod Own
 pub mod Answering
 pub mod Theorems

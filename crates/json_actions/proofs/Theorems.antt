@@ -14,11 +14,12 @@ use Rattle.changes.specs.declared.Refusal.{Refusal}
 use Rattle.changes.specs.declared.Refusal.the-variants.{OutOfRange, BadJson}
 use Rattle.json_tokens.specs.Tokens.{Token, tokens}
 use Rattle.json_tokens.specs.Spelling.{Spelt, blanks, spelledAll, spaced}
-use Rattle.json_actions.specs.Members.{Member, took}
-use Rattle.json_actions.specs.Actions.{isFull, heldId, readWhole, readMembers, unread, jsonRead, objectTokens, jsonText, jsonFits, jsonHolds}
+use Rattle.json_actions.specs.Members.{Setting, Member, took, isFullSet}
+use Rattle.json_actions.specs.Actions.{flagsOf, isFull, heldId, readWhole, readMembers, unread, jsonRead, objectTokens, jsonText, jsonFits, jsonHolds}
 use Rattle.json_actions.specs.Fitting.{Fits}
 use Rattle.json_actions.specs.Orders.{ordered, orderedAction, Shuffled}
 use Rattle.json_actions.proofs.ReadWritten as written
+use Rattle.json_actions.proofs.Shuffling as shuffling
 use Rattle.json_actions.proofs.Answering as answering
 
 -- 1. Members in any order, each once with a value that its key may hold, the optional ones there or not, are accepted.
@@ -30,6 +31,14 @@ json-complete = written.read-complete
 pub json-read-written : (a : Action) (id : List ℕ) (kind : ℕ) → jsonFits a id kind ≡ true → jsonHolds a ≡ true
     → jsonRead (jsonText a id kind) (a .now) ≡ record { action = orderedAction a; outcome = Accepted; kind = kind; len = length id; id = heldId id }
 json-read-written a id kind fits holds = written.read-written a id kind (a .now) fits (written.fine-fits a id kind fits .now)
+
+-- 5a. Members in another order are read the same.
+pub json-any-order : (moment : ℕ) (ms ns : List Member) → Shuffled ms ns → readMembers moment (took ms []) ≡ readMembers moment (took ns [])
+json-any-order = shuffling.members-shuffled
+
+-- 5b. Flags in another order are the ten where these are, and come to the same number.
+pub flags-any-order : (ss us : List Setting) → Shuffled ss us → (isFullSet ss ≡ isFullSet us) × (flagsOf ss ≡ flagsOf us)
+flags-any-order = shuffling.flags-shuffled
 
 -- 6. Blanks in front of any token and at the end change nothing.
 pub json-blanks : (ws : List (List ℕ)) (ts : List Token) (moment : ℕ) → All (λ w. blanks w ≡ true) ws → All Spelt ts
