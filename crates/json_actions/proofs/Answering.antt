@@ -45,7 +45,7 @@ pub clock-refused : (t : List ℕ) (moment : ℕ) → momentEnd ≤ moment → j
 unfolding jsonRead
 clock-refused t moment h = rw (le-ltb moment momentEnd h)
 
-in-time : (t : List ℕ) (moment : ℕ) → moment < momentEnd → jsonRead t moment ≡ readMembers moment (membersOf (tokens t))
+pub in-time : (t : List ℕ) (moment : ℕ) → moment < momentEnd → jsonRead t moment ≡ readMembers moment (membersOf (tokens t))
 unfolding jsonRead
 in-time t moment h = rw (lt-ltb moment momentEnd h)
 

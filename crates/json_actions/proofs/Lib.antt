@@ -8,4 +8,6 @@ pub mod ReadWritten
 pub mod Shuffling
 pub mod Own
 pub mod Answering
+pub mod WrittenRead
+pub mod OneText
 pub mod Theorems

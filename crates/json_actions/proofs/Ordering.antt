@@ -1,18 +1,18 @@
 -- Uses and the resources that they name, right by right. Assumes nothing.
-use Prim.Native.Nat.{ℕ, suc, _+_, _≤_}
+use Prim.Native.Nat.{ℕ, zero, suc, _+_, _≤_}
 use mathlib.Core.Path.{_≡_, refl, sym, ap, _∙_}
-use mathlib.Core.Bool.{Bool, true, false, not, cond}
-use mathlib.Core.List.{List, [], _∷_, _++_, map, append-nil}
+use mathlib.Core.Bool.{true, false, not}
+use mathlib.Core.List.{List, [], _∷_, _++_, map, append-nil, append-assoc}
 use native.Mathlib.Omega.{arith}
-use borrow.Author.Tests.{eq-eqb, ne-eqb, eqb-true}
-use lib.Dec.{eqb}
+use borrow.Author.Tests.{eq-eqb, eqb-true, eqb-false, leb-true}
+use lib.Dec.{eqb, leb}
 use lib.ListN.{length, length-append}
-use Rattle.lists.specs.Tests.{cases}
-use Rattle.lists.specs.Each.{All, all-imp}
-use Rattle.lists.specs.Trims.{sift, trim-nil, trim-hit, trim-miss, trim-length, trim-none, sift-append, sift-every, sift-spared}
+use Rattle.lists.specs.Tests.{cases, and-left, and-right}
+use Rattle.lists.specs.Lists.{every}
+use Rattle.lists.specs.Trims.{trim-nil, trim-hit, trim-miss}
 use Rattle.actions.specs.declared.Usage.{Usage}
 use Rattle.json_actions.specs.Actions.{resourcesWith, usedWith}
-use Rattle.json_actions.specs.Orders.{usesWith, ordered}
+use Rattle.json_actions.specs.Orders.{usesWith, ordered, Shuffled, none, kept, swapped, twice}
 
 -- no use, and one use more
 with-none : (b : ℕ) → usesWith b [] ≡ []
@@ -96,3 +96,61 @@ with-length (u ∷ us) =
 pub ordered-length : (us : List Usage) → length (ordered us) ≤ length us
 unfolding ordered
 ordered-length us = rw (length-append (usesWith 0 us) (usesWith 1 us ++ usesWith 2 us), length-append (usesWith 1 us) (usesWith 2 us)) (with-length us)
+
+-- ordered uses name the same resources with each right
+pub ordered-read : (us : List Usage) → resourcesWith 0 (ordered us) ≡ resourcesWith 0 us
+ordered-read us = ap (resourcesWith 0) (ordered-laid us) ∙ laid-read (resourcesWith 0 us) (resourcesWith 1 us) (resourcesWith 2 us)
+
+pub ordered-write : (us : List Usage) → resourcesWith 1 (ordered us) ≡ resourcesWith 1 us
+ordered-write us = ap (resourcesWith 1) (ordered-laid us) ∙ laid-write (resourcesWith 0 us) (resourcesWith 1 us) (resourcesWith 2 us)
+
+pub ordered-execute : (us : List Usage) → resourcesWith 2 (ordered us) ≡ resourcesWith 2 us
+ordered-execute us = ap (resourcesWith 2) (ordered-laid us) ∙ laid-execute (resourcesWith 0 us) (resourcesWith 1 us) (resourcesWith 2 us)
+
+-- the uses of one right stay in their order
+same-with : (b : ℕ) (us vs : List Usage) → resourcesWith b us ≡ resourcesWith b vs → usesWith b us ≡ usesWith b vs
+same-with b us vs e = sym (used-resources b us) ∙ ap (usedWith b) e ∙ used-resources b vs
+
+pub ordered-kept : (us : List Usage) (b : ℕ) → b ≤ 2 → usesWith b (ordered us) ≡ usesWith b us
+ordered-kept us zero h = same-with 0 (ordered us) us (ordered-read us)
+ordered-kept us (suc zero) h = same-with 1 (ordered us) us (ordered-write us)
+ordered-kept us (suc (suc zero)) h = same-with 2 (ordered us) us (ordered-execute us)
+ordered-kept us (suc (suc (suc b))) h = absurd (omega arith)
+
+-- nothing is lost and nothing comes in
+shuffled-same : {A : Type 0} (l : List A) → Shuffled l l
+shuffled-same [] = none
+shuffled-same (a ∷ l) = kept (shuffled-same l)
+
+moved : {A : Type 0} (a : A) (l m : List A) → Shuffled (a ∷ (l ++ m)) (l ++ (a ∷ m))
+moved a [] m = shuffled-same (a ∷ m)
+moved a (b ∷ l) m = twice swapped (kept (moved a l m))
+
+moved-past : {A : Type 0} (a : A) (l m n : List A) → Shuffled (a ∷ (l ++ (m ++ n))) (l ++ (m ++ (a ∷ n)))
+moved-past a l m n = rw (← append-assoc l m n, ← append-assoc l m (a ∷ n)) (moved a (l ++ m) n)
+
+low-cases : (n : ℕ) → leb n 2 ≡ true → eqb n 0 ≡ false → eqb n 1 ≡ false → n ≡ 2
+low-cases n h e f =
+    let low = leb-true n 2 h in
+    let other : (n ≡ 0 → ⊥) = eqb-false n 0 e in
+    let another : (n ≡ 1 → ⊥) = eqb-false n 1 f in
+    omega arith
+
+pub ordered-shuffled : (us : List Usage) → every (λ u. leb (u .right) 2) us ≡ true → Shuffled us (ordered us)
+unfolding ordered
+ordered-shuffled [] h = rw (with-none 0, with-none 1, with-none 2) none
+ordered-shuffled (u ∷ us) h =
+    let low = and-left (leb (u .right) 2) (every (λ u. leb (u .right) 2) us) h in
+    let more = kept {a = u} (ordered-shuffled us (and-right (leb (u .right) 2) (every (λ u. leb (u .right) 2) us) h)) in
+    let r = usesWith 0 us in
+    let w = usesWith 1 us in
+    let x = usesWith 2 us in
+    cases (eqb (u .right) 0)
+    (λ e. let right = eqb-true (u .right) 0 e in
+    rw (with-here 0 u us e, with-other 1 u us (rw right), with-other 2 u us (rw right)) more)
+    (λ e. cases (eqb (u .right) 1)
+    (λ f. let right = eqb-true (u .right) 1 f in
+    rw (with-other 0 u us e, with-here 1 u us f, with-other 2 u us (rw right)) (twice more (moved u r (w ++ x))))
+    (λ f. let right = low-cases (u .right) low e f in
+    rw (with-other 0 u us e, with-other 1 u us f, with-here 2 u us (rw right))
+    (twice more (moved-past u r w x))))

@@ -5,7 +5,7 @@ use mathlib.Core.Bool.{Bool, true, false, not, cond, _&&_, _||_}
 use mathlib.Core.List.{List, [], _∷_, map}
 use native.Mathlib.Omega.{arith}
 use borrow.Author.Tests.{eq-eqb, ne-eqb, eqb-true, eqb-false, not-true}
-use lib.Dec.{eqb, leb}
+use lib.Dec.{eqb, leb, ltb}
 use lib.ListN.{length}
 use Rattle.lists.specs.Tests.{cases, clash, iff-same, and-left, and-right, or-left}
 use Rattle.lists.specs.Lists.{any, every}
@@ -13,10 +13,15 @@ use Rattle.lists.specs.Each.{All}
 use Rattle.lists.specs.Counts.{counted}
 use Rattle.rules.specs.Sound.{distinct}
 use Rattle.actions.specs.Actions.{useLimit, flagCount}
+use Rattle.register.specs.Limits.{momentEnd}
+use Rattle.changes.specs.declared.Refusal.the-variants.{OutOfRange}
+use Rattle.json_tokens.specs.Tokens.{tokens}
 use Rattle.json_actions.specs.Names.{domainPlace, readPlace, writePlace, executePlace, actorPlace, flagsPlace, kindPlace, idPlace}
 use Rattle.json_actions.specs.Members.{Setting, Value, Member, took, amongAll, isFullSet}
-use Rattle.json_actions.specs.Actions.{heldAt, setAmong, flagsBelow, flagsOf, usesIn, isFull, actionIn, readMembers, readWhole, unread}
+use Rattle.json_actions.specs.Actions.{heldAt, setAmong, flagsBelow, flagsOf, usesIn, isFull, actionIn, readMembers, readWhole, unread, jsonRead, objectTokens}
+use Rattle.json_actions.specs.Fitting.{Fits}
 use Rattle.json_actions.specs.Orders.{Shuffled, none, kept, swapped, twice}
+use Rattle.json_actions.proofs.Taking.{members-taken}
 
 or-swap : (a b c : Bool) → a || (b || c) ≡ b || (a || c)
 or-swap true true c = refl
@@ -112,6 +117,14 @@ members-shuffled moment ms ns s =
     cases (isFull ms)
     (λ t. rw (t, sym (full-shuffled s) ∙ t) (whole-shuffled moment s (full-distinct ms t)))
     (λ f. rw (f, sym (full-shuffled s) ∙ f))
+
+-- and so are texts
+pub texts-shuffled : (t u : List ℕ) (moment : ℕ) (ms ns : List Member) → tokens t ≡ objectTokens ms → tokens u ≡ objectTokens ns → All Fits ms
+    → Shuffled ms ns → jsonRead t moment ≡ jsonRead u moment
+unfolding jsonRead
+texts-shuffled t u moment ms ns e f fits s =
+    rw (e, f, members-taken ms fits, members-taken ns (all-shuffled Fits s fits)) (ap (λ r. cond (ltb moment momentEnd) r (unread OutOfRange))
+    (members-shuffled moment ms ns s))
 
 -- and so are flags
 set-shuffled : {ss us : List Setting} → Shuffled ss us → (n : ℕ) → flagsBelow n ss ≡ flagsBelow n us

@@ -1,5 +1,6 @@
 -- The order in which a reading holds the uses of an action, and lists that differ in their order only. Assumes nothing.
 use Prim.Native.Nat.{ℕ, _-_}
+use mathlib.Core.Path.{_≡_}
 use mathlib.Core.List.{List, [], _∷_, _++_}
 use mathlib.Core.Bool.{not}
 use lib.ListN.{length, replicate}
@@ -33,6 +34,14 @@ orderedAt moment a = record {
 -- the same at its own clock
 abbrev pub orderedAction : Action → Action
 orderedAction a = orderedAt (a .now) a
+
+-- What a text tells: two actions with their ids and kinds are the same in the builder's form when these are, and actor, flags and ordered uses.
+pub record SameJson (a b : Action) (id other : List ℕ) (kind right : ℕ) : Type 0 where
+  pub ids : id ≡ other
+  pub kinds : kind ≡ right
+  pub actors : a .actor ≡ b .actor
+  pub flags : a .flags ≡ b .flags
+  pub uses : ordered (usesOf a) ≡ ordered (usesOf b)
 
 -- two lists that differ in their order only
 pub data Shuffled {A : Type 0} : List A → List A → Type 0 where
