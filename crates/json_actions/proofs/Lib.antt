@@ -11,3 +11,4 @@ pub mod Answering
 pub mod WrittenRead
 pub mod OneText
 pub mod Theorems
+pub mod Cases
