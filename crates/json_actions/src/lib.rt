@@ -5,6 +5,11 @@ ghost use Rattle.json_actions.specs.Members.{isIdText};
 use actions::Action;
 use changes::Outcome;
 
+// The byte around a text, and the one that no text may have.
+const QUOTE: u8 = 34;
+
+const BACKSLASH: u8 = 92;
+
 // How many bytes an id has at most.
 pub const ID_BYTES: usize = 64;
 
@@ -22,8 +27,18 @@ pub struct JsonRead {
 
 // Whether the bytes may be an id.
 pub fn is_id(id: &[u8]) -> bool
-    requires { ⌜ ⊥ ⌝ }
     ensures { λ r. ⌜ r ≡ isIdText (now (id .entry)) ⌝ }
 {
-    false
+    if ID_BYTES < id.len() {
+        return false;
+    }
+    let mut i: usize = 0;
+    while i < id.len() {
+        let b = id[i];
+        if (b < 32) | (126 < b) | (b == QUOTE) | (b == BACKSLASH) {
+            return false;
+        }
+        i += 1;
+    }
+    true
 }

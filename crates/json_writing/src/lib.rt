@@ -7,38 +7,13 @@ ghost use Rattle.lists.specs.Splices.{splice};
 ghost use Rattle.sheets.specs.Sheets.{put, behind};
 ghost use Rattle.actions.specs.Actions.{usesOf};
 ghost use Rattle.writing.specs.Writing.{unwritten};
-ghost use Rattle.json_actions.specs.Members.{isIdText};
 ghost use Rattle.json_actions.specs.Actions.{jsonHolds, jsonWritten, jsonBuffer};
 ghost use Rattle.json_writing.specs.Pieces.{kindText, openingText, resourceText, resourcesText, settingText, flagsText, headText, tailText};
 use actions::Action;
 use changes::Outcome;
 use changes::Refusal;
-use json_actions::ID_BYTES;
 use json_actions::JSON_TEXT;
 use texts::Written;
-
-// The byte around a text, and the one that no text may have.
-const QUOTE: u8 = 34;
-
-const BACKSLASH: u8 = 92;
-
-// Whether the bytes may be an id.
-fn is_id(id: &[u8]) -> bool
-    ensures { λ r. ⌜ r ≡ isIdText (now (id .entry)) ⌝ }
-{
-    if ID_BYTES < id.len() {
-        return false;
-    }
-    let mut i: usize = 0;
-    while i < id.len() {
-        let b = id[i];
-        if (b < 32) | (126 < b) | (b == QUOTE) | (b == BACKSLASH) {
-            return false;
-        }
-        i += 1;
-    }
-    true
-}
 
 // Whether the form has a place for all of the action: no right above 2, nothing governed.
 fn has_place(a: Action) -> bool
@@ -228,7 +203,7 @@ pub fn write_json(a: Action, id: &[u8], kind: u32, buf: &mut [u8]) -> Written
     ensures answer { λ r. ⌜ r ≡ jsonWritten a (now (id .entry)) kind (now (buf .entry)) ⌝ }
     ensures buffer { λ _. ⌜ now (buf .exit) ≡ jsonBuffer a (now (id .entry)) kind (now (buf .entry)) ⌝ }
 {
-    if !(action_ranges::action_fits(a) & is_id(id) & (kind <= rights::POLICY_MODIFY)) {
+    if !(action_ranges::action_fits(a) & json_actions::is_id(id) & (kind <= rights::POLICY_MODIFY)) {
         return refused(Refusal::OutOfRange);
     }
     if !has_place(a) {
