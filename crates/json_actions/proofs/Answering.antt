@@ -1,7 +1,7 @@
 -- What a reading answers where it does not accept, and texts with the same tokens. Assumes nothing.
 use Prim.Native.Nat.{ℕ, _≤_, _<_}
 use mathlib.Core.Path.{_≡_, refl, sym, ap, _∙_}
-use mathlib.Core.Bool.{Bool, true, false, cond}
+use mathlib.Core.Bool.{true, cond}
 use mathlib.Core.List.{List}
 use native.Mathlib.Omega.{arith}
 use borrow.Author.Tests.{lt-ltb, le-ltb, ltb-true, ltb-false}
@@ -9,7 +9,6 @@ use lib.Dec.{ltb}
 use Rattle.lists.specs.Tests.{cases}
 use Rattle.lists.specs.Each.{All}
 use Rattle.register.specs.Limits.{momentEnd}
-use Rattle.changes.specs.declared.Outcome.{Outcome}
 use Rattle.changes.specs.declared.Outcome.the-variants.{Accepted, Refused}
 use Rattle.changes.specs.declared.Refusal.{Refusal}
 use Rattle.changes.specs.declared.Refusal.the-variants.{OutOfRange, BadJson}

@@ -12,14 +12,16 @@ use Rattle.decimals.specs.Decimals.{digits, digitsWith, run, after, value, cano
 use Rattle.actions.specs.Actions.{governLimit}
 use Rattle.actions.specs.declared.Usage.{Usage}
 use Rattle.actions.specs.declared.Action.{Action}
-use Rattle.changes.specs.declared.Outcome.the-variants.{Accepted, Refused}
+use Rattle.changes.specs.declared.Outcome.the-variants.{Accepted}
 use Rattle.changes.specs.declared.Refusal.the-variants.{OutOfRange, BadJson}
 use Rattle.texts.specs.Actions.{noUse}
 use Rattle.json_tokens.specs.Tokens.{unblanked, quoted, closing, leading, tokensWith, tokens}
 use Rattle.json_tokens.specs.Spelling.{spelled, spelledAll}
 use Rattle.json_actions.specs.Names.{keyNames, kindNames, flagNames, placeOf}
-use Rattle.json_actions.specs.Members.{takeNumber, itemsWith, items, takeNumbers, takeSetting, isFullSet, takeSettings, isIdText, idLength, takeValue, takeMember, membersOf}
-use Rattle.json_actions.specs.Actions.{heldAt, flagsBelow, usesIn, isFull, actionIn, unread, jsonRead, resourcesWith, membersFrom, commaed, numberTokens, valueTokens}
+use Rattle.json_actions.specs.Members.{takeNumber, itemsWith, items, takeNumbers, takeSetting, isFullSet, takeSettings, isIdText, idLength, takeValue}
+use Rattle.json_actions.specs.Members.{takeMember, membersOf}
+use Rattle.json_actions.specs.Actions.{heldAt, flagsBelow, usesIn, isFull, actionIn, unread, jsonRead, resourcesWith, membersFrom, commaed, numberTokens}
+use Rattle.json_actions.specs.Actions.{valueTokens}
 use Rattle.json_actions.specs.Actions.{memberTokens, objectTokens, jsonText}
 use Rattle.json_actions.specs.Orders.{ordered}
 use Rattle.json_actions.specs.declared.JsonRead.{JsonRead}
@@ -114,8 +116,8 @@ readings :
     × (jsonRead (caseRText ++ bytes "0") 1999 ≡ unread BadJson)
     × (jsonRead (pageWith tenFlags (bytes ",}")) 1999 ≡ unread BadJson)
     × (jsonRead [] 1999 ≡ unread BadJson)
-unfolding jsonRead tokens tokensWith leading unblanked quoted closing same membersOf items itemsWith takeMember takeValue takeNumber takeNumbers takeSetting takeSettings
-    isFullSet distinct isIdText parse run after value canonical placeOf heldAt usesIn isFull actionIn flagsBelow
+unfolding jsonRead tokens tokensWith leading unblanked quoted closing same membersOf items itemsWith takeMember takeValue takeNumber takeNumbers
+    takeSetting takeSettings isFullSet distinct isIdText parse run after value canonical placeOf heldAt usesIn isFull actionIn flagsBelow
 readings = (refl, refl, refl, refl, refl, refl, refl, refl, refl, refl, refl, refl, refl, refl, refl, refl)
 
 -- the last flag alone is 512
@@ -123,8 +125,8 @@ abbrev lastFlag : List ℕ
 lastFlag = nineFlags ++ bytes ",\"machine_coalition_reduces_freedom\":true"
 
 last-flag : jsonRead (pageWith lastFlag (bytes "}")) 1999 .action .flags ≡ 512
-unfolding jsonRead tokens tokensWith leading unblanked quoted closing same membersOf items itemsWith takeMember takeValue takeNumber takeNumbers takeSetting takeSettings
-    isFullSet distinct isIdText parse run after value canonical placeOf heldAt usesIn isFull actionIn flagsBelow
+unfolding jsonRead tokens tokensWith leading unblanked quoted closing same membersOf items itemsWith takeMember takeValue takeNumber takeNumbers
+    takeSetting takeSettings isFullSet distinct isIdText parse run after value canonical placeOf heldAt usesIn isFull actionIn flagsBelow
 last-flag = refl
 
 -- uses of right 1, 0, 2 and 0: reads, then writes, then executes, each in their order

@@ -59,7 +59,8 @@ module _ (P : ℕ → Value → Type 0)
       (and-left (leb (length ns) useLimit) (every (λ n. leb n idLimit) ns) fit) (and-right (leb (length ns) useLimit) (every (λ n. leb n idLimit) ns) fit)
   value-cases k (settings ss) h =
       let within = every (λ s. ltb (s .flag) flagCount) ss in
-      at-place (λ k. P k (settings ss)) flagsPlace k (isFullSet ss && within) (λ t. flags ss (and-left (isFullSet ss) within t) (and-right (isFullSet ss) within t)) h
+      at-place (λ k. P k (settings ss)) flagsPlace k (isFullSet ss && within)
+      (λ t. flags ss (and-left (isFullSet ss) within t) (and-right (isFullSet ss) within t)) h
 
 -- a key that may hold something is one of the nine
 pub key-below : (k : ℕ) (v : Value) → valueFits k v ≡ true → k < keyCount

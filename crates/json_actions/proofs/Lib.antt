@@ -1,4 +1,5 @@
 pub mod Naming
+pub mod Cases
 pub mod Holding
 pub mod Taking
 pub mod Spelling
@@ -7,8 +8,8 @@ pub mod Ordering
 pub mod ReadWritten
 pub mod Shuffling
 pub mod Own
+pub mod OwnMembers
 pub mod Answering
 pub mod WrittenRead
 pub mod OneText
 pub mod Theorems
-pub mod Cases

@@ -1,12 +1,12 @@
 -- Members that fit are read, and so is what was written. Assumes nothing.
 use Prim.Native.Nat.{ℕ, _^_, _≤_, _<_}
 use mathlib.Core.Path.{_≡_, refl, sym, ap, _∙_}
-use mathlib.Core.Bool.{Bool, true, not, _&&_}
-use mathlib.Core.List.{List, [], _∷_, _++_, map}
+use mathlib.Core.Bool.{true, not, _&&_}
+use mathlib.Core.List.{List, [], _∷_}
 use native.Mathlib.Omega.{arith}
 use borrow.Author.Tests.{ltb-true, leb-true, le-leb, lt-ltb}
 use lib.Dec.{eqb, leb, ltb}
-use lib.ListN.{length, take, length-map, length-take}
+use lib.ListN.{length, length-map, length-take}
 use Rattle.lists.specs.Tests.{cases, and-left, and-right, and-both}
 use Rattle.lists.specs.Lists.{every}
 use Rattle.lists.specs.Each.{All, ands-out}
@@ -19,12 +19,12 @@ use Rattle.actions.specs.Actions.{useLimit, governLimit, flagCount, usesOf, gov
 use Rattle.actions.specs.declared.Usage.{Usage}
 use Rattle.actions.specs.declared.Action.{Action}
 use Rattle.changes.specs.declared.Outcome.the-variants.{Accepted}
-use Rattle.json_tokens.specs.Tokens.{Token, tokens}
+use Rattle.json_tokens.specs.Tokens.{tokens}
 use Rattle.json_tokens.specs.SpellingLaws.{tokens-spelled}
 use Rattle.json_actions.specs.Members.{Member, isIdText, isFullSet}
-use Rattle.json_actions.specs.Actions.{heldAt, usesIn, isFull, actionIn, heldId, readWhole, jsonRead, resourcesWith, usedWith, settingsFrom, membersFrom, objectTokens}
-use Rattle.json_actions.specs.Actions.{jsonText, jsonFits, jsonHolds}
-use Rattle.json_actions.specs.declared.JsonRead.{JsonRead}
+use Rattle.json_actions.specs.Actions.{heldAt, usesIn, isFull, actionIn, heldId, readWhole, jsonRead, resourcesWith, settingsFrom, membersFrom}
+use Rattle.json_actions.specs.Actions.{objectTokens}
+use Rattle.json_actions.specs.Actions.{jsonText, jsonFits}
 use Rattle.json_actions.specs.Fitting.{valueFits, Fits}
 use Rattle.json_actions.specs.Orders.{usesWith, ordered, orderedAt}
 use Rattle.json_actions.proofs.Taking.{members-taken}
@@ -86,7 +86,8 @@ unfolding resourcesWith
 resources-within b [] h = refl
 resources-within b (u ∷ us) h =
     let first = and-left (leb (u .resource) idLimit && isRight (u .right)) (every (λ u. leb (u .resource) idLimit && isRight (u .right)) us) h in
-    let more = resources-within b us (and-right (leb (u .resource) idLimit && isRight (u .right)) (every (λ u. leb (u .resource) idLimit && isRight (u .right)) us) h) in
+    let more = resources-within b us
+    (and-right (leb (u .resource) idLimit && isRight (u .right)) (every (λ u. leb (u .resource) idLimit && isRight (u .right)) us) h) in
     cases (eqb (u .right) b) (λ e. rw (e, and-left (leb (u .resource) idLimit) (isRight (u .right)) first) more) (λ e. rw e more)
 
 full-set-written : (flags : ℕ) → isFullSet (settingsFrom flags) ≡ true

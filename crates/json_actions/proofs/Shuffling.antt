@@ -3,12 +3,11 @@ use Prim.Native.Nat.{ℕ, zero, suc}
 use mathlib.Core.Path.{_≡_, refl, sym, ap, _∙_}
 use mathlib.Core.Bool.{Bool, true, false, not, cond, _&&_, _||_}
 use mathlib.Core.List.{List, [], _∷_, map}
-use native.Mathlib.Omega.{arith}
-use borrow.Author.Tests.{eq-eqb, ne-eqb, eqb-true, eqb-false, not-true}
+use borrow.Author.Tests.{eq-eqb, eqb-true, not-true}
 use lib.Dec.{eqb, leb, ltb}
 use lib.ListN.{length}
 use Rattle.lists.specs.Tests.{cases, clash, iff-same, and-left, and-right, or-left}
-use Rattle.lists.specs.Lists.{any, every}
+use Rattle.lists.specs.Lists.{any}
 use Rattle.lists.specs.Each.{All}
 use Rattle.lists.specs.Counts.{counted}
 use Rattle.rules.specs.Sound.{distinct}
@@ -17,8 +16,9 @@ use Rattle.register.specs.Limits.{momentEnd}
 use Rattle.changes.specs.declared.Refusal.the-variants.{OutOfRange}
 use Rattle.json_tokens.specs.Tokens.{tokens}
 use Rattle.json_actions.specs.Names.{domainPlace, readPlace, writePlace, executePlace, actorPlace, flagsPlace, kindPlace, idPlace}
-use Rattle.json_actions.specs.Members.{Setting, Value, Member, took, amongAll, isFullSet}
-use Rattle.json_actions.specs.Actions.{heldAt, setAmong, flagsBelow, flagsOf, usesIn, isFull, actionIn, readMembers, readWhole, unread, jsonRead, objectTokens}
+use Rattle.json_actions.specs.Members.{Setting, Member, took, amongAll, isFullSet}
+use Rattle.json_actions.specs.Actions.{heldAt, setAmong, flagsBelow, flagsOf, usesIn, isFull, actionIn, readMembers, readWhole, unread, jsonRead}
+use Rattle.json_actions.specs.Actions.{objectTokens}
 use Rattle.json_actions.specs.Fitting.{Fits}
 use Rattle.json_actions.specs.Orders.{Shuffled, none, kept, swapped, twice}
 use Rattle.json_actions.proofs.Taking.{members-taken}
@@ -86,7 +86,8 @@ held-shuffled none h k = refl
 held-shuffled (kept {a = m} {l = ms} s) h k = rw (held-shuffled s (and-right (not (any (eqb (m .key)) (keysOf ms))) (distinct (keysOf ms)) h) k)
 held-shuffled (swapped {a = m} {b = n} {l = ms}) h k =
     let first = and-left (not (eqb (m .key) (n .key) || any (eqb (m .key)) (keysOf ms))) (not (any (eqb (n .key)) (keysOf ms)) && distinct (keysOf ms)) h in
-    held-swapped k m n ms (or-left (eqb (m .key) (n .key)) (any (eqb (m .key)) (keysOf ms)) (not-true (eqb (m .key) (n .key) || any (eqb (m .key)) (keysOf ms)) first))
+    held-swapped k m n ms (or-left (eqb (m .key) (n .key)) (any (eqb (m .key)) (keysOf ms))
+    (not-true (eqb (m .key) (n .key) || any (eqb (m .key)) (keysOf ms)) first))
 held-shuffled (twice s t) h k =
     held-shuffled s h k ∙ held-shuffled t (sym (distinct-shuffled (map-shuffled (λ (m : Member). m .key) s)) ∙ h) k
 

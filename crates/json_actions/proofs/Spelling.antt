@@ -5,10 +5,10 @@ use mathlib.Core.Bool.{Bool, true, false, not, cond, _&&_, _||_}
 use mathlib.Core.List.{List, [], _∷_, _++_, map}
 use native.Mathlib.Omega.{arith}
 use native.Mathlib.Decide.{decLt}
-use borrow.Author.Tests.{ne-eqb, eqb-true, ltb-true, not-true}
+use borrow.Author.Tests.{ne-eqb, ltb-true, not-true}
 use lib.Dec.{eqb, leb, ltb}
 use lib.ListN.{length, getD}
-use Rattle.lists.specs.Tests.{cases, and-left, and-right, and-both, or-left}
+use Rattle.lists.specs.Tests.{and-right, or-left}
 use Rattle.lists.specs.Lists.{every, every-at, every-append}
 use Rattle.lists.specs.Each.{All, all-imp, all-append, all-map, every-all, all-every, each-all}
 use Rattle.paths.specs.Containment.{same}
@@ -20,7 +20,7 @@ use Rattle.decimals.specs.Laws.{digits-small, digits-step}
 use Rattle.json_tokens.specs.Tokens.{Token, mark, text, comma, closesList, closesObject, quote, trueMark, falseMark}
 use Rattle.json_tokens.specs.Spelling.{Spelt, unquoted}
 use Rattle.json_actions.specs.Names.{keyNames, kindNames, flagNames, keyCount, defaultDomain}
-use Rattle.json_actions.specs.Members.{Setting, Value, letters, figure, figures, settings, Member, isIdText, isIdByte, idLength}
+use Rattle.json_actions.specs.Members.{Value, Member, isIdText, isIdByte, idLength}
 use Rattle.json_actions.specs.Actions.{commaed, settingTokens, numberTokens, valueTokens, memberTokens, objectTokens}
 use Rattle.json_actions.specs.Fitting.{valueFits, Fits}
 use Rattle.json_actions.proofs.Holding.{value-cases, key-below}
@@ -87,12 +87,17 @@ unfolding valueTokens numberTokens
 value-spelt =
     value-cases (λ k v. All Spelt (valueTokens k v)) (λ x t. (id-unquoted x t, tt)) (λ x t. (domain-unquoted x t, tt))
     (λ n t. (digits-unquoted n, tt)) (λ n t. (kinds-unquoted n (ltb-true n rightCount t), tt)) (λ n t. (refl, tt))
-    (λ k ns place few fit. (refl, closed-spelt (λ n. text (digits n) ∷ []) closesList ns refl (each-all (λ l n. All Spelt (text (digits n) ∷ [])) (λ l n. (digits-unquoted n, tt)) ns)))
+    (λ k ns place few fit. (
+      refl,
+      closed-spelt (λ n. text (digits n) ∷ []) closesList ns refl
+          (each-all (λ l n. All Spelt (text (digits n) ∷ [])) (λ l n. (digits-unquoted n, tt)) ns),
+    ))
     (λ ss full fit. (
       refl,
       closed-spelt settingTokens closesObject ss refl
           (all-imp (λ s. ltb (s .flag) flagCount ≡ true) (λ s. All Spelt (settingTokens s))
-          (λ s t. (flags-unquoted (s .flag) (ltb-true (s .flag) flagCount t), (refl, (word-spelt (s .set), tt)))) ss (every-all (λ s. ltb (s .flag) flagCount) ss fit)),
+          (λ s t. (flags-unquoted (s .flag) (ltb-true (s .flag) flagCount t), (refl, (word-spelt (s .set), tt)))) ss
+          (every-all (λ s. ltb (s .flag) flagCount) ss fit)),
     ))
 
 member-spelt : (m : Member) → Fits m → All Spelt (memberTokens m)

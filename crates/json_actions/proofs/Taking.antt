@@ -1,27 +1,26 @@
 -- What is written as tokens is taken again, whatever follows it. Assumes nothing.
-use Prim.Native.Nat.{ℕ, _≤_, _<_}
+use Prim.Native.Nat.{ℕ, _≤_}
 use mathlib.Core.Path.{_≡_, refl, sym, ap, _∙_}
-use mathlib.Core.Bool.{Bool, true, false, cond, _&&_, _||_}
+use mathlib.Core.Bool.{true, false, cond}
 use mathlib.Core.List.{List, [], _∷_, _++_, map, append-assoc, append-nil}
-use native.Mathlib.Omega.{arith}
-use borrow.Author.Tests.{eq-eqb, eqb-true, ltb-true, leb-true, le-leb, lt-ltb}
+use borrow.Author.Tests.{eq-eqb, eqb-true, ltb-true, leb-true, le-leb}
 use lib.Dec.{eqb, leb, ltb}
 use lib.ListN.{length, getD}
-use Rattle.lists.specs.Tests.{cases, and-left, and-right, or-other}
+use Rattle.lists.specs.Tests.{cases}
 use Rattle.lists.specs.Lists.{every}
 use Rattle.lists.specs.Each.{All, every-all}
 use Rattle.paths.specs.Containment.{same}
-use Rattle.paths.specs.Trimming.{same-sound}
 use Rattle.register.specs.Limits.{idLimit}
 use Rattle.rights.specs.Rights.{rightCount, isRight}
 use Rattle.actions.specs.Actions.{useLimit, flagCount}
-use Rattle.decimals.specs.Decimals.{digits, parse, got, judge, starts}
+use Rattle.decimals.specs.Decimals.{digits, parse, got, starts}
 use Rattle.decimals.specs.Laws.{parse-digits}
 use Rattle.json_tokens.specs.Tokens.{Token, mark, text, comma, colon, opensList, closesList, opensObject, closesObject, trueMark, falseMark}
-use Rattle.json_actions.specs.Names.{keyNames, kindNames, flagNames, keyCount, placeOf, defaultDomain}
-use Rattle.json_actions.specs.Names.{idPlace, actorPlace, kindPlace, readPlace, writePlace, executePlace, flagsPlace, domainPlace, depthPlace}
+use Rattle.json_actions.specs.Names.{keyNames, flagNames, defaultDomain}
+use Rattle.json_actions.specs.Names.{idPlace, actorPlace, kindPlace, flagsPlace, domainPlace, depthPlace}
 use Rattle.json_actions.specs.Members.{Setting, Value, letters, figure, figures, settings, Member, Taken, took}
-use Rattle.json_actions.specs.Members.{items, anyItems, takeNumber, takeNumbers, takeSetting, takeSettings, takeValue, takeMember, membersOf, isIdText, isFullSet}
+use Rattle.json_actions.specs.Members.{items, anyItems, takeNumber, takeNumbers, takeSetting, takeSettings, takeValue, takeMember, membersOf, isIdText}
+use Rattle.json_actions.specs.Members.{isFullSet}
 use Rattle.json_actions.specs.Actions.{commaed, settingTokens, numberTokens, valueTokens, memberTokens, objectTokens}
 use Rattle.json_actions.specs.Items.{Shrinks, items-step, number-shrinks, setting-shrinks, member-shrinks}
 use Rattle.json_actions.specs.Fitting.{valueFits, Fits}

@@ -1,15 +1,15 @@
 -- What is read is in range, can be written, and is read again as the same. Assumes nothing.
-use Prim.Native.Nat.{ℕ, zero, suc, _+_, _-_, _^_, _≤_, _<_}
+use Prim.Native.Nat.{ℕ, zero, suc, _-_, _^_, _<_}
 use mathlib.Core.Path.{_≡_, refl, sym, ap, _∙_}
-use mathlib.Core.Bool.{Bool, true, false, cond, _&&_, _||_, or-false}
+use mathlib.Core.Bool.{Bool, true, false, _&&_, or-false}
 use mathlib.Core.List.{List, [], _∷_, _++_, map}
 use native.Mathlib.Omega.{arith}
-use borrow.Author.Tests.{eqb-true, lt-ltb, ltb-true, leb-true, ltb-false, le-leb}
+use borrow.Author.Tests.{eqb-true, lt-ltb, ltb-true, ltb-false}
 use lib.Dec.{eqb, leb, ltb}
 use lib.ListN.{length, take, replicate}
 use lib.Seq.{take-append-seam}
-use Rattle.lists.specs.Tests.{cases, clash, and-left, and-right, and-both}
-use Rattle.lists.specs.Lists.{any, every, every-append, every-at}
+use Rattle.lists.specs.Tests.{cases, clash, and-right, and-both}
+use Rattle.lists.specs.Lists.{any, every, every-append}
 use Rattle.lists.specs.Each.{All, all-imp, each-all, all-every, every-all, every-map, ands-out}
 use Rattle.lists.specs.Counts.{counted, every-counted-sound}
 use Rattle.register.specs.Limits.{idLimit, momentEnd}
@@ -17,16 +17,15 @@ use Rattle.rights.specs.Rights.{isRight}
 use Rattle.rules.specs.Sound.{distinct}
 use Rattle.actions.specs.Actions.{useLimit, flagCount, usesOf, actionFits}
 use Rattle.actions.specs.declared.Usage.{Usage}
-use Rattle.actions.specs.declared.Action.{Action}
-use Rattle.changes.specs.declared.Outcome.{Outcome}
 use Rattle.changes.specs.declared.Outcome.the-variants.{Accepted, Refused}
 use Rattle.changes.specs.declared.Refusal.{Refusal}
 use Rattle.changes.specs.declared.Refusal.the-variants.{OutOfRange, BadJson}
 use Rattle.texts.specs.Actions.{noUse}
-use Rattle.json_tokens.specs.Tokens.{Token, tokens}
+use Rattle.json_tokens.specs.Tokens.{tokens}
 use Rattle.json_actions.specs.Names.{idPlace, actorPlace, kindPlace, readPlace, writePlace, executePlace, flagsPlace, domainPlace}
-use Rattle.json_actions.specs.Members.{Setting, Value, letters, figure, figures, settings, Member, Taken, took, missed, membersOf, amongAll, isIdText, idLength}
-use Rattle.json_actions.specs.Actions.{heldAt, asLetters, asFigure, asFigures, asSettings, setAmong, flagsBelow, flagsOf, usedWith, usesIn, isFull, actionIn, heldId}
+use Rattle.json_actions.specs.Members.{Setting, Value, letters, figure, figures, settings, Member, took, membersOf, amongAll, isIdText, idLength}
+use Rattle.json_actions.specs.Actions.{heldAt, asLetters, asFigure, asFigures, asSettings, setAmong, flagsBelow, flagsOf, usedWith, usesIn, isFull}
+use Rattle.json_actions.specs.Actions.{actionIn, heldId}
 use Rattle.json_actions.specs.Actions.{readWhole, readMembers, unread, jsonRead, objectTokens, jsonText, jsonFits, jsonHolds}
 use Rattle.json_actions.specs.declared.JsonRead.{JsonRead}
 use Rattle.json_actions.specs.Items.{taken-cases}
@@ -35,7 +34,7 @@ use Rattle.json_actions.specs.Orders.{ordered, orderedAt}
 use Rattle.json_actions.proofs.Holding.{isListed}
 use Rattle.json_actions.proofs.Ordering.{laid-ordered}
 use Rattle.json_actions.proofs.ReadWritten.{read-written}
-use Rattle.json_actions.proofs.Own.{members-own}
+use Rattle.json_actions.proofs.OwnMembers.{members-own}
 use Rattle.json_actions.proofs.Answering.{in-time, clock-refused}
 
 -- what an accepted text is
@@ -76,9 +75,12 @@ held-fits k (m ∷ ms) h there =
     cases (eqb k (m .key)) (λ e. rw (e, eqb-true k (m .key) e) (h .0)) (λ n. rw n (held-fits k ms (h .1) (rw n at there)))
 
 module _ (ms : List Member) (fits : All Fits ms) (full : isFull ms ≡ true) where
-  full-tests : All (λ b. b ≡ true) (distinct (map (λ m. m .key) ms) ∷ amongAll (counted 0 domainPlace) (map (λ m. m .key) ms) ∷ leb (length (usesIn ms)) useLimit ∷ [])
+  abbrev tests : List Bool
+  tests = distinct (map (λ m. m .key) ms) ∷ amongAll (counted 0 domainPlace) (map (λ m. m .key) ms) ∷ leb (length (usesIn ms)) useLimit ∷ []
+
+  full-tests : All (λ b. b ≡ true) tests
   unfolding isFull
-  full-tests = ands-out (distinct (map (λ m. m .key) ms) ∷ amongAll (counted 0 domainPlace) (map (λ m. m .key) ms) ∷ leb (length (usesIn ms)) useLimit ∷ []) full
+  full-tests = ands-out tests full
 
   -- each of the first seven keys is there
   needed : (k : ℕ) → k < domainPlace → valueFits k (heldAt k ms) ≡ true
@@ -134,7 +136,8 @@ in-every : (p : Usage → Bool) (ms : List Member) → every p (usedWith 0 (asFi
     → every p (usesIn ms) ≡ true
 unfolding usesIn
 in-every p ms r w x =
-    every-append p (usedWith 0 (asFigures (heldAt readPlace ms))) (usedWith 1 (asFigures (heldAt writePlace ms)) ++ usedWith 2 (asFigures (heldAt executePlace ms)))
+    every-append p (usedWith 0 (asFigures (heldAt readPlace ms)))
+    (usedWith 1 (asFigures (heldAt writePlace ms)) ++ usedWith 2 (asFigures (heldAt executePlace ms)))
     ∙ rw (every-append p (usedWith 1 (asFigures (heldAt writePlace ms))) (usedWith 2 (asFigures (heldAt executePlace ms))), r, w) x
 
 low-right : (b : ℕ) (ns : List ℕ) → leb b 2 ≡ true → every (λ u. leb (u .right) 2) (usedWith b ns) ≡ true

@@ -122,7 +122,8 @@ module _ {A : Type 0} (item : List Token → Taken A) (close : ℕ) (shrinks : S
   items-with-shrinks zero ts l rest e = missed-took e
   items-with-shrinks (suc f) ts l rest e =
       taken-cases (item ts)
-      (λ a behind taken. omega (arith, shrinks ts a behind taken, separated-shrinks (itemsWith item close f) (items-with-shrinks f) a behind l rest (rw taken at e)))
+      (λ a behind taken. let after = separated-shrinks (itemsWith item close f) (items-with-shrinks f) a behind l rest (rw taken at e) in
+      omega (arith, shrinks ts a behind taken, after))
       (λ none. missed-took (rw none at e))
 
   pub items-shrinks : Shrinks (items item close)
