@@ -5,8 +5,9 @@ ghost use lib.Dec.{leb};
 ghost use lib.ListN.{length};
 ghost use Rattle.lists.specs.Splices.{splice};
 ghost use Rattle.decimals.specs.Decimals.{digits};
-ghost use Rattle.lines.specs.Lines.{decimalLine};
+ghost use Rattle.lines.specs.Lines.{decimalLine, kindLine};
 ghost use Rattle.sheets.specs.Sheets.{put, behind};
+use register::Actor;
 
 // The byte that ends a line.
 const LINE_FEED: u8 = 10;
@@ -101,4 +102,15 @@ pub fn put_line(buf: &mut [u8], at: usize, key: &[u8], n: u64) -> usize
     let end = write_digits(buf, digits_at, n);
     buf[end] = LINE_FEED;
     end + 1
+}
+
+// Puts the line of an actor's kind into the buffer at `at`, and answers the position behind it.
+pub fn put_kind(buf: &mut [u8], at: usize, kind: u32) -> usize
+    ensures behind { λ r. ⌜ r ≡ behind at (kindLine kind) (now (buf .entry)) ⌝ }
+    ensures written { λ _. ⌜ now (buf .exit) ≡ put at (kindLine kind) (now (buf .entry)) ⌝ }
+{
+    if kind == Actor::HUMAN {
+        return put_bytes(buf, at, b"kind=human\n");
+    }
+    put_bytes(buf, at, b"kind=machine\n")
 }

@@ -1,6 +1,6 @@
 -- `portal::guvrendik_grant` meets its contract: each number is that of the inner answer. Assumes nothing.
 use borrow.Author.Needs.{needs}
-use Rattle.portal.proofs.Telling.{grant-told}
+use Rattle.answers.specs.Laws.{grant-told}
 use Rattle.portal.proofs.guvrendik_grant.Statement.{statement}
 use Rattle.portal.proofs.guvrendik_grant.Tie as tie
 

@@ -1,6 +1,6 @@
 -- `portal::guvrendik_read_json` meets its contract: each number is that of the inner answer. Assumes nothing.
 use borrow.Author.Needs.{needs}
-use Rattle.portal.proofs.Telling.{json-told}
+use Rattle.answers.specs.Laws.{json-told}
 use Rattle.portal.proofs.guvrendik_read_json.Statement.{statement}
 use Rattle.portal.proofs.guvrendik_read_json.Tie as tie
 

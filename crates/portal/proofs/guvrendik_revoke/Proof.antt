@@ -1,6 +1,6 @@
 -- `portal::guvrendik_revoke` meets its contract: each number is that of the inner answer. Assumes nothing.
 use borrow.Author.Needs.{needs}
-use Rattle.portal.proofs.Telling.{revoke-told}
+use Rattle.answers.specs.Laws.{revoke-told}
 use Rattle.portal.proofs.guvrendik_revoke.Statement.{statement}
 use Rattle.portal.proofs.guvrendik_revoke.Tie as tie
 
