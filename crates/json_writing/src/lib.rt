@@ -203,7 +203,9 @@ pub fn write_json(a: Action, id: &[u8], kind: u32, buf: &mut [u8]) -> Written
     ensures answer { λ r. ⌜ r ≡ jsonWritten a (now (id .entry)) kind (now (buf .entry)) ⌝ }
     ensures buffer { λ _. ⌜ now (buf .exit) ≡ jsonBuffer a (now (id .entry)) kind (now (buf .entry)) ⌝ }
 {
-    if !(action_ranges::action_fits(a) & json_actions::is_id(id) & (kind <= rights::POLICY_MODIFY)) {
+    if !(action_ranges::action_fits(a)
+        & json_actions::is_id(id)
+        & (kind <= rights::POLICY_MODIFY)) {
         return refused(Refusal::OutOfRange);
     }
     if !has_place(a) {
