@@ -2,17 +2,15 @@
 use Prim.Native.Nat.{ℕ, zero, suc, _+_, _-_, _*_, _≤_, _<_}
 use mathlib.Core.Path.{_≡_, refl, sym, ap, _∙_}
 use mathlib.Core.List.{List, [], _∷_, _++_, map}
-use mathlib.Core.Bool.{Bool, true, false, _&&_}
+use mathlib.Core.Bool.{Bool, true, false}
 use native.Mathlib.Omega.{arith}
 use native.Mathlib.Numerals.{add-one}
-use lib.Dec.{leb}
 use lib.ListN.{length, take, drop, getD, set, replicate, length-append, length-map, length-take, length-drop, List·getD-append}
 use lib.Seq.{length-take-le, take-suc, take-length, getD-take, getD-drop, getD-append-add}
 use Rattle.lists.specs.Fills.{put-first}
 use Rattle.lists.specs.Tests.{cases, clash}
 use Rattle.lists.specs.Counts.{every-counted-sound, every-counted-complete}
 use Rattle.actions.specs.Actions.{useLimit}
-use Rattle.actions.specs.declared.Usage.{Usage}
 use Rattle.texts.specs.Actions.{noUse}
 use Rattle.json_actions.specs.Names.{readPlace, writePlace, executePlace, domainPlace}
 use Rattle.json_actions.specs.Actions.{usedWith}

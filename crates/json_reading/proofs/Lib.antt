@@ -2,6 +2,8 @@ pub mod Lists
 pub mod Distinct
 pub mod Flags
 pub mod FlagSettings
+pub mod Places
+pub mod Keys
 pub mod Values
 pub mod Fillings
 pub mod Drafts

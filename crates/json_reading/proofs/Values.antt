@@ -1,37 +1,30 @@
--- Laws of keys and of what they hold, as the code's answers say them; and of the places of an array that a list of numbers leaves alone. Assumes nothing.
-use Prim.Native.Nat.{ℕ, _+_, _-_, _*_, _≤_, _<_}
+-- Laws of keys and of what they hold, as the code's answers say them. Assumes nothing.
+use Prim.Native.Nat.{ℕ, _+_, _≤_, _<_}
 use mathlib.Core.Path.{_≡_, refl, sym, ap, _∙_}
-use mathlib.Core.List.{List, [], _∷_, _++_, append-assoc}
-use mathlib.Core.Bool.{Bool, true, false, cond, _&&_, _||_, or-assoc}
+use mathlib.Core.List.{List, [], _∷_}
+use mathlib.Core.Bool.{Bool, true, false, cond, _||_}
 use native.Mathlib.Omega.{arith}
-use borrow.Author.Tests.{eq-eqb, ne-eqb, eqb-true, eqb-false, le-leb, leb-true, leb-false, lt-ltb, le-ltb, ltb-true, ltb-false}
+use borrow.Author.Tests.{eqb-true, eqb-false, leb-true, lt-ltb, le-ltb, ltb-true, ltb-false}
 use lib.Dec.{eqb, leb, ltb}
-use lib.ListN.{length, take, drop, length-append, length-take, length-drop, take-append-drop}
-use lib.Seq.{take-at, drop-at, take-append-le, drop-append-le, drop-append-add, drop-drop}
-use Rattle.lists.specs.Tests.{cases, and-left, and-right, or-left, or-right, or-other}
+use lib.ListN.{length, take, drop}
+use Rattle.lists.specs.Tests.{cases, and-left}
 use Rattle.lists.specs.Lists.{every}
 use Rattle.lists.specs.Splices.{splice}
 use Rattle.paths.specs.Containment.{same}
 use Rattle.rights.specs.Rights.{rightCount}
 use Rattle.actions.specs.Actions.{useLimit}
 use Rattle.json_tokens.specs.Tokens.{Token, mark, text, noToken, colon, zeroMark, tokens}
-use Rattle.json_actions.specs.Names.{keyNames, kindNames, defaultDomain, placeOf, keyCount}
+use Rattle.json_actions.specs.Names.{keyNames, kindNames, defaultDomain, placeOf}
 use Rattle.json_actions.specs.Names.{idPlace, actorPlace, kindPlace, readPlace, writePlace, executePlace, flagsPlace, domainPlace, depthPlace}
-use Rattle.json_actions.specs.Members.{Setting, Value, letters, figure, figures, settings, Taken, took, missed, past, made, named, takeText, takeNumber, takeNumbers}
+use Rattle.json_actions.specs.Members.{Setting, Value, letters, figure, figures, settings, Taken, took, missed, made, named, takeText, takeNumber, takeNumbers}
 use Rattle.json_actions.specs.Members.{takeSettings, takeZero, takeValue, isIdByte, isIdText, idLength}
 use Rattle.json_actions.specs.Actions.{asLetters, asFigure, asFigures, asSettings, flagsOf}
 use Rattle.json_reading.specs.declared.Held.{Held}
-use Rattle.json_reading.specs.Answers.{Behind, isMarked, keyOf, isTextKey, isFigureKey, blockOf, limited, Holds, heldWhole, HeldSays, HeldAnyway, Apart, listRoom}
-
--- what stands behind a mark, and where the mark is not there
-pub past-marked : {A : Type 0} (b : ℕ) (more : List Token → Taken A) (ts : List Token) → past b more (mark b ∷ ts) ≡ more ts
-past-marked b more ts = rw (eq-eqb b b refl)
-
-pub past-unmarked : {A : Type 0} (b : ℕ) (more : List Token → Taken A) (ts : List Token) → isMarked b ts ≡ false → past b more ts ≡ missed
-past-unmarked b more [] h = refl
-past-unmarked b more (mark c ∷ ts) h = rw h
-past-unmarked b more (text x ∷ ts) h = refl
-past-unmarked b more (noToken ∷ ts) h = refl
+use Rattle.json_reading.specs.Answers.{Behind, isMarked, keyOf, isTextKey, blockOf, listRoom, limited}
+use Rattle.json_reading.specs.Answers.{Holds, heldWhole, HeldSays, HeldAnyway, Apart}
+use Rattle.json_reading.specs.Laws.{past-unmarked}
+use Rattle.json_reading.proofs.Keys.{single-key, domain-last}
+use Rattle.json_reading.proofs.Places.{splice-part, splice-behind, splice-before}
 
 -- some tokens that begin with no text
 module _ (ts : List Token) where
@@ -119,37 +112,6 @@ module _ (ts : List Token) where
   unfolding takeValue
   value-depth = refl
 
--- a list written over another: where it stands, behind it and before it
-module _ {A : Type 0} (base : ℕ) (ns old : List A) (room : base + length ns ≤ length old) where
-  pub splice-part : take (length ns) (drop base (splice base ns old)) ≡ ns
-  unfolding splice
-  splice-part =
-      let front : length (take base old) ≡ base = simp length-take (omega arith) in
-      rw (drop-at (take base old) (ns ++ drop (base + length ns) old) base front) (take-at ns (drop (base + length ns) old) (length ns) refl)
-
-  pub splice-behind : (at : ℕ) → base + length ns ≤ at → drop at (splice base ns old) ≡ drop at old
-  unfolding splice
-  splice-behind at h =
-      let front : length (take base old ++ ns) ≡ base + length ns = simp (length-append, length-take) (omega arith) in
-      let whole : take base old ++ (ns ++ drop (base + length ns) old) ≡ (take base old ++ ns) ++ drop (base + length ns) old = rw append-assoc in
-      let place : at ≡ length (take base old ++ ns) + (at - (base + length ns)) = omega arith in
-      let back : base + length ns + (at - (base + length ns)) ≡ at = omega arith in
-      ap (λ l. drop at l) whole
-      ∙ ap (λ k. drop k ((take base old ++ ns) ++ drop (base + length ns) old)) place
-      ∙ drop-append-add (take base old ++ ns) (drop (base + length ns) old) (at - (base + length ns))
-      ∙ drop-drop (at - (base + length ns)) (base + length ns) old
-      ∙ ap (λ k. drop k old) back
-
-  pub splice-before : (at n : ℕ) → at + n ≤ base → take n (drop at (splice base ns old)) ≡ take n (drop at old)
-  unfolding splice
-  splice-before at n h = front-part (ns ++ drop (base + length ns) old) ∙ sym (front-part (drop base old)) ∙ ap (λ l. take n (drop at l)) (take-append-drop base old)
-    where
-      front-part : (ys : List A) → take n (drop at (take base old ++ ys)) ≡ take n (drop at (take base old))
-      front-part ys =
-          let inside : at ≤ length (take base old) = simp length-take (omega arith) in
-          let within : n ≤ length (drop at (take base old)) = simp (length-drop, length-take) (omega arith) in
-          rw (drop-append-le at (take base old) ys inside) (take-append-le n (drop at (take base old)) ys within)
-
 -- what the code says of a key's value: nothing, or all that it keeps of it
 module _ (s : List ℕ) (at key : ℕ) (h : Held) (p : Taken Value) where
   pub says-missed : p ≡ missed → h .ok ≡ false → HeldAnyway s at key h p
@@ -158,12 +120,6 @@ module _ (s : List ℕ) (at key : ℕ) (h : Held) (p : Taken Value) where
   pub says-held : (v : Value) (next n from len : ℕ) → p ≡ took v (tokens (drop next s)) → h ≡ heldWhole next n from len →
       at < next → next ≤ length s → ((numbers : List ℕ) → Holds s numbers key n from len v) → HeldAnyway s at key h p
   says-held v next n from len e f low high holds numbers = rw (e, f) (refl, refl, (low, high), holds numbers)
-
--- the keys whose number is kept
-single-key : (key : ℕ) → eqb key actorPlace || eqb key kindPlace ≡ true → (actorPlace ≤ key) × (key ≤ kindPlace)
-single-key key h =
-    cases (eqb key actorPlace) (λ e. let one = eqb-true key actorPlace e in (omega arith, omega arith))
-    (λ n. let two = eqb-true key kindPlace (or-other (eqb key actorPlace) (eqb key kindPlace) h n) in (omega arith, omega arith))
 
 -- what is kept of a value, by its key
 module _ (s numbers : List ℕ) (key n from len : ℕ) (v : Value) where
@@ -216,13 +172,6 @@ pub id-short : (x : List ℕ) → isIdText x ≡ true → length x ≤ idLength
 unfolding isIdText
 id-short x h = leb-true (length x) idLength (and-left (leb (length x) idLength) (every isIdByte x) h)
 
--- the last of the keys that hold a text
-pub domain-last : (key : ℕ) → isTextKey key ≡ true → (key ≡ idPlace → ⊥) → (key ≡ kindPlace → ⊥) → key ≡ domainPlace
-domain-last key h f g =
-    eqb-true key domainPlace
-    (or-other (eqb key kindPlace) (eqb key domainPlace)
-    (or-other (eqb key idPlace) (eqb key kindPlace || eqb key domainPlace) h (ne-eqb key idPlace f)) (ne-eqb key kindPlace g))
-
 -- what a text is to the keys that hold one
 module _ (key : ℕ) (ts : List Token) (x : List ℕ) (rest : List Token) (e : ts ≡ text x ∷ rest) where
   pub id-took : key ≡ idPlace → isIdText x ≡ true → takeValue key ts ≡ took (letters x) rest
@@ -252,17 +201,12 @@ pub no-text-held : (key : ℕ) (ts : List Token) → isTextKey key ≡ true → 
 no-text-held key ts h e =
     cases (eqb key idPlace) (λ k. rw (eqb-true key idPlace k) (value-id ts ∙ made-missed isIdText letters (takeText ts) e))
     (λ n. cases (eqb key kindPlace)
-    (λ k. rw (eqb-true key kindPlace k) (value-kind ts ∙ made-missed (λ y. ltb (placeOf kindNames y) rightCount) (λ y. figure (placeOf kindNames y)) (takeText ts) e))
-    (λ m. rw (domain-last key h (eqb-false key idPlace n) (eqb-false key kindPlace m)) (value-domain ts ∙ made-missed (same defaultDomain) letters (takeText ts) e)))
+    (λ k. rw (eqb-true key kindPlace k)
+    (value-kind ts ∙ made-missed (λ y. ltb (placeOf kindNames y) rightCount) (λ y. figure (placeOf kindNames y)) (takeText ts) e))
+    (λ m. rw (domain-last key h (eqb-false key idPlace n) (eqb-false key kindPlace m))
+    (value-domain ts ∙ made-missed (same defaultDomain) letters (takeText ts) e)))
 
--- the last of the keys whose code answers a number
-pub depth-last : (key : ℕ) → isFigureKey key ≡ true → (key ≡ actorPlace → ⊥) → (key ≡ flagsPlace → ⊥) → key ≡ depthPlace
-depth-last key h f g =
-    eqb-true key depthPlace
-    (or-other (eqb key flagsPlace) (eqb key depthPlace)
-    (or-other (eqb key actorPlace) (eqb key flagsPlace || eqb key depthPlace) h (ne-eqb key actorPlace f)) (ne-eqb key flagsPlace g))
-
--- what those keys hold
+-- what the keys hold whose code answers a number
 module _ (key : ℕ) (ts rest : List Token) where
   pub actor-took : (n : ℕ) → key ≡ actorPlace → takeNumber ts ≡ took n rest → takeValue key ts ≡ took (figure n) rest
   actor-took n k e = rw k (value-actor ts ∙ made-took (λ m. true) figure (takeNumber ts) n rest e refl)
@@ -282,38 +226,6 @@ module _ (key : ℕ) (ts : List Token) where
 
   pub depth-missed : key ≡ depthPlace → isMarked zeroMark ts ≡ false → takeValue key ts ≡ missed
   depth-missed k h = rw k (value-depth ts ∙ past-unmarked zeroMark (λ more. took (figure 0) more) ts h)
-
--- which keys the code's tests leave
-pub list-key : (key : ℕ) → leb readPlace key && leb key executePlace ≡ true → (readPlace ≤ key) × (key ≤ executePlace)
-list-key key h =
-    (leb-true readPlace key (and-left (leb readPlace key) (leb key executePlace) h), leb-true key executePlace (and-right (leb readPlace key) (leb key executePlace) h))
-
-pub text-key : (key : ℕ) → (eqb key idPlace || eqb key kindPlace) || eqb key domainPlace ≡ true → isTextKey key ≡ true
-text-key key h = sym (or-assoc (eqb key idPlace) (eqb key kindPlace) (eqb key domainPlace)) ∙ h
-
-pub figure-key : (key : ℕ) → key < keyCount → leb readPlace key && leb key executePlace ≡ false → (eqb key idPlace || eqb key kindPlace) || eqb key domainPlace ≡ false →
-    isFigureKey key ≡ true
-figure-key key known f g =
-    cases (isFigureKey key) (λ e. e)
-    (λ n. let others = or-right (eqb key actorPlace) (eqb key flagsPlace || eqb key depthPlace) n in
-    let firsts = or-left (eqb key idPlace || eqb key kindPlace) (eqb key domainPlace) g in
-    absurd
-    (cases (leb readPlace key)
-    (λ e. omega (
-      arith,
-      leb-true readPlace key e,
-      leb-false key executePlace (rw e at f),
-      eqb-false key domainPlace (or-right (eqb key idPlace || eqb key kindPlace) (eqb key domainPlace) g),
-      eqb-false key flagsPlace (or-left (eqb key flagsPlace) (eqb key depthPlace) others),
-      eqb-false key depthPlace (or-right (eqb key flagsPlace) (eqb key depthPlace) others),
-    ))
-    (λ e. omega (
-      arith,
-      leb-false readPlace key e,
-      eqb-false key idPlace (or-left (eqb key idPlace) (eqb key kindPlace) firsts),
-      eqb-false key kindPlace (or-right (eqb key idPlace) (eqb key kindPlace) firsts),
-      eqb-false key actorPlace (or-left (eqb key actorPlace) (eqb key flagsPlace || eqb key depthPlace) n),
-    ))))
 
 -- the numbers of a list in their own places: what its key holds, and the other lists as they were
 module _ (s old new : List ℕ) (at key : ℕ) (low : readPlace ≤ key) (high : key ≤ executePlace) (room : length old ≡ listRoom) where

@@ -2,13 +2,13 @@
 use Prim.Native.Nat.{ℕ}
 use mathlib.Core.Path.{_≡_, refl, sym, ap, _∙_}
 use mathlib.Core.List.{List, [], _∷_, _++_}
-use mathlib.Core.Bool.{true, false}
+use mathlib.Core.Bool.{false}
 use native.Mathlib.Omega.{arith}
 use lib.Dec.{eqb}
 use borrow.Author.Tests.{eq-eqb, ne-eqb}
 use Rattle.lists.specs.Tests.{cases}
 use Rattle.json_tokens.specs.Tokens.{Token, mark, text, noToken, comma}
-use Rattle.json_actions.specs.Members.{Taken, took, missed, past, ledBy, separated, further, items, anyItems, takeNumber, takeSetting, takeMember}
+use Rattle.json_actions.specs.Members.{Taken, took, missed, past, ledBy, separated, further, items, anyItems, takeNumber}
 use Rattle.json_actions.specs.Items.{Shrinks, items-step, taken-cases, prefixed, prefixed-led}
 use Rattle.json_reading.specs.Answers.{Separation, more, done, broken, separation, isMarked}
 
@@ -67,7 +67,8 @@ module _ {A : Type 0} (item : List Token → Taken A) (close : ℕ) (shrinks : S
     items-taken : items item close ts ≡ separated close (items item close) a rest
     items-taken = items-step item close shrinks ts ∙ ap (further close (items item close)) taken
 
-    pub items-more : (us : List Token) → separation close rest ≡ more us → prefixed l (items item close ts) ≡ prefixed (l ++ (a ∷ [])) (items item close us)
+    pub items-more : (us : List Token) → separation close rest ≡ more us →
+        prefixed l (items item close ts) ≡ prefixed (l ++ (a ∷ [])) (items item close us)
     items-more us e = ap (prefixed l) (items-taken ∙ separated-more close (items item close) a rest us e) ∙ prefixed-led l a (items item close us)
 
     pub items-done : (us : List Token) → separation close rest ≡ done us → prefixed l (items item close ts) ≡ took (l ++ (a ∷ [])) us
@@ -89,15 +90,7 @@ module _ {A : Type 0} (item : List Token → Taken A) (close : ℕ) (shrinks : S
   any-items-some unheld (text x ∷ ts) unclosed = refl
   any-items-some unheld (noToken ∷ ts) unclosed = sym (items-missed (noToken ∷ ts) (unheld ts))
 
--- what is no token is no item
+-- what is no token is no number
 pub number-noToken : (ts : List Token) → takeNumber (noToken ∷ ts) ≡ missed
 unfolding takeNumber
 number-noToken ts = refl
-
-pub setting-noToken : (ts : List Token) → takeSetting (noToken ∷ ts) ≡ missed
-unfolding takeSetting
-setting-noToken ts = refl
-
-pub member-noToken : (ts : List Token) → takeMember (noToken ∷ ts) ≡ missed
-unfolding takeMember
-member-noToken ts = refl

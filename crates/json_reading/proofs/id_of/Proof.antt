@@ -1,6 +1,6 @@
 -- `json_reading::id_of` meets its contract. The loop's invariant: the array holds the first `i` bytes, with zeros behind them. The measure is the bytes
 -- left. Assumes nothing.
-use Prim.Native.Nat.{_+_, _-_, _≤_}
+use Prim.Native.Nat.{_-_, _≤_}
 use mathlib.Core.Path.{_≡_, refl, sym, _∙_}
 use mathlib.Core.List.{_++_}
 use native.Mathlib.Omega.{arith}

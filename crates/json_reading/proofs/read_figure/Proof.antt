@@ -9,8 +9,9 @@ use Rattle.json_reading.specs.Answers.{NumberSays, SettingsSays, PassedS
 use Rattle.json_reading.specs.declared.NumberAt.{NumberAt}
 use Rattle.json_reading.specs.declared.Settings.{Settings}
 use Rattle.json_reading.specs.declared.Passed.{Passed}
+use Rattle.json_reading.proofs.Keys.{depth-last}
 use Rattle.json_reading.proofs.Values.{says-missed, says-held, holds-figure, holds-flags, holds-nothing}
-use Rattle.json_reading.proofs.Values.{depth-last, actor-took, actor-missed, flags-took, flags-missed, depth-took, depth-missed}
+use Rattle.json_reading.proofs.Values.{actor-took, actor-missed, flags-took, flags-missed, depth-took, depth-missed}
 use Rattle.json_reading.proofs.read_figure.Statement.{statement}
 use Rattle.json_reading.proofs.read_figure.Tie as tie
 

@@ -1,9 +1,9 @@
 -- `json_reading::read_text` meets its contract: by the key, a text is an id, the name of a kind or the one trust domain. Assumes nothing.
 use Prim.Native.Nat.{_+_, _-_, _≤_}
-use mathlib.Core.Path.{_≡_, refl, sym, subst, ap, _∙_}
+use mathlib.Core.Path.{_≡_, refl, sym, subst, _∙_}
 use mathlib.Core.Bool.{false}
 use native.Mathlib.Omega.{arith}
-use lib.ListN.{length, take, drop, length-take, length-drop}
+use lib.ListN.{length, drop, length-take, length-drop}
 use borrow.Author.Needs.{needs}
 use Rattle.json_tokens.specs.Tokens.{tokens}
 use Rattle.json_tokens.specs.Answers.{part, TokenSays}
@@ -11,8 +11,9 @@ use Rattle.json_tokens.specs.declared.TokenAt.{TokenAt}
 use Rattle.json_actions.specs.Members.{missed, takeText, takeValue}
 use Rattle.json_reading.specs.Answers.{HeldAnyway}
 use Rattle.json_reading.specs.declared.Held.{Held}
+use Rattle.json_reading.proofs.Keys.{domain-last}
 use Rattle.json_reading.proofs.Values.{text-mark, text-none, text-broken, says-missed, says-held, holds-letters, holds-figure, holds-nothing}
-use Rattle.json_reading.proofs.Values.{id-short, domain-last, id-took, id-unfit, kind-took, kind-unfit, domain-took, domain-unfit, no-text-held}
+use Rattle.json_reading.proofs.Values.{id-short, id-took, id-unfit, kind-took, kind-unfit, domain-took, domain-unfit, no-text-held}
 use Rattle.json_reading.proofs.read_text.Statement.{statement}
 use Rattle.json_reading.proofs.read_text.Tie as tie
 

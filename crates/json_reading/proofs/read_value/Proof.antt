@@ -1,6 +1,5 @@
 -- `json_reading::read_value` meets its contract: the numbers of a list stand in its own places, and the array is as it was for every other key.
 -- Assumes nothing.
-use Prim.Native.Nat.{_+_}
 use mathlib.Core.Path.{_≡_, refl, subst}
 use native.Mathlib.Omega.{arith}
 use lib.ListN.{drop}
@@ -10,14 +9,16 @@ use Rattle.json_tokens.specs.Tokens.{tokens}
 use Rattle.json_actions.specs.Members.{takeNumbers}
 use Rattle.json_reading.specs.Answers.{blockOf, limited, NumbersSays}
 use Rattle.json_reading.specs.declared.Numbers.{Numbers}
-use Rattle.json_reading.proofs.Values.{list-key, text-key, figure-key, list-held, list-apart, list-missed}
+use Rattle.json_reading.proofs.Keys.{list-key, text-key, figure-key}
+use Rattle.json_reading.proofs.Values.{list-held, list-apart, list-missed}
 use Rattle.json_reading.proofs.read_value.Statement.{statement}
 use Rattle.json_reading.proofs.read_value.Tie as tie
 
 -- what the list of numbers says, at the answer that the match found
 told : (c : tie.After-read-numbers) (r : Numbers) → c .read-numbers .result ≡ r →
     let a = c .before .before .before .before .before .args in
-    NumbersSays (a .s .now) (a .at) (blockOf (a .key)) (a .numbers .now) (c .read-numbers .last .1 .1 .0) r (limited (takeNumbers (tokens (drop (a .at) (a .s .now)))))
+    NumbersSays (a .s .now) (a .at) (blockOf (a .key)) (a .numbers .now) (c .read-numbers .last .1 .1 .0) r
+    (limited (takeNumbers (tokens (drop (a .at) (a .s .now)))))
 told c r e =
     let a = c .before .before .before .before .before .args in
     subst (λ (x : Numbers). NumbersSays (a .s .now) (a .at) (blockOf (a .key)) (a .numbers .now) (c .read-numbers .last .1 .1 .0) x
@@ -64,7 +65,8 @@ returns-2 c =
     let b = m .before .before .before .before .before in
     let a = b .args in
     let inside = list-key (a .key) (m .before .before .if1 .taken) in (
-      list-missed (a .s .now) (a .numbers .now) _ (a .at) (a .key) (inside .0) (inside .1) (b .pre .1) _ (told m _ (c .before .enum-told .given .1)) (c .not-held .ensures),
+      list-missed (a .s .now) (a .numbers .now) _ (a .at) (a .key) (inside .0) (inside .1) (b .pre .1) _
+          (told m _ (c .before .enum-told .given .1)) (c .not-held .ensures),
       λ kept. clash (c .not-held .result .ok) kept (c .not-held .ensures),
     )
 

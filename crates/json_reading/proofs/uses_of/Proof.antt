@@ -121,7 +121,8 @@ returns c =
     let b = l .before in
     let a = b .args in
     let long = uses-length (a .numbers .now) (a .reads) (a .writes) (a .executes) (b .pre .0) (b .pre .1) in
-    filled-whole (usesTaken (a .numbers .now) (a .reads) (a .writes) (a .executes)) useLimit (l .loop .i) noUse (l .loop .uses) (omega arith) (omega arith) (l .loop .inv .1)
+    filled-whole (usesTaken (a .numbers .now) (a .reads) (a .writes) (a .executes)) useLimit (l .loop .i) noUse (l .loop .uses)
+    (omega arith) (omega arith) (l .loop .inv .1)
 
 pub uses-of-spec : {M : Type 1} → statement M
 uses-of-spec =

@@ -14,7 +14,7 @@ refusal-requires : tie.Need-refusal-requires
 refusal-requires c κs = search needs
 
 returns : tie.Need-returns
-returns c = json-told (c .before .before .before .read-json .ensures) (c .before .accepted .ensures) (c .refusal .ensures)
+returns c = json-told (c .before .before .before .before .read-json .ensures) (c .before .accepted .ensures) (c .refusal .ensures)
 
 pub guvrendik-read-json-spec : {M : Type 1} → statement M
 guvrendik-read-json-spec = tie.close (tie.spec read-json-requires accepted-requires refusal-requires returns)
