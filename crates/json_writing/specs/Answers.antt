@@ -46,5 +46,6 @@ module _ (a : Action) (id : List ℕ) (kind : ℕ) (old : List ℕ) where
   unfolding jsonWritten jsonBuffer
   json-unwritten why e =
       cases (jsonFits a id kind)
-      (λ fits. cases (jsonHolds a) (λ holds. rw (fits, holds) (undelivered (jsonText a id kind) why (rw (fits, holds) at e))) (λ unheld. rw (fits, unheld) (refl, refl)))
+      (λ fits. cases (jsonHolds a) (λ holds. rw (fits, holds) (undelivered (jsonText a id kind) why (rw (fits, holds) at e)))
+      (λ unheld. rw (fits, unheld) (refl, refl)))
       (λ unfit. rw unfit (refl, refl))
