@@ -9,7 +9,7 @@ use lib.Dec.{leb, leb·suc-suc}
 use lib.ListN.{length, take, length-append}
 use Rattle.lists.specs.Splices.{splice, length-splice}
 use Rattle.lists.specs.Tests.{cases}
-use Rattle.rights.specs.Rights.{isRight}
+use Rattle.rights.specs.Rights.{policyModifying}
 use Rattle.actions.specs.Actions.{actionFits}
 use Rattle.actions.specs.declared.Action.{Action}
 use Rattle.sheets.specs.Laws.{Writing, splice-front, writing-start, writing-next, writing-left, writing-last}
@@ -20,10 +20,10 @@ use Rattle.json_writing.specs.Laws.{pieces-natural, json-length}
 
 -- the code's test of the ranges is the one of `jsonFits`
 pub fits-tested : (a : Action) (id : List ℕ) (kind : ℕ) {fit named : Bool} → fit ≡ actionFits a → named ≡ isIdText id
-    → (fit && named) && leb kind 16 ≡ jsonFits a id kind
+    → (fit && named) && leb kind policyModifying ≡ jsonFits a id kind
 unfolding jsonFits
 fits-tested a id kind fit named =
-    rw (fit, named, leb·suc-suc kind 16) (cases (actionFits a) (λ e. rw e) (λ e. rw e))
+    rw (fit, named, leb·suc-suc kind policyModifying) (cases (actionFits a) (λ e. rw e) (λ e. rw e))
 
 module _ (a : Action) (id : List ℕ) (kind : ℕ) (old : List ℕ) (fits : jsonFits a id kind ≡ true) (full : length old ≡ jsonLimit) where
   pieces-room : 0 + length (headText (a .actor) id kind ++ tailText a) ≤ length old

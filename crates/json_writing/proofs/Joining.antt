@@ -1,9 +1,9 @@
--- Texts of parts that are put one behind the other: the last part of any of them, a flag and whether it is set, a resource's number in quotes.
+-- Texts of parts that are put one behind the other: the last part of any of them, a flag and whether it is set, all flags.
 -- Assumes nothing.
 use Prim.Native.Nat.{ℕ, suc, _+_, _≤_}
 use mathlib.Core.Path.{_≡_, _∙_}
-use mathlib.Core.List.{List, [], _∷_, _++_}
-use mathlib.Core.Bool.{Bool, true, false, cond}
+use mathlib.Core.List.{List, _++_}
+use mathlib.Core.Bool.{Bool, cond}
 use lib.ListN.{length}
 use Rattle.lists.specs.Splices.{splice}
 use Rattle.sheets.specs.Sheets.{put, behind}

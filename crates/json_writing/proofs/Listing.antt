@@ -1,10 +1,9 @@
 -- The resources used with a right, written use by use: what is left of them at each place, and behind the last. Assumes nothing.
 use Prim.Native.Nat.{ℕ, _+_, _≤_, _<_}
 use mathlib.Core.Path.{_≡_, ap, _∙_, subst}
-use mathlib.Core.List.{List, [], _∷_, _++_}
-use mathlib.Core.Bool.{Bool, true, false}
+use mathlib.Core.List.{List, _∷_, _++_}
+use mathlib.Core.Bool.{Bool, false}
 use borrow.Author.Tests.{eq-eqb, ne-eqb}
-use lib.Dec.{eqb}
 use lib.ListN.{length, getD, take, drop, drop-of-length-le}
 use Rattle.lists.specs.Loops.{drop-at}
 use Rattle.lists.specs.Splices.{splice}
@@ -46,17 +45,20 @@ module _ (b k : ℕ) (uses : List Usage) where
     module _ (room : at + length (resourcesText b (take k uses)) ≤ length old) (same : getD uses i none .right ≡ b) where
       -- the next resource fits
       pub listing-room : end + length (resourceText first (getD uses i none .resource)) ≤ length new
-      listing-room = writing-room (resourceText first (getD uses i none .resource)) (resourcesFrom false b (drop (i + 1) (take k uses))) room (listing-taken same)
+      listing-room =
+          writing-room (resourceText first (getD uses i none .resource)) (resourcesFrom false b (drop (i + 1) (take k uses))) room (listing-taken same)
 
       -- the next resource is written
       pub listing-next : {next : ℕ} {then : List ℕ} → next ≡ end + length (resourceText first (getD uses i none .resource))
           → then ≡ splice end (resourceText first (getD uses i none .resource)) new → Listing at old false (i + 1) next then
       listing-next place written =
-          writing-next (resourceText first (getD uses i none .resource)) (resourcesFrom false b (drop (i + 1) (take k uses))) room (listing-taken same) place written
+          writing-next (resourceText first (getD uses i none .resource)) (resourcesFrom false b (drop (i + 1) (take k uses))) room (listing-taken same)
+          place written
 
   -- behind the last use nothing is left
   pub listing-done : {at : ℕ} {old : List ℕ} (first : Bool) (i : ℕ) {end : ℕ} {new : List ℕ} → length (take k uses) ≤ i → Listing at old first i end new
       → (end ≡ at + length (resourcesText b (take k uses))) × (new ≡ splice at (resourcesText b (take k uses)) old)
   unfolding resourcesFrom
   listing-done {at} {old} first i {end} {new} past w =
-      writing-done (subst (λ (l : List Usage). Writing at (resourcesText b (take k uses)) old (resourcesFrom first b l) end new) (drop-of-length-le (take k uses) past) w)
+      writing-done (subst (λ (l : List Usage). Writing at (resourcesText b (take k uses)) old (resourcesFrom first b l) end new)
+      (drop-of-length-le (take k uses) past) w)

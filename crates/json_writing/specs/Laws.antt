@@ -18,18 +18,17 @@ use Rattle.register.specs.Limits.{idLimit, momentEnd}
 use Rattle.actions.specs.Actions.{useLimit, governLimit, flagCount, usesOf, governsOf, actionFits}
 use Rattle.actions.specs.declared.Usage.{Usage}
 use Rattle.actions.specs.declared.Action.{Action}
-use Rattle.changes.specs.declared.Refusal.the-variants.{OutOfRange, BeyondJson}
-use Rattle.sheets.specs.Sheets.{put}
-use Rattle.writing.specs.Writing.{delivered, unwritten}
-use Rattle.json_tokens.specs.Tokens.{Token, mark, text, opensObject, closesObject, opensList, closesList, colon, comma, quote, zeroMark, trueMark, falseMark, trueWord, falseWord}
+use Rattle.json_tokens.specs.Tokens.{Token, mark, text, opensObject, closesObject, opensList, closesList, colon, comma, quote, zeroMark}
+use Rattle.json_tokens.specs.Tokens.{trueMark, falseMark, trueWord, falseWord}
 use Rattle.json_tokens.specs.Spelling.{spelled, spelledAll}
 use Rattle.json_tokens.specs.SpellingLaws.{spelled-append}
 use Rattle.json_actions.specs.Names.{keyNames, kindNames, flagNames, defaultDomain}
 use Rattle.json_actions.specs.Names.{idPlace, actorPlace, kindPlace, readPlace, writePlace, executePlace, flagsPlace, domainPlace, depthPlace}
-use Rattle.json_actions.specs.Members.{Setting, Value, letters, figure, figures, settings, Member, isIdText, isIdByte, idLength}
+use Rattle.json_actions.specs.Members.{Value, letters, figure, figures, settings, isIdText, isIdByte, idLength}
 use Rattle.json_actions.specs.Actions.{resourcesWith, isSet, settingsFrom, commaed, settingTokens, numberTokens, valueTokens, memberTokens, objectTokens}
-use Rattle.json_actions.specs.Actions.{membersFrom, jsonText, jsonFits, jsonHolds, jsonWritten, jsonBuffer, jsonLimit}
-use Rattle.json_writing.specs.Pieces.{nameText, keyText, kindText, resourceText, resourcesFrom, resourcesText, settingText, flagText, flagsFrom, flagsText, headText, tailText}
+use Rattle.json_actions.specs.Actions.{membersFrom, jsonText, jsonFits, jsonLimit}
+use Rattle.json_writing.specs.Pieces.{nameText, kindText, resourceText, resourcesFrom, resourcesText, settingText, flagText, flagsFrom, flagsText}
+use Rattle.json_writing.specs.Pieces.{headText, tailText}
 
 -- The text of the form.
 
@@ -54,7 +53,8 @@ all-spelled f (x ∷ xs) = commaed-spelled f x xs
 
 -- and between two marks
 enclosed-spelled : {A : Type 0} (f : A → List Token) (xs : List A) (opening closing : ℕ)
-    → spelledAll (mark opening ∷ (commaed (map f xs) ++ (mark closing ∷ []))) ≡ spelled (mark opening) ++ (joined (λ y. spelledAll (f y)) true xs ++ spelled (mark closing))
+    → spelledAll (mark opening ∷ (commaed (map f xs) ++ (mark closing ∷ [])))
+    ≡ spelled (mark opening) ++ (joined (λ y. spelledAll (f y)) true xs ++ spelled (mark closing))
 unfolding spelledAll
 enclosed-spelled f xs opening closing =
     ap (λ (l : List ℕ). spelled (mark opening) ++ l)
@@ -80,7 +80,11 @@ flags-behind : (flags i n : ℕ)
 unfolding flagsFrom
 flags-behind flags i zero = refl
 flags-behind flags i (suc n) =
-    rw (name-spelled (getD flagNames (suc i) []) (mark (cond (isSet flags (suc i)) trueMark falseMark) ∷ []), word-spelled (isSet flags (suc i)), flags-behind flags (suc i) n)
+    rw (
+      name-spelled (getD flagNames (suc i) []) (mark (cond (isSet flags (suc i)) trueMark falseMark) ∷ []),
+      word-spelled (isSet flags (suc i)),
+      flags-behind flags (suc i) n,
+    )
 
 flags-joined : (flags : ℕ) → joined (λ s. spelledAll (settingTokens s)) true (settingsFrom flags) ≡ flagsText flags
 unfolding flagsFrom
@@ -100,7 +104,8 @@ unfolding resourcesWith resourcesFrom
 resources-joined first b [] = refl
 resources-joined first b (u ∷ us) =
     cases (eqb (u .right) b)
-    (λ e. rw e (resource-joined first (u .resource) (joined (λ n. spelledAll (text (digits n) ∷ [])) false (resourcesWith b us)) ∙ rw (resources-joined false b us)))
+    (λ e. rw e (resource-joined first (u .resource) (joined (λ n. spelledAll (text (digits n) ∷ [])) false (resourcesWith b us))
+    ∙ rw (resources-joined false b us)))
     (λ e. rw e (resources-joined first b us))
 
 -- what each key holds
@@ -290,21 +295,3 @@ json-length a id kind h =
       head-length (a .actor) id kind (leb-true (a .actor) idLimit (told .0)) short,
       tail-length a (leb-true (a .used) useLimit (told .1 .1 .1 .0)) (told .1 .1 .1 .1 .0),
     )
-
--- The answer.
-
--- what writing answers and leaves, by what is found
-module _ (a : Action) (id : List ℕ) (kind : ℕ) (old : List ℕ) where
-  pub json-unfit : jsonFits a id kind ≡ false → (unwritten OutOfRange ≡ jsonWritten a id kind old) × (old ≡ jsonBuffer a id kind old)
-  unfolding jsonWritten jsonBuffer
-  json-unfit unfit = rw unfit (refl, refl)
-
-  pub json-unheld : jsonFits a id kind ≡ true → jsonHolds a ≡ false
-      → (unwritten BeyondJson ≡ jsonWritten a id kind old) × (old ≡ jsonBuffer a id kind old)
-  unfolding jsonWritten jsonBuffer
-  json-unheld fits unheld = rw (fits, unheld) (refl, refl)
-
-  pub json-held : jsonFits a id kind ≡ true → jsonHolds a ≡ true
-      → (jsonWritten a id kind old ≡ delivered (jsonText a id kind) old) × (jsonBuffer a id kind old ≡ put 0 (jsonText a id kind) old)
-  unfolding jsonWritten jsonBuffer
-  json-held fits holds = rw (fits, holds) (refl, refl)

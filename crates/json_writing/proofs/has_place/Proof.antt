@@ -1,7 +1,7 @@
 -- `json_writing::has_place` meets its contract. The loop's invariant: with nothing governed, the answer is that of the uses left (Loops). The
 -- measure is the number of uses left. Assumes nothing.
-use mathlib.Core.Path.{_≡_, refl, sym, _∙_}
-use mathlib.Core.Bool.{Bool, true, and-true, and-false}
+use mathlib.Core.Path.{_≡_, sym, _∙_}
+use mathlib.Core.Bool.{Bool, and-true, and-false}
 use Prim.Native.Nat.{_-_}
 use native.Mathlib.Omega.{arith}
 use borrow.Author.Needs.{needs}
@@ -13,6 +13,7 @@ use Rattle.lists.specs.Loops.{Loop, start, turn, next, done, length-mapped}
 use Rattle.actions.specs.Actions.{useLimit, usesOf}
 use Rattle.actions.specs.declared.Usage.{Usage}
 use Rattle.actions.specs.declared.Action.{Action}
+use Rattle.texts.specs.Actions.{noUse}
 use Rattle.json_actions.specs.Actions.{jsonHolds}
 use Rattle.json_writing.proofs.has_place.Statement.{statement}
 use Rattle.json_writing.proofs.has_place.Tie as tie
@@ -20,10 +21,6 @@ use Rattle.json_writing.proofs.has_place.Tie as tie
 -- the form has a place for the use
 abbrev isPlain : Usage → Bool
 isPlain u = leb (u .right) 2
-
--- what the code's reads give past the end
-abbrev noUsage : Usage
-noUsage = record { resource = 0; right = 0 }
 
 -- with nothing governed it is a matter of the uses
 holds-ungoverned : (a : Action) → a .governed ≡ 0 → jsonHolds a ≡ every isPlain (usesOf a)
@@ -61,8 +58,8 @@ returns-2 : tie.Need-returns-2 Inv-loop μ-loop
 returns-2 c =
     let at = c .before .before .before in
     let loop = at .before .loop in
-    let u = getD (at .before .before .before .before .args .t1 .uses) (loop .i) noUsage in
-    sym (turn (loop .inv) noUsage (at .loop-test .taken) ∙ rw (lt-leb (u .right) 2 (c .if2 .taken)))
+    let u = getD (at .before .before .before .before .args .t1 .uses) (loop .i) noUse in
+    sym (turn (loop .inv) noUse (at .loop-test .taken) ∙ rw (lt-leb (u .right) 2 (c .if2 .taken)))
 
 add-i : tie.Need-add-i Inv-loop μ-loop
 add-i c = omega arith
@@ -74,8 +71,8 @@ loop-again : tie.Need-loop-again Inv-loop μ-loop
 loop-again c =
     let at = c .before .before .before in
     let loop = at .before .loop in
-    let u = getD (at .before .before .before .before .args .t1 .uses) (loop .i) noUsage in
-    next (loop .inv) (at .loop-test .taken) (turn (loop .inv) noUsage (at .loop-test .taken) ∙ rw (le-leb (u .right) 2 (c .if2 .left)))
+    let u = getD (at .before .before .before .before .args .t1 .uses) (loop .i) noUse in
+    next (loop .inv) (at .loop-test .taken) (turn (loop .inv) noUse (at .loop-test .taken) ∙ rw (le-leb (u .right) 2 (c .if2 .left)))
 
 returns-3 : tie.Need-returns-3 Inv-loop μ-loop
 returns-3 c = sym (done (c .before .loop .inv) (c .loop-test .left))

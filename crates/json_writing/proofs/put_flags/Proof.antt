@@ -48,7 +48,8 @@ first : (c : tie.After-put-setting) →
     let a = first-begun c .args in Flagging (a .flags) (a .at) (a .buf .now) 1 9 (c .put-setting .result) (c .put-setting .last .0)
 first c =
     let st = first-begun c in
-    flagging-next (st .args .flags) 0 9 (st .pre) (flagging-start (st .args .flags) (st .args .at) (st .args .buf .now)) (c .put-setting .ensures .0) (c .put-setting .ensures .1)
+    flagging-next (st .args .flags) 0 9 (st .pre) (flagging-start (st .args .flags) (st .args .at) (st .args .buf .now))
+    (c .put-setting .ensures .0) (c .put-setting .ensures .1)
 
 slice-aggregate-put-setting-2 : tie.Need-slice-aggregate-put-setting-2
 slice-aggregate-put-setting-2 c = refl
@@ -63,7 +64,8 @@ second : (c : tie.After-put-setting2) →
     let a = second-begun c .args in Flagging (a .flags) (a .at) (a .buf .now) 2 8 (c .put-setting2 .result) (c .put-setting2 .last .0)
 second c =
     let st = second-begun c in
-    flagging-next (st .args .flags) 1 8 (st .pre) (first (c .before .before .before .before .before)) (c .put-setting2 .ensures .0) (c .put-setting2 .ensures .1)
+    flagging-next (st .args .flags) 1 8 (st .pre) (first (c .before .before .before .before .before))
+    (c .put-setting2 .ensures .0) (c .put-setting2 .ensures .1)
 
 slice-aggregate-put-setting-3 : tie.Need-slice-aggregate-put-setting-3
 slice-aggregate-put-setting-3 c = refl
@@ -78,7 +80,8 @@ third : (c : tie.After-put-setting3) →
     let a = third-begun c .args in Flagging (a .flags) (a .at) (a .buf .now) 3 7 (c .put-setting3 .result) (c .put-setting3 .last .0)
 third c =
     let st = third-begun c in
-    flagging-next (st .args .flags) 2 7 (st .pre) (second (c .before .before .before .before .before)) (c .put-setting3 .ensures .0) (c .put-setting3 .ensures .1)
+    flagging-next (st .args .flags) 2 7 (st .pre) (second (c .before .before .before .before .before))
+    (c .put-setting3 .ensures .0) (c .put-setting3 .ensures .1)
 
 slice-aggregate-put-setting-4 : tie.Need-slice-aggregate-put-setting-4
 slice-aggregate-put-setting-4 c = refl
@@ -93,7 +96,8 @@ fourth : (c : tie.After-put-setting4) →
     let a = fourth-begun c .args in Flagging (a .flags) (a .at) (a .buf .now) 4 6 (c .put-setting4 .result) (c .put-setting4 .last .0)
 fourth c =
     let st = fourth-begun c in
-    flagging-next (st .args .flags) 3 6 (st .pre) (third (c .before .before .before .before .before)) (c .put-setting4 .ensures .0) (c .put-setting4 .ensures .1)
+    flagging-next (st .args .flags) 3 6 (st .pre) (third (c .before .before .before .before .before))
+    (c .put-setting4 .ensures .0) (c .put-setting4 .ensures .1)
 
 slice-aggregate-put-setting-5 : tie.Need-slice-aggregate-put-setting-5
 slice-aggregate-put-setting-5 c = refl
@@ -108,7 +112,8 @@ fifth : (c : tie.After-put-setting5) →
     let a = fifth-begun c .args in Flagging (a .flags) (a .at) (a .buf .now) 5 5 (c .put-setting5 .result) (c .put-setting5 .last .0)
 fifth c =
     let st = fifth-begun c in
-    flagging-next (st .args .flags) 4 5 (st .pre) (fourth (c .before .before .before .before .before)) (c .put-setting5 .ensures .0) (c .put-setting5 .ensures .1)
+    flagging-next (st .args .flags) 4 5 (st .pre) (fourth (c .before .before .before .before .before))
+    (c .put-setting5 .ensures .0) (c .put-setting5 .ensures .1)
 
 slice-aggregate-put-setting-6 : tie.Need-slice-aggregate-put-setting-6
 slice-aggregate-put-setting-6 c = refl
@@ -123,7 +128,8 @@ sixth : (c : tie.After-put-setting6) →
     let a = sixth-begun c .args in Flagging (a .flags) (a .at) (a .buf .now) 6 4 (c .put-setting6 .result) (c .put-setting6 .last .0)
 sixth c =
     let st = sixth-begun c in
-    flagging-next (st .args .flags) 5 4 (st .pre) (fifth (c .before .before .before .before .before)) (c .put-setting6 .ensures .0) (c .put-setting6 .ensures .1)
+    flagging-next (st .args .flags) 5 4 (st .pre) (fifth (c .before .before .before .before .before))
+    (c .put-setting6 .ensures .0) (c .put-setting6 .ensures .1)
 
 slice-aggregate-put-setting-7 : tie.Need-slice-aggregate-put-setting-7
 slice-aggregate-put-setting-7 c = refl
@@ -138,7 +144,8 @@ seventh : (c : tie.After-put-setting7) →
     let a = seventh-begun c .args in Flagging (a .flags) (a .at) (a .buf .now) 7 3 (c .put-setting7 .result) (c .put-setting7 .last .0)
 seventh c =
     let st = seventh-begun c in
-    flagging-next (st .args .flags) 6 3 (st .pre) (sixth (c .before .before .before .before .before)) (c .put-setting7 .ensures .0) (c .put-setting7 .ensures .1)
+    flagging-next (st .args .flags) 6 3 (st .pre) (sixth (c .before .before .before .before .before))
+    (c .put-setting7 .ensures .0) (c .put-setting7 .ensures .1)
 
 slice-aggregate-put-setting-8 : tie.Need-slice-aggregate-put-setting-8
 slice-aggregate-put-setting-8 c = refl
@@ -153,7 +160,8 @@ eighth : (c : tie.After-put-setting8) →
     let a = eighth-begun c .args in Flagging (a .flags) (a .at) (a .buf .now) 8 2 (c .put-setting8 .result) (c .put-setting8 .last .0)
 eighth c =
     let st = eighth-begun c in
-    flagging-next (st .args .flags) 7 2 (st .pre) (seventh (c .before .before .before .before .before)) (c .put-setting8 .ensures .0) (c .put-setting8 .ensures .1)
+    flagging-next (st .args .flags) 7 2 (st .pre) (seventh (c .before .before .before .before .before))
+    (c .put-setting8 .ensures .0) (c .put-setting8 .ensures .1)
 
 slice-aggregate-put-setting-9 : tie.Need-slice-aggregate-put-setting-9
 slice-aggregate-put-setting-9 c = refl
@@ -168,7 +176,8 @@ ninth : (c : tie.After-put-setting9) →
     let a = ninth-begun c .args in Flagging (a .flags) (a .at) (a .buf .now) 9 1 (c .put-setting9 .result) (c .put-setting9 .last .0)
 ninth c =
     let st = ninth-begun c in
-    flagging-next (st .args .flags) 8 1 (st .pre) (eighth (c .before .before .before .before .before)) (c .put-setting9 .ensures .0) (c .put-setting9 .ensures .1)
+    flagging-next (st .args .flags) 8 1 (st .pre) (eighth (c .before .before .before .before .before))
+    (c .put-setting9 .ensures .0) (c .put-setting9 .ensures .1)
 
 slice-aggregate-put-setting-10 : tie.Need-slice-aggregate-put-setting-10
 slice-aggregate-put-setting-10 c = refl
@@ -183,7 +192,8 @@ tenth : (c : tie.After-put-setting10) →
     let a = tenth-begun c .args in Flagging (a .flags) (a .at) (a .buf .now) 10 0 (c .put-setting10 .result) (c .put-setting10 .last .0)
 tenth c =
     let st = tenth-begun c in
-    flagging-next (st .args .flags) 9 0 (st .pre) (ninth (c .before .before .before .before .before)) (c .put-setting10 .ensures .0) (c .put-setting10 .ensures .1)
+    flagging-next (st .args .flags) 9 0 (st .pre) (ninth (c .before .before .before .before .before))
+    (c .put-setting10 .ensures .0) (c .put-setting10 .ensures .1)
 
 same-length : tie.Need-same-length
 same-length c = let all = c .before .before in writing-length (tenth-begun all .pre) (tenth all)

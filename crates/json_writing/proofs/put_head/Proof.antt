@@ -3,7 +3,6 @@ use Prim.Native.Nat.{_+_, _≤_}
 use mathlib.Core.Path.{refl, _∙_}
 use mathlib.Core.List.{_++_}
 use native.Mathlib.Omega.{arith}
-use borrow.Author.Needs.{needs}
 use lib.ListN.{length}
 use Rattle.decimals.specs.Decimals.{digits}
 use Rattle.sheets.specs.Laws.{writing-start, writing-put}

@@ -9,6 +9,7 @@ use lib.Dec.{leb}
 use lib.ListN.{length, List·getD-eq-default}
 use Rattle.lists.specs.Tests.{cases}
 use Rattle.lists.specs.Splices.{splice-nil}
+use Rattle.rights.specs.Rights.{rightCount}
 use Rattle.sheets.specs.Sheets.{put, behind}
 use Rattle.json_actions.specs.Names.{kindNames}
 use Rattle.json_writing.specs.Pieces.{kindText}
@@ -16,7 +17,7 @@ use Rattle.json_writing.proofs.put_kind.Statement.{statement}
 use Rattle.json_writing.proofs.put_kind.Tie as tie
 
 -- past the last kind nothing is put
-unnamed : (kind at : ℕ) (old : List ℕ) → 17 ≤ kind → (at ≡ behind at (kindText kind) old) × (old ≡ put at (kindText kind) old)
+unnamed : (kind at : ℕ) (old : List ℕ) → rightCount ≤ kind → (at ≡ behind at (kindText kind) old) × (old ≡ put at (kindText kind) old)
 unnamed kind at old past =
     rw (List·getD-eq-default kindNames [] past, add-zero, splice-nil)
     (cases (leb at (length old)) (λ e. rw e (refl, refl)) (λ e. rw e (refl, refl)))
@@ -272,7 +273,7 @@ returns-17 c =
 returns-18 : tie.Need-returns-18
 returns-18 c =
     let st = c .before .before in
-    unnamed (st .args .kind) (st .args .at) (st .args .buf .now) (past-all 17 (st .args .kind) (c .match .rest))
+    unnamed (st .args .kind) (st .args .at) (st .args .buf .now) (past-all rightCount (st .args .kind) (c .match .rest))
 
 pub put-kind-spec : {M : Type 1} → statement M
 put-kind-spec =

@@ -1,22 +1,18 @@
 -- `json_writing::put_resources` meets its contract. The loop's invariant: the uses before place `i` are written (`Listing`). The measure is the
 -- number of uses left. Assumes nothing.
 use Prim.Native.Nat.{_-_, _≤_}
-use mathlib.Core.Path.{_≡_, refl, sym, _∙_}
+use mathlib.Core.Path.{_≡_}
 use native.Mathlib.Omega.{arith}
 use borrow.Author.Needs.{needs}
 use lib.ListN.{length, length-take}
 use Rattle.lists.specs.Loops.{length-mapped}
 use Rattle.actions.specs.Actions.{useLimit, usesOf}
-use Rattle.actions.specs.declared.Usage.{Usage}
+use Rattle.texts.specs.Actions.{noUse}
 use Rattle.sheets.specs.Laws.{writing-start, writing-length}
 use Rattle.json_writing.specs.Pieces.{resourcesText}
 use Rattle.json_writing.proofs.Listing.{Listing, listing-passed, listing-room, listing-next, listing-done}
 use Rattle.json_writing.proofs.put_resources.Statement.{statement}
 use Rattle.json_writing.proofs.put_resources.Tie as tie
-
--- what the code's reads give past the end
-abbrev noUsage : Usage
-noUsage = record { resource = 0; right = 0 }
 
 abbrev Inv-loop : tie.InvT-loop
 Inv-loop buf₀ at right a top end₀ first₀ i₀ buf end first i =
@@ -52,8 +48,8 @@ put-resource-requires c κs =
     let loop = turn .before .loop in
     let st = turn .before .before .before .before in
     let a = st .args .t3 in
-    listing-room (st .args .right) (a .used) (a .uses) noUsage (loop .first) (loop .i) (omega (arith, turn .loop-test .taken, loop .inv .1)) (loop .inv .2) (st .pre)
-    (c .before .if1 .taken)
+    listing-room (st .args .right) (a .used) (a .uses) noUse (loop .first) (loop .i) (omega (arith, turn .loop-test .taken, loop .inv .1))
+    (loop .inv .2) (st .pre) (c .before .if1 .taken)
 
 add-i : tie.Need-add-i Inv-loop μ-loop
 add-i c = omega arith
@@ -72,8 +68,8 @@ loop-again c =
     let a = st .args .t3 in (
       omega arith,
       loop .inv .1,
-      listing-next (st .args .right) (a .used) (a .uses) noUsage (loop .first) (loop .i) (omega (arith, turn .loop-test .taken, loop .inv .1)) (loop .inv .2) (st .pre)
-          (test .if1 .taken) (call .ensures .0) (call .ensures .1),
+      listing-next (st .args .right) (a .used) (a .uses) noUse (loop .first) (loop .i) (omega (arith, turn .loop-test .taken, loop .inv .1))
+          (loop .inv .2) (st .pre) (test .if1 .taken) (call .ensures .0) (call .ensures .1),
     )
 
 add-i-2 : tie.Need-add-i-2 Inv-loop μ-loop
@@ -91,7 +87,7 @@ loop-again-2 c =
     let a = st .args .t3 in (
       omega arith,
       loop .inv .1,
-      listing-passed (st .args .right) (a .used) (a .uses) noUsage (loop .first) (loop .i) (omega (arith, turn .loop-test .taken, loop .inv .1)) (loop .inv .2)
+      listing-passed (st .args .right) (a .used) (a .uses) noUse (loop .first) (loop .i) (omega (arith, turn .loop-test .taken, loop .inv .1)) (loop .inv .2)
           (c .if1 .left),
     )
 

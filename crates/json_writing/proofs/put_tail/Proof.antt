@@ -21,7 +21,7 @@ fromExecuted a = resourcesText 2 (usesOf a) ++ (flagsLead ++ fromFlags a)
 abbrev fromWritten : Action → List ℕ
 fromWritten a = resourcesText 1 (usesOf a) ++ (executeLead ++ fromExecuted a)
 
--- the text is written but for a rest
+-- the text is written but for a rest; each place of the code has its own, and leads back to the start
 abbrev Tail : tie.Start → List ℕ → ℕ → List ℕ → Type 0
 Tail st rest end new = Writing (st .args .at) (tailText (st .args .a)) (st .args .buf .now) rest end new
 
@@ -56,11 +56,14 @@ put-resources-requires c κs =
     let a = st .args .a in
     writing-room (resourcesText 0 (usesOf a)) (writeLead ++ fromWritten a) (st .pre) (begun st)
 
-read : (c : tie.After-put-resources) → let st = read-from c in let a = st .args .a in Tail st (writeLead ++ fromWritten a) (c .put-resources .result) (c .put-resources .last .0)
+read : (c : tie.After-put-resources) →
+    let st = read-from c in let a = st .args .a in
+    Tail st (writeLead ++ fromWritten a) (c .put-resources .result) (c .put-resources .last .0)
 read c =
     let st = read-from c in
     let a = st .args .a in
-    writing-next (resourcesText 0 (usesOf a)) (writeLead ++ fromWritten a) (st .pre) (begun st) (c .put-resources .ensures .0) (c .put-resources .ensures .1)
+    writing-next (resourcesText 0 (usesOf a)) (writeLead ++ fromWritten a) (st .pre) (begun st)
+    (c .put-resources .ensures .0) (c .put-resources .ensures .1)
 
 slice-aggregate-put-bytes : tie.Need-slice-aggregate-put-bytes
 slice-aggregate-put-bytes c = refl
@@ -68,11 +71,14 @@ slice-aggregate-put-bytes c = refl
 put-bytes-requires : tie.Need-put-bytes-requires
 put-bytes-requires c κs = tt
 
-write-led : (c : tie.After-put-bytes) → let st = write-led-from c in let a = st .args .a in Tail st (fromWritten a) (c .put-bytes .result) (c .put-bytes .last .0)
+write-led : (c : tie.After-put-bytes) →
+    let st = write-led-from c in let a = st .args .a in
+    Tail st (fromWritten a) (c .put-bytes .result) (c .put-bytes .last .0)
 write-led c =
     let st = write-led-from c in
     let a = st .args .a in
-    writing-put writeLead (fromWritten a) (st .pre) (read (c .before .before .before .before .before)) (c .put-bytes .ensures .0) (c .put-bytes .ensures .1)
+    writing-put writeLead (fromWritten a) (st .pre) (read (c .before .before .before .before .before))
+    (c .put-bytes .ensures .0) (c .put-bytes .ensures .1)
 
 put-resources-requires-2 : tie.Need-put-resources-requires-2
 put-resources-requires-2 c κs =
@@ -81,11 +87,14 @@ put-resources-requires-2 c κs =
     let a = st .args .a in
     writing-room (resourcesText 1 (usesOf a)) (executeLead ++ fromExecuted a) (st .pre) (write-led before)
 
-wrote : (c : tie.After-put-resources2) → let st = wrote-from c in let a = st .args .a in Tail st (executeLead ++ fromExecuted a) (c .put-resources2 .result) (c .put-resources2 .last .0)
+wrote : (c : tie.After-put-resources2) →
+    let st = wrote-from c in let a = st .args .a in
+    Tail st (executeLead ++ fromExecuted a) (c .put-resources2 .result) (c .put-resources2 .last .0)
 wrote c =
     let st = wrote-from c in
     let a = st .args .a in
-    writing-next (resourcesText 1 (usesOf a)) (executeLead ++ fromExecuted a) (st .pre) (write-led (c .before .before .before .before)) (c .put-resources2 .ensures .0) (c .put-resources2 .ensures .1)
+    writing-next (resourcesText 1 (usesOf a)) (executeLead ++ fromExecuted a) (st .pre) (write-led (c .before .before .before .before))
+    (c .put-resources2 .ensures .0) (c .put-resources2 .ensures .1)
 
 slice-aggregate-put-bytes-2 : tie.Need-slice-aggregate-put-bytes-2
 slice-aggregate-put-bytes-2 c = refl
@@ -93,11 +102,14 @@ slice-aggregate-put-bytes-2 c = refl
 put-bytes-requires-2 : tie.Need-put-bytes-requires-2
 put-bytes-requires-2 c κs = tt
 
-execute-led : (c : tie.After-put-bytes2) → let st = execute-led-from c in let a = st .args .a in Tail st (fromExecuted a) (c .put-bytes2 .result) (c .put-bytes2 .last .0)
+execute-led : (c : tie.After-put-bytes2) →
+    let st = execute-led-from c in let a = st .args .a in
+    Tail st (fromExecuted a) (c .put-bytes2 .result) (c .put-bytes2 .last .0)
 execute-led c =
     let st = execute-led-from c in
     let a = st .args .a in
-    writing-put executeLead (fromExecuted a) (st .pre) (wrote (c .before .before .before .before .before)) (c .put-bytes2 .ensures .0) (c .put-bytes2 .ensures .1)
+    writing-put executeLead (fromExecuted a) (st .pre) (wrote (c .before .before .before .before .before))
+    (c .put-bytes2 .ensures .0) (c .put-bytes2 .ensures .1)
 
 put-resources-requires-3 : tie.Need-put-resources-requires-3
 put-resources-requires-3 c κs =
@@ -106,11 +118,14 @@ put-resources-requires-3 c κs =
     let a = st .args .a in
     writing-room (resourcesText 2 (usesOf a)) (flagsLead ++ fromFlags a) (st .pre) (execute-led before)
 
-executed : (c : tie.After-put-resources3) → let st = executed-from c in let a = st .args .a in Tail st (flagsLead ++ fromFlags a) (c .put-resources3 .result) (c .put-resources3 .last .0)
+executed : (c : tie.After-put-resources3) →
+    let st = executed-from c in let a = st .args .a in
+    Tail st (flagsLead ++ fromFlags a) (c .put-resources3 .result) (c .put-resources3 .last .0)
 executed c =
     let st = executed-from c in
     let a = st .args .a in
-    writing-next (resourcesText 2 (usesOf a)) (flagsLead ++ fromFlags a) (st .pre) (execute-led (c .before .before .before .before)) (c .put-resources3 .ensures .0) (c .put-resources3 .ensures .1)
+    writing-next (resourcesText 2 (usesOf a)) (flagsLead ++ fromFlags a) (st .pre) (execute-led (c .before .before .before .before))
+    (c .put-resources3 .ensures .0) (c .put-resources3 .ensures .1)
 
 slice-aggregate-put-bytes-3 : tie.Need-slice-aggregate-put-bytes-3
 slice-aggregate-put-bytes-3 c = refl
@@ -118,11 +133,14 @@ slice-aggregate-put-bytes-3 c = refl
 put-bytes-requires-3 : tie.Need-put-bytes-requires-3
 put-bytes-requires-3 c κs = tt
 
-flags-led : (c : tie.After-put-bytes3) → let st = flags-led-from c in let a = st .args .a in Tail st (fromFlags a) (c .put-bytes3 .result) (c .put-bytes3 .last .0)
+flags-led : (c : tie.After-put-bytes3) →
+    let st = flags-led-from c in let a = st .args .a in
+    Tail st (fromFlags a) (c .put-bytes3 .result) (c .put-bytes3 .last .0)
 flags-led c =
     let st = flags-led-from c in
     let a = st .args .a in
-    writing-put flagsLead (fromFlags a) (st .pre) (executed (c .before .before .before .before .before)) (c .put-bytes3 .ensures .0) (c .put-bytes3 .ensures .1)
+    writing-put flagsLead (fromFlags a) (st .pre) (executed (c .before .before .before .before .before))
+    (c .put-bytes3 .ensures .0) (c .put-bytes3 .ensures .1)
 
 put-flags-requires : tie.Need-put-flags-requires
 put-flags-requires c κs =
@@ -131,11 +149,14 @@ put-flags-requires c κs =
     let a = st .args .a in
     writing-room (flagsText (a .flags)) (ending) (st .pre) (flags-led before)
 
-flagged : (c : tie.After-put-flags) → let st = flagged-from c in let a = st .args .a in Tail st ending (c .put-flags .result) (c .put-flags .last .0)
+flagged : (c : tie.After-put-flags) →
+    let st = flagged-from c in let a = st .args .a in
+    Tail st ending (c .put-flags .result) (c .put-flags .last .0)
 flagged c =
     let st = flagged-from c in
     let a = st .args .a in
-    writing-next (flagsText (a .flags)) ending (st .pre) (flags-led (c .before .before .before .before)) (c .put-flags .ensures .0) (c .put-flags .ensures .1)
+    writing-next (flagsText (a .flags)) ending (st .pre) (flags-led (c .before .before .before .before))
+    (c .put-flags .ensures .0) (c .put-flags .ensures .1)
 
 slice-aggregate-put-bytes-4 : tie.Need-slice-aggregate-put-bytes-4
 slice-aggregate-put-bytes-4 c = refl

@@ -4,6 +4,7 @@ use Prim.Native.Nat.{ℕ}
 use mathlib.Core.Path.{_≡_, sym, ap, _∙_}
 use mathlib.Core.List.{List}
 use mathlib.Core.Bool.{true}
+use native.Mathlib.Omega.{arith}
 use borrow.Author.Needs.{needs}
 use borrow.Author.Tests.{not-true, not-false}
 use lib.ListN.{length, take, replicate, length-replicate}
@@ -11,7 +12,7 @@ use lib.Seq.{length-take-le}
 use Rattle.sheets.specs.Sheets.{put}
 use Rattle.writing.specs.Writing.{delivered}
 use Rattle.json_actions.specs.Actions.{jsonText, jsonFits, jsonHolds, jsonLimit}
-use Rattle.json_writing.specs.Laws.{json-unfit, json-unheld, json-held}
+use Rattle.json_writing.specs.Answers.{json-unfit, json-unheld, json-held}
 use Rattle.json_writing.proofs.Composing.{fits-tested, head-room, tail-room, sheet-inside, sheet-front}
 use Rattle.json_writing.proofs.write_json.Statement.{statement}
 use Rattle.json_writing.proofs.write_json.Tie as tie
@@ -29,8 +30,11 @@ held : (c : tie.Else2) → jsonHolds (c .before .before .before .before .before 
 held c = sym (c .before .has-place .ensures) ∙ not-false _ (c .if2 .left)
 
 -- a blank sheet is as long as it was made
-blank : length {A = ℕ} (replicate 807 0) ≡ jsonLimit
-blank = length-replicate {A = ℕ} 807 0
+abbrev blankSheet : List ℕ
+blankSheet = replicate jsonLimit 0
+
+blank : length blankSheet ≡ jsonLimit
+blank = length-replicate {A = ℕ} jsonLimit 0
 
 action-fits-requires : tie.Need-action-fits-requires
 action-fits-requires c κs = tt
@@ -73,7 +77,7 @@ put-head-requires : tie.Need-put-head-requires
 put-head-requires c κs =
     let range = c .before .before .before in
     let a = range .before .before .before .before .before .args in
-    head-room (a .a) (a .id .now) (a .kind) (replicate 807 0) (in-range range) blank
+    head-room (a .a) (a .id .now) (a .kind) blankSheet (in-range range) blank
 
 slice-aggregate-put-tail : tie.Need-slice-aggregate-put-tail
 slice-aggregate-put-tail c = search needs
@@ -83,7 +87,7 @@ put-tail-requires c κs =
     let headed = c .before .before in
     let range = headed .before .before .before .before in
     let a = range .before .before .before .before .before .args in
-    tail-room (a .a) (a .id .now) (a .kind) (replicate 807 0) (in-range range) blank (headed .put-head .ensures .0) (headed .put-head .ensures .1)
+    tail-room (a .a) (a .id .now) (a .kind) blankSheet (in-range range) blank (headed .put-head .ensures .0) (headed .put-head .ensures .1)
 
 slice-aggregate-text : tie.Need-slice-aggregate-text
 slice-aggregate-text c = search needs
@@ -96,7 +100,7 @@ front c =
     let headed = c .before .before .before in
     let range = headed .before .before .before .before in
     let a = range .before .before .before .before .before .args in
-    sheet-front (a .a) (a .id .now) (a .kind) (replicate 807 0) (in-range range) blank (headed .put-head .ensures .0) (headed .put-head .ensures .1)
+    sheet-front (a .a) (a .id .now) (a .kind) blankSheet (in-range range) blank (headed .put-head .ensures .0) (headed .put-head .ensures .1)
     (c .put-tail .ensures .0) (c .put-tail .ensures .1)
 
 slice-aggregate-deliver : tie.Need-slice-aggregate-deliver
@@ -105,9 +109,9 @@ slice-aggregate-deliver c =
     let headed = whole .before .before .before in
     let range = headed .before .before .before .before in
     let a = range .before .before .before .before .before .args in
-    sym (length-take-le _ (whole .put-tail .last .0)
-    (sheet-inside (a .a) (a .id .now) (a .kind) (replicate 807 0) (in-range range) blank (headed .put-head .ensures .0) (headed .put-head .ensures .1)
-    (whole .put-tail .ensures .0) (whole .put-tail .ensures .1)))
+    let inside = sheet-inside (a .a) (a .id .now) (a .kind) blankSheet (in-range range) blank (headed .put-head .ensures .0)
+    (headed .put-head .ensures .1) (whole .put-tail .ensures .0) (whole .put-tail .ensures .1) in
+    sym (length-take-le _ (whole .put-tail .last .0) (omega arith))
 
 deliver-requires : tie.Need-deliver-requires
 deliver-requires c κs = tt
