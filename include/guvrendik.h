@@ -191,7 +191,7 @@ typedef struct guvrendik_granted {
  * 11 it is not live at now; 12 it lacks DELEGATE; 13 it lacks a right; 14 it has less weight; 15 more than 16 hops; 16 a circle.
  * Refused for no other cause: a claim of weight 0, or whose expiry has passed, is granted.
  * Accepted, everything but the new claim and the count of claims is as it came, also what stands past the counts.
- * Stack: 156,000 bytes. */
+ * Stack: 176,000 bytes. */
 guvrendik_granted guvrendik_grant(guvrendik_register r, guvrendik_claim c, uint64_t now);
 
 /* The answer of guvrendik_revoke. */
@@ -209,7 +209,7 @@ typedef struct guvrendik_revoked {
  * Refusals, the first that applies: 1 register not sound; 3 revoker not in the register; 17 the claim does not stand; 18 the
  * revoker granted neither it nor a claim higher on its chain.
  * Accepted, every place past the count of claims holds a claim of all zeros: nothing of a withdrawn claim is left.
- * Stack: 131,000 bytes. */
+ * Stack: 138,000 bytes. */
 guvrendik_revoked guvrendik_revoke(guvrendik_register r, uint32_t revoker, uint32_t claim);
 
 /* ---- The gate ---- */
@@ -413,7 +413,7 @@ typedef struct guvrendik_json_read {
  *  now            the action's moment in seconds, below 2^32
  * Refusals, the first that applies: 2 now out of range, whatever the text; 24 for everything else: another form, a number out
  * of range, more than 32 uses.
- * Stack: 8,000 bytes. */
+ * Stack: 2,000 bytes. */
 guvrendik_json_read guvrendik_read_json(const uint8_t *text, size_t text_len, uint64_t now);
 
 /* Writes an action as JSON: all nine keys in their order, no blanks. Reading that text at the action's moment gives the same id
@@ -426,7 +426,7 @@ guvrendik_json_read guvrendik_read_json(const uint8_t *text, size_t text_len, ui
  * Refusals, the first that applies: 2 a field or count of the action, the id or the kind out of range; 25 a right above 2 or a
  * governed entry; 21 buffer too short. Then the buffer keeps every byte.
  * Accepted, the buffer keeps its bytes past the text. No zero byte is added.
- * Stack: 8,000 bytes. */
+ * Stack: 3,000 bytes. */
 guvrendik_written guvrendik_write_json(guvrendik_action a, const uint8_t *id, size_t id_len, uint32_t kind, uint8_t *buffer,
                                        size_t buffer_len);
 

@@ -56,12 +56,14 @@ pub extern "C" fn guvrendik_grant(r: Register, c: Claim, now: u64) -> GrantAnswe
     ensures { λ y. ⌜ y ≡ grantAnswer (granted r c now) ⌝ }
 {
     let g = granting::grant(r, c, now);
-    let state = g.register;
     let outcome = g.outcome;
+    let accepted = answers::accepted(outcome);
+    let refusal = answers::refusal(outcome);
+    let state = g.register;
     GrantAnswer {
         state,
-        accepted: answers::accepted(outcome),
-        refusal: answers::refusal(outcome),
+        accepted,
+        refusal,
     }
 }
 
@@ -71,12 +73,14 @@ pub extern "C" fn guvrendik_revoke(r: Register, revoker: u32, claim: u32) -> Rev
     ensures { λ y. ⌜ y ≡ revokeAnswer (revoked r revoker claim) ⌝ }
 {
     let g = revoking::revoke(r, revoker, claim);
-    let state = g.register;
     let outcome = g.outcome;
+    let accepted = answers::accepted(outcome);
+    let refusal = answers::refusal(outcome);
+    let state = g.register;
     RevokeAnswer {
         state,
-        accepted: answers::accepted(outcome),
-        refusal: answers::refusal(outcome),
+        accepted,
+        refusal,
         removed: g.removed,
     }
 }
