@@ -1,7 +1,7 @@
 -- A JSON text of the builder's form as its list of members, each with its key's own value. Keys may come in any order; blanks are gone
 -- with the tokens. Assumes nothing.
-use Prim.Native.Nat.{ℕ, zero, suc, _+_, _^_}
-use mathlib.Core.List.{List, [], _∷_, _++_, map}
+use Prim.Native.Nat.{ℕ, zero, suc}
+use mathlib.Core.List.{List, [], _∷_, map}
 use mathlib.Core.Bool.{Bool, true, false, not, cond, _&&_, _||_}
 use lib.ListN.{length}
 use lib.Dec.{eqb, leb, ltb}
@@ -14,7 +14,7 @@ use Rattle.rules.specs.Sound.{distinct}
 use Rattle.actions.specs.Actions.{useLimit, flagCount}
 use Rattle.decimals.specs.Decimals.{Parsed, got, large, bad, parse}
 use Rattle.json_tokens.specs.Tokens.{Token, mark, text, noToken, opensObject, closesObject, opensList, closesList, colon, comma, zeroMark, trueMark, falseMark, quote}
-use Rattle.json_actions.specs.Names.{keyNames, kindNames, flagNames, defaultDomain, placeOf, keyCount}
+use Rattle.json_actions.specs.Names.{keyNames, kindNames, flagNames, defaultDomain, placeOf}
 use Rattle.json_actions.specs.Names.{idPlace, actorPlace, kindPlace, readPlace, writePlace, executePlace, flagsPlace, domainPlace, depthPlace}
 
 -- a flag and whether it is set

@@ -21,7 +21,7 @@ use Rattle.json_reading.specs.declared.SettingAt.{SettingAt}
 use Rattle.json_reading.specs.declared.SettingAt.the-variants.{Is, Not as NoSetting}
 use Rattle.json_reading.specs.declared.Settings.{Settings}
 use Rattle.json_reading.specs.declared.Settings.the-variants.{Are, Not}
-use Rattle.json_reading.specs.Laws.{past-unmarked, joined, separated-natural, separated-more, separated-done, separated-broken, items-missed}
+use Rattle.json_reading.specs.Laws.{past-unmarked, continued, separated-natural, separated-more, separated-done, separated-broken, items-missed}
 use Rattle.json_reading.specs.Answers.{Behind, Separation, more, done, broken, separation, isMarked, SettingSays, flagsFound, fullSet, SettingsSays}
 use Rattle.json_reading.proofs.Distinct.{distinct-again}
 use Rattle.json_reading.proofs.Flags.{isAmong, Noted, noted-none, noted-more, noted-answer}
@@ -85,11 +85,11 @@ module _ (ss : List Setting) (a : Setting) (again : isAmong ss (a .flag) ≡ tru
   led-again (took others rest) = took-again others rest
   led-again missed = refl
 
-  joined-again : (go : List Token → Taken (List Setting)) (x : Separation) → fullSet (prefixed ss (joined go a x)) ≡ missed
+  continued-again : (go : List Token → Taken (List Setting)) (x : Separation) → fullSet (prefixed ss (continued go a x)) ≡ missed
   unfolding prefixed
-  joined-again go (more ts) = led-again (go ts)
-  joined-again go (done ts) = took-again [] ts
-  joined-again go broken = refl
+  continued-again go (more ts) = led-again (go ts)
+  continued-again go (done ts) = took-again [] ts
+  continued-again go broken = refl
 
 -- the settings of an object from a position on, up to the closing mark
 abbrev settingsFrom : List ℕ → ℕ → Taken (List Setting)
@@ -121,7 +121,7 @@ module _ {s : List ℕ} {begun : ℕ} {seen sets : List Bool} {at : ℕ} (r : Re
     pub reading-again : getD seen i false ≡ true → fullSet (settingsFrom s begun) ≡ missed
     reading-again e =
         ap fullSet (whole-on ∙ ap (prefixed (r .read)) (separated-natural closesObject (items takeSetting closesObject) this us))
-        ∙ joined-again (r .read) this (sym (r .noted .marked i known) ∙ e) (items takeSetting closesObject) (separation closesObject us)
+        ∙ continued-again (r .read) this (sym (r .noted .marked i known) ∙ e) (items takeSetting closesObject) (separation closesObject us)
 
     pub reading-broken : separation closesObject us ≡ broken → fullSet (settingsFrom s begun) ≡ missed
     unfolding prefixed

@@ -19,7 +19,7 @@ use Rattle.json_actions.specs.Items.{taken-cases, missed-took, items-step, numb
 use Rattle.json_reading.specs.declared.Numbers.{Numbers}
 use Rattle.json_reading.specs.declared.Numbers.the-variants.{Are, Not}
 use Rattle.json_reading.specs.Answers.{Behind, Separation, more, done, broken, separation, isMarked, limited, NumbersSays}
-use Rattle.json_reading.specs.Laws.{past-marked, past-unmarked, joined, separated-natural, items-missed, items-more, items-done, items-broken}
+use Rattle.json_reading.specs.Laws.{past-marked, past-unmarked, continued, separated-natural, items-missed, items-more, items-done, items-broken}
 use Rattle.json_reading.specs.Laws.{any-items-none, any-items-some, number-noToken}
 
 -- the place of a name, by the first of the names
@@ -87,11 +87,11 @@ led-filled : {A : Type 0} (a : A) (x : Taken (List A)) (l : List A) (rest : List
 led-filled a (took m ts) l rest e = let whole : a ∷ m ≡ l = cc in omega (arith, ap length whole)
 led-filled a missed l rest e = missed-took e
 
-joined-filled : {A : Type 0} (go : List Token → Taken (List A)) (a : A) (p : Separation) (l : List A) (rest : List Token) → joined go a p ≡ took l rest →
+continued-filled : {A : Type 0} (go : List Token → Taken (List A)) (a : A) (p : Separation) (l : List A) (rest : List Token) → continued go a p ≡ took l rest →
     0 < length l
-joined-filled go a (more ts) l rest e = led-filled a (go ts) l rest e
-joined-filled go a (done ts) l rest e = let whole : a ∷ [] ≡ l = cc in omega (arith, ap length whole)
-joined-filled go a broken l rest e = missed-took e
+continued-filled go a (more ts) l rest e = led-filled a (go ts) l rest e
+continued-filled go a (done ts) l rest e = let whole : a ∷ [] ≡ l = cc in omega (arith, ap length whole)
+continued-filled go a broken l rest e = missed-took e
 
 -- the numbers of a list, from its first one on
 abbrev pub listed : List Token → Taken (List ℕ)
@@ -100,7 +100,7 @@ listed ts = items takeNumber closesList ts
 listed-filled : (ts : List Token) (l : List ℕ) (rest : List Token) → listed ts ≡ took l rest → 0 < length l
 listed-filled ts l rest e =
     taken-cases (takeNumber ts)
-    (λ n us taken. joined-filled listed n (separation closesList us) l rest (
+    (λ n us taken. continued-filled listed n (separation closesList us) l rest (
     sym (items-step takeNumber closesList number-shrinks ts ∙ ap (further closesList listed) taken ∙ separated-natural closesList listed n us) ∙ e
     ))
     (λ none. missed-took (sym (items-missed takeNumber closesList number-shrinks ts none) ∙ e))

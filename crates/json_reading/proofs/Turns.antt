@@ -1,23 +1,23 @@
 -- Laws of the members of an object read one by one: what a key, its value and what follows it say of all of them. Assumes nothing.
 use Prim.Native.Nat.{ℕ, _+_, _≤_, _<_}
 use mathlib.Core.Path.{_≡_, refl, sym, ap, _∙_}
-use mathlib.Core.List.{List, [], _∷_, _++_, map, map-append}
-use mathlib.Core.Bool.{Bool, true, false, cond, _||_}
+use mathlib.Core.List.{List, [], _∷_, _++_, map-append}
+use mathlib.Core.Bool.{Bool, true, false}
 use native.Mathlib.Omega.{arith}
 use borrow.Author.Tests.{ne-eqb}
 use lib.Dec.{eqb}
 use lib.ListN.{length, drop, getD, set, replicate}
 use Rattle.lists.specs.Tests.{cases, clash}
 use Rattle.lists.specs.Lists.{any}
-use Rattle.rules.specs.Sound.{distinct}
 use Rattle.json_tokens.specs.Tokens.{Token, mark, text, noToken, comma, colon, closesObject, tokens}
 use Rattle.json_actions.specs.Names.{keyNames, placeOf, keyCount}
-use Rattle.json_actions.specs.Members.{Member, Value, Taken, took, missed, past, made, named, takeText, ledBy, separated, further, items}
+use Rattle.json_actions.specs.Members.{Member, Value, Taken, took, missed, past, named, takeText, ledBy, further, items}
 use Rattle.json_actions.specs.Members.{takeValue, takeHeld, takeMember}
 use Rattle.json_actions.specs.Items.{taken-cases, missed-took, items-step, member-shrinks, prefixed, prefixed-nil, prefixed-led}
-use Rattle.json_reading.specs.Answers.{Separation, more, done, broken, separation, keyOf, listRoom, Holds, Apart, keysOf, Kept, Drafted, DraftSays, admitted, Behind, HeldSays}
+use Rattle.json_reading.specs.Answers.{Separation, more, done, broken, separation, keyOf, listRoom, Holds, Apart, keysOf, Kept, DraftSays, admitted, Behind, HeldSays}
 use Rattle.json_reading.specs.declared.Held.{Held}
 use Rattle.json_reading.specs.declared.Draft.{Draft}
+use Rattle.json_reading.specs.Laws.{continued, separated-natural}
 use Rattle.json_reading.proofs.Distinct.{distinct-again}
 use Rattle.json_reading.proofs.Drafts.{Placed, kept-none, kept-next, placed-next}
 
@@ -79,20 +79,6 @@ value-beyond k ts beyond =
       ne-eqb k 8 (λ e. omega arith),
     )
 
--- the items that follow one, by what follows it
-abbrev continued : {A : Type 0} → (List Token → Taken (List A)) → A → Separation → Taken (List A)
-continued go a (more us) = ledBy a (go us)
-continued go a (done us) = took (a ∷ []) us
-continued go a broken = missed
-
-separated-continued : {A : Type 0} (close : ℕ) (go : List Token → Taken (List A)) (a : A) (ts : List Token)
-    → separated close go a ts ≡ continued go a (separation close ts)
-separated-continued close go a [] = refl
-separated-continued close go a (mark b ∷ ts) =
-    cases (eqb b comma) (λ next. rw next) (λ other. cases (eqb b close) (λ closed. rw (other, closed)) (λ none. rw (other, none)))
-separated-continued close go a (text x ∷ ts) = refl
-separated-continued close go a (noToken ∷ ts) = refl
-
 -- the item leads whatever is taken
 continued-led : {A : Type 0} (go : List Token → Taken (List A)) (a : A) (p : Separation) → (x : Taken (List A)) × (continued go a p ≡ ledBy a x)
 continued-led go a (more us) = (go us, refl)
@@ -112,7 +98,7 @@ members-missed ts e = members-step ts ∙ rw e
 
 members-took : (ts : List Token) (m : Member) (rest : List Token) → takeMember ts ≡ took m rest
     → membersIn ts ≡ continued membersIn m (separation closesObject rest)
-members-took ts m rest e = members-step ts ∙ rw e (separated-continued closesObject membersIn m rest)
+members-took ts m rest e = members-step ts ∙ rw e (separated-natural closesObject membersIn m rest)
 
 -- the member leads whatever is taken
 pub members-led : (ts : List Token) (m : Member) (rest : List Token) → takeMember ts ≡ took m rest

@@ -1,16 +1,16 @@
 -- Laws of an object with nothing behind it: what the reading of its members says of it. Assumes nothing.
-use Prim.Native.Nat.{ℕ, _+_, _≤_, _<_}
-use mathlib.Core.Path.{_≡_, refl, sym, ap, _∙_}
-use mathlib.Core.List.{List, [], _∷_, _++_, map}
-use mathlib.Core.Bool.{Bool, true, false}
+use Prim.Native.Nat.{ℕ}
+use mathlib.Core.Path.{_≡_, refl, sym, _∙_}
+use mathlib.Core.List.{List, [], _∷_}
+use mathlib.Core.Bool.{false}
 use lib.Dec.{eqb}
-use lib.ListN.{length, drop}
+use lib.ListN.{drop}
 use Rattle.lists.specs.Tests.{cases, clash}
 use Rattle.lists.specs.Each.{cons-clash}
 use Rattle.json_tokens.specs.Tokens.{Token, mark, text, noToken, opensObject, closesObject, tokens}
 use Rattle.json_actions.specs.Members.{Member, Taken, took, missed, past, ledBy, anyItems, takeMember, sole, membersOf}
 use Rattle.json_actions.specs.Items.{taken-cases, missed-took}
-use Rattle.json_reading.specs.Answers.{separation, isMarked, admitted, admittedWhole, DraftSays}
+use Rattle.json_reading.specs.Answers.{isMarked, admitted, admittedWhole, DraftSays}
 use Rattle.json_reading.specs.declared.Draft.{Draft}
 use Rattle.json_reading.proofs.Turns.{membersIn, members-missed, members-led, Answered}
 

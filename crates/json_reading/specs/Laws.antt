@@ -33,26 +33,26 @@ pub separation-other : (close b : ℕ) (ts : List Token) → (b ≡ comma → �
 separation-other close b ts other another = rw (ne-eqb b comma other, ne-eqb b close another)
 
 -- an item and what follows it
-abbrev pub joined : {A : Type 0} → (List Token → Taken (List A)) → A → Separation → Taken (List A)
-joined go a (more ts) = ledBy a (go ts)
-joined go a (done ts) = took (a ∷ []) ts
-joined go a broken = missed
+abbrev pub continued : {A : Type 0} → (List Token → Taken (List A)) → A → Separation → Taken (List A)
+continued go a (more ts) = ledBy a (go ts)
+continued go a (done ts) = took (a ∷ []) ts
+continued go a broken = missed
 
 module _ {A : Type 0} (close : ℕ) (go : List Token → Taken (List A)) (a : A) where
-  pub separated-natural : (ts : List Token) → separated close go a ts ≡ joined go a (separation close ts)
+  pub separated-natural : (ts : List Token) → separated close go a ts ≡ continued go a (separation close ts)
   separated-natural [] = refl
   separated-natural (mark b ∷ ts) = cases (eqb b comma) (λ e. rw e) (λ other. cases (eqb b close) (λ e. rw (other, e)) (λ another. rw (other, another)))
   separated-natural (text x ∷ ts) = refl
   separated-natural (noToken ∷ ts) = refl
 
   pub separated-more : (ts us : List Token) → separation close ts ≡ more us → separated close go a ts ≡ ledBy a (go us)
-  separated-more ts us e = separated-natural ts ∙ ap (joined go a) e
+  separated-more ts us e = separated-natural ts ∙ ap (continued go a) e
 
   pub separated-done : (ts us : List Token) → separation close ts ≡ done us → separated close go a ts ≡ took (a ∷ []) us
-  separated-done ts us e = separated-natural ts ∙ ap (joined go a) e
+  separated-done ts us e = separated-natural ts ∙ ap (continued go a) e
 
   pub separated-broken : (ts : List Token) → separation close ts ≡ broken → separated close go a ts ≡ missed
-  separated-broken ts e = separated-natural ts ∙ ap (joined go a) e
+  separated-broken ts e = separated-natural ts ∙ ap (continued go a) e
 
 -- a list that is closed at once is empty
 pub any-items-none : {A : Type 0} (item : List Token → Taken A) (close : ℕ) (us : List Token) → anyItems item close (mark close ∷ us) ≡ took [] us

@@ -12,7 +12,6 @@ ghost use Rattle.lines.specs.Reading.{closed};
 ghost use Rattle.json_actions.specs.Actions.{jsonRead};
 ghost use Rattle.verdict_text.specs.Printed.{pairText, listText, stoppedText, verdictText, actionLines, printed, printedLimit};
 ghost use Rattle.verdict_text.specs.Printed.{jsonLines, clockRead, clockLines, jsonPrinted};
-use actions::Action;
 use actions::Decision;
 use actions::Verdict;
 use actions::Violation;
