@@ -7,7 +7,7 @@ use Rattle.changes.specs.Refusals.{numberOf}
 use Rattle.changes.specs.declared.Refusal.{Refusal}
 use Rattle.changes.specs.declared.Refusal.the-variants.{Unsound, OutOfRange, Unknown, IdStands, Full, NotKeeper, Ownerless, MachineBarred, ParentAbsent}
 use Rattle.changes.specs.declared.Refusal.the-variants.{ParentNotHeld, ParentDead, NoDelegate, RightLacking, WeightAbove, TooManyHops, Circle, ClaimAbsent, NoGrantor}
-use Rattle.changes.specs.declared.Refusal.the-variants.{BadForm, CountAbove, BufferShort}
+use Rattle.changes.specs.declared.Refusal.the-variants.{BadForm, CountAbove, BufferShort, BadJson, BeyondJson}
 use Rattle.changes.specs.declared.Outcome.{Outcome}
 use Rattle.changes.specs.declared.Outcome.the-variants.{Accepted, Refused as RefusedFor}
 use Rattle.actions.specs.Actions.{judgementNumber}
@@ -40,6 +40,8 @@ number-above NoGrantor = omega arith
 number-above BadForm = omega arith
 number-above CountAbove = omega arith
 number-above BufferShort = omega arith
+number-above BadJson = omega arith
+number-above BeyondJson = omega arith
 
 -- 1. Only what is accepted has the number 1.
 pub accepted-alone : (o : Outcome) → acceptedNumber o ≡ 1 → o ≡ Accepted

@@ -20,6 +20,7 @@ use Rattle.actions.specs.declared.PlanVerdict.{PlanVerdict}
 use Rattle.texts.specs.declared.RegisterRead.{RegisterRead}
 use Rattle.texts.specs.declared.ActionRead.{ActionRead}
 use Rattle.texts.specs.declared.Written.{Written}
+use Rattle.json_actions.specs.declared.JsonRead.{JsonRead}
 use Rattle.answers.specs.declared.Containment.{Containment}
 use Rattle.answers.specs.declared.Soundness.{Soundness}
 use Rattle.answers.specs.declared.GrantAnswer.{GrantAnswer}
@@ -31,6 +32,7 @@ use Rattle.answers.specs.declared.PlanAnswer.{PlanAnswer}
 use Rattle.answers.specs.declared.RegisterAnswer.{RegisterAnswer}
 use Rattle.answers.specs.declared.ActionAnswer.{ActionAnswer}
 use Rattle.answers.specs.declared.WrittenAnswer.{WrittenAnswer}
+use Rattle.answers.specs.declared.JsonAnswer.{JsonAnswer}
 
 -- a yes is 1 and a no is 0
 abbrev pub yesNumber : Bool → ℕ
@@ -144,4 +146,15 @@ writtenAnswer w = record {
   accepted = acceptedNumber (w .outcome);
   refusal = refusalNumber (w .outcome);
   length = w .length;
+}
+
+-- a reading of a JSON action: the action beside its outcome, its kind and its id
+abbrev pub jsonAnswer : JsonRead → JsonAnswer
+jsonAnswer r = record {
+  action = r .action;
+  accepted = acceptedNumber (r .outcome);
+  refusal = refusalNumber (r .outcome);
+  kind = r .kind;
+  len = r .len;
+  id = r .id;
 }

@@ -8,6 +8,7 @@ use Rattle.actions.specs.declared.Verdict.{Verdict}
 use Rattle.actions.specs.declared.PlanVerdict.{PlanVerdict}
 use Rattle.texts.specs.declared.RegisterRead.{RegisterRead}
 use Rattle.texts.specs.declared.ActionRead.{ActionRead}
+use Rattle.json_actions.specs.declared.JsonRead.{JsonRead}
 use Rattle.answers.specs.declared.GrantAnswer.{GrantAnswer}
 use Rattle.answers.specs.declared.RevokeAnswer.{RevokeAnswer}
 use Rattle.answers.specs.declared.ViolationNumbers.{ViolationNumbers}
@@ -16,8 +17,9 @@ use Rattle.answers.specs.declared.JudgementNumbers.{JudgementNumbers}
 use Rattle.answers.specs.declared.PlanAnswer.{PlanAnswer}
 use Rattle.answers.specs.declared.RegisterAnswer.{RegisterAnswer}
 use Rattle.answers.specs.declared.ActionAnswer.{ActionAnswer}
+use Rattle.answers.specs.declared.JsonAnswer.{JsonAnswer}
 use Rattle.answers.specs.Answers.{acceptedNumber, refusalNumber, grantAnswer, revokeAnswer}
-use Rattle.answers.specs.Answers.{decisionNumber, stopNumber, violationList, gateAnswer, judgementList, planAnswer, registerAnswer, actionAnswer}
+use Rattle.answers.specs.Answers.{decisionNumber, stopNumber, violationList, gateAnswer, judgementList, planAnswer, registerAnswer, actionAnswer, jsonAnswer}
 
 pub grant-told : {g h : Granted} {a n : ℕ} → g ≡ h → a ≡ acceptedNumber (g .outcome) → n ≡ refusalNumber (g .outcome)
     → _≡_ {A = GrantAnswer} (record { state = g .register; accepted = a; refusal = n }) (grantAnswer h)
@@ -44,3 +46,7 @@ register-told same accepted refused = rw (sym same, accepted, refused)
 pub action-told : {g h : ActionRead} {a n : ℕ} → g ≡ h → a ≡ acceptedNumber (g .outcome) → n ≡ refusalNumber (g .outcome)
     → _≡_ {A = ActionAnswer} (record { action = g .action; accepted = a; refusal = n; line = g .line }) (actionAnswer h)
 action-told same accepted refused = rw (sym same, accepted, refused)
+
+pub json-told : {g h : JsonRead} {a n : ℕ} → g ≡ h → a ≡ acceptedNumber (g .outcome) → n ≡ refusalNumber (g .outcome)
+    → _≡_ {A = JsonAnswer} (record { action = g .action; accepted = a; refusal = n; kind = g .kind; len = g .len; id = g .id }) (jsonAnswer h)
+json-told same accepted refused = rw (sym same, accepted, refused)

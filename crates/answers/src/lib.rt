@@ -11,6 +11,7 @@ use actions::PlanVerdict;
 use actions::Violation;
 use actions::Violations;
 use changes::Outcome;
+use json_actions::ID_BYTES;
 use register::Register;
 use texts::Written;
 
@@ -96,6 +97,18 @@ pub struct ActionAnswer {
     pub accepted: u32,
     pub refusal: u32,
     pub line: usize,
+}
+
+// The answer of a reading of a JSON action: accepted is 1, with the action, its kind and its id, zeros behind it. Else it is 0, with 01's
+// number, the action of all zeros, no id, and kind 0.
+#[repr(C)]
+pub struct JsonAnswer {
+    pub action: Action,
+    pub accepted: u32,
+    pub refusal: u32,
+    pub kind: u32,
+    pub len: usize,
+    pub id: [u8; ID_BYTES],
 }
 
 // The answer of a writing: accepted is 1, with the length of the text. Else it is 0, with 01's number and length 0.

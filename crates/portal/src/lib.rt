@@ -12,14 +12,16 @@ ghost use Rattle.texts.specs.Actions.{actionRead};
 ghost use Rattle.sheets.specs.Sheets.{put};
 ghost use Rattle.writing.specs.Writing.{delivered, registerWritten, registerBuffer};
 ghost use Rattle.verdict_text.specs.Printed.{printed};
+ghost use Rattle.json_actions.specs.Actions.{jsonRead, jsonWritten, jsonBuffer};
 ghost use Rattle.answers.specs.Answers.{containment, soundness, grantAnswer, revokeAnswer, gateAnswer, planAnswer};
-ghost use Rattle.answers.specs.Answers.{registerAnswer, actionAnswer, writtenAnswer};
+ghost use Rattle.answers.specs.Answers.{registerAnswer, actionAnswer, writtenAnswer, jsonAnswer};
 use actions::Action;
 use actions::Plan;
 use answers::ActionAnswer;
 use answers::Containment;
 use answers::GateAnswer;
 use answers::GrantAnswer;
+use answers::JsonAnswer;
 use answers::PlanAnswer;
 use answers::RegisterAnswer;
 use answers::RevokeAnswer;
@@ -54,12 +56,14 @@ pub extern "C" fn guvrendik_grant(r: Register, c: Claim, now: u64) -> GrantAnswe
     ensures { λ y. ⌜ y ≡ grantAnswer (granted r c now) ⌝ }
 {
     let g = granting::grant(r, c, now);
-    let state = g.register;
     let outcome = g.outcome;
+    let accepted = answers::accepted(outcome);
+    let refusal = answers::refusal(outcome);
+    let state = g.register;
     GrantAnswer {
         state,
-        accepted: answers::accepted(outcome),
-        refusal: answers::refusal(outcome),
+        accepted,
+        refusal,
     }
 }
 
@@ -69,12 +73,14 @@ pub extern "C" fn guvrendik_revoke(r: Register, revoker: u32, claim: u32) -> Rev
     ensures { λ y. ⌜ y ≡ revokeAnswer (revoked r revoker claim) ⌝ }
 {
     let g = revoking::revoke(r, revoker, claim);
-    let state = g.register;
     let outcome = g.outcome;
+    let accepted = answers::accepted(outcome);
+    let refusal = answers::refusal(outcome);
+    let state = g.register;
     RevokeAnswer {
         state,
-        accepted: answers::accepted(outcome),
-        refusal: answers::refusal(outcome),
+        accepted,
+        refusal,
         removed: g.removed,
     }
 }
@@ -165,4 +171,37 @@ pub extern "C" fn guvrendik_verdict_text(
     ensures buffer { λ _. ⌜ now (buffer .exit) ≡ put 0 (printed (now (register .entry)) (now (action .entry))) (now (buffer .entry)) ⌝ }
 {
     answers::written(verdict_text::verdict_text(register, action, buffer))
+}
+
+// Reads a JSON text of the builder's form as an action at the moment.
+#[no_mangle]
+pub extern "C" fn guvrendik_read_json(text: &[u8], moment: u64) -> JsonAnswer
+    ensures { λ y. ⌜ y ≡ jsonAnswer (jsonRead (now (text .entry)) moment) ⌝ }
+{
+    let posed = json_reading::read_json(text, moment);
+    let action = posed.action;
+    let id = posed.id;
+    let outcome = posed.outcome;
+    JsonAnswer {
+        action,
+        accepted: answers::accepted(outcome),
+        refusal: answers::refusal(outcome),
+        kind: posed.kind,
+        len: posed.len,
+        id,
+    }
+}
+
+// Writes the action with its id and kind into the buffer as a JSON text of the builder's form.
+#[no_mangle]
+pub extern "C" fn guvrendik_write_json(
+    a: Action,
+    id: &[u8],
+    kind: u32,
+    buffer: &mut [u8],
+) -> WrittenAnswer
+    ensures answer { λ y. ⌜ y ≡ writtenAnswer (jsonWritten a (now (id .entry)) kind (now (buffer .entry))) ⌝ }
+    ensures buffer { λ _. ⌜ now (buffer .exit) ≡ jsonBuffer a (now (id .entry)) kind (now (buffer .entry)) ⌝ }
+{
+    answers::written(json_writing::write_json(a, id, kind, buffer))
 }

@@ -75,6 +75,17 @@ pub fn put_bytes(buf: &mut [u8], at: usize, t: &[u8]) -> usize
     copy(buf, at, t)
 }
 
+// Puts the digits of `n` into the buffer at `at`, and answers the position behind them.
+pub fn put_number(buf: &mut [u8], at: usize, n: u64) -> usize
+    ensures behind { λ r. ⌜ r ≡ behind at (digits n) (now (buf .entry)) ⌝ }
+    ensures written { λ _. ⌜ now (buf .exit) ≡ put at (digits n) (now (buf .entry)) ⌝ }
+{
+    if !has_room(buf, at, digit_count(n)) {
+        return at;
+    }
+    write_digits(buf, at, n)
+}
+
 // Puts the line of `key` and `n` into the buffer at `at`, and answers the position behind it.
 pub fn put_line(buf: &mut [u8], at: usize, key: &[u8], n: u64) -> usize
     ensures behind { λ r. ⌜ r ≡ behind at (decimalLine (now (key .entry)) n) (now (buf .entry)) ⌝ }

@@ -14,7 +14,7 @@ refusal-requires : tie.Need-refusal-requires
 refusal-requires c κs = search needs
 
 returns : tie.Need-returns
-returns c = grant-told (c .before .before .before .grant .ensures) (c .before .accepted .ensures) (c .refusal .ensures)
+returns c = grant-told (c .before .before .before .grant .ensures) (c .before .before .accepted .ensures) (c .before .refusal .ensures)
 
 pub guvrendik-grant-spec : {M : Type 1} → statement M
 guvrendik-grant-spec = tie.close (tie.spec grant-requires accepted-requires refusal-requires returns)

@@ -1,5 +1,4 @@
--- A path written as a text, as the bytes that the rules speak of. Only for texts of ASCII, as a path's bytes 0x21 to 0x7E are: there a
--- character is one byte, its code.
+-- A text written in quotes, as the bytes that the rules speak of. Only for ASCII: there a character is one byte, its code. Assumes nothing.
 use mathlib.Core.List.{List, [], _∷_}
 use Prim.Native.Nat.{ℕ}
 use Prim.Native.Char.{code}
