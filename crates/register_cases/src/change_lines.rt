@@ -61,7 +61,7 @@ fn revoke(label: &[u8], r: Register, who: u32, id: u32) {
 }
 
 // The ids of the claims that stand.
-fn ids(r: Register) {
+pub fn ids(r: Register) {
     let k = r.claims;
     let mut i: usize = 0;
     while i < Register::CLAIMS {

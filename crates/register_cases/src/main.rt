@@ -3,12 +3,14 @@ mod asked;
 mod building;
 mod change_lines;
 mod gate_lines;
+mod order_lines;
 mod plan_lines;
 mod soundness_lines;
 
 fn main() {
     soundness_lines::all();
     change_lines::all();
+    order_lines::all();
     gate_lines::all();
     plan_lines::all();
 }
