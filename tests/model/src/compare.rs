@@ -3,7 +3,7 @@
 use crate::case::{outcome_name, Call, Outcome, Script, CALLS, NAMES};
 use crate::driver::Driver;
 use crate::generate::random::Random;
-use crate::generate::{actions, changes, registers, texts};
+use crate::generate::{actions, changes, json, registers, texts};
 use crate::pairs::{Answers, Pair, DEMANDED};
 use crate::{saved, shrink};
 use guvrendik_model::model::Model;
@@ -418,7 +418,7 @@ fn said_stack(name: &str) -> u64 {
     said.chars().take_while(|c| *c != ' ').filter(char::is_ascii_digit).collect::<String>().parse().unwrap_or(0)
 }
 
-/// An input for all ten calls at once.
+/// An input for all calls at once.
 fn put_input(random: &mut Random, shape: Shape, out: &mut Vec<u8>) {
     let register = registers::sound(random, shape, false);
     let action = actions::action(random, &register);
@@ -433,8 +433,10 @@ fn put_input(random: &mut Random, shape: Shape, out: &mut Vec<u8>) {
     if let Call::Revoke { revoker, claim, .. } = changes::revoke(random, &register, false) {
         [revoker, claim].put(out);
     }
-    text.len().put(out);
-    out.extend(text);
+    for text in [text, json::full_page(random)] {
+        text.len().put(out);
+        out.extend(text);
+    }
 }
 
 impl Tally {

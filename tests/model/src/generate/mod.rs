@@ -3,6 +3,7 @@
 pub mod actions;
 pub mod changes;
 pub mod defects;
+pub mod json;
 pub mod paths;
 pub mod random;
 pub mod registers;
@@ -40,6 +41,7 @@ impl Generator {
             calls: [REGISTER_TEXT, 37_731, 37_730, 0].map(|room| Call::WriteRegister { room, fill: 0xEE }).to_vec(),
         });
         scripts.push(Script::alone(Call::VerdictText { register, action, room: 100, fill: b'#' }));
+        scripts.extend(json::fixed());
         scripts
     }
 
@@ -54,6 +56,7 @@ impl Generator {
             self.defect(round),
             self.sequence(register),
             Script { register: None, calls: (0..18).map(|_| paths::pair(&mut self.random)).collect() },
+            self.json(),
         ]
     }
 
@@ -152,6 +155,14 @@ impl Generator {
             calls.push(call);
         }
         Script { register: Some(register), calls }
+    }
+
+    /// Readings and writings of JSON actions.
+    fn json(&mut self) -> Script {
+        let random = &mut self.random;
+        let mut calls: Vec<Call> = (0..12).map(|_| json::reading(random)).collect();
+        calls.extend((0..8).map(|_| json::writing(random)));
+        Script { register: None, calls }
     }
 
     /// Readings and printings about the register's text.

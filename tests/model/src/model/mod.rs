@@ -3,12 +3,15 @@
 mod gate;
 mod grant;
 mod ids;
+pub mod json;
 pub mod paths;
 mod plan;
 mod revoke;
 mod rules;
 pub mod text;
 
+#[cfg(test)]
+mod json_tests;
 #[cfg(test)]
 mod tests;
 
@@ -60,6 +63,10 @@ pub enum Refusal {
     Count = 20,
     /// The buffer is too short for the text.
     Buffer = 21,
+    /// The JSON action is of another form, has a number out of range or more than 32 uses.
+    JsonForm = 24,
+    /// A right above 2 or a governed entry, for which a JSON action has no place.
+    JsonLacks = 25,
 }
 
 /// A fault put into the model on purpose, to show that the comparison finds it.
@@ -77,16 +84,22 @@ pub enum Fault {
     OtherHops,
     /// An action after a flagged one is judged.
     CancelledJudged,
+    /// A JSON action's second actor is taken, in place of the first.
+    SecondActorTaken,
+    /// A buffer too short for a JSON action gets the beginning of it.
+    ShortBufferBegun,
 }
 
 impl Fault {
-    pub const ALL: [(&'static str, Fault); 6] = [
+    pub const ALL: [(&'static str, Fault); 8] = [
         ("expiry-equal-live", Fault::ExpiryEqualLive),
         ("direct-children", Fault::DirectChildren),
         ("only-named", Fault::OnlyNamed),
         ("leading-zero", Fault::LeadingZero),
         ("other-hops", Fault::OtherHops),
         ("cancelled-judged", Fault::CancelledJudged),
+        ("second-actor-taken", Fault::SecondActorTaken),
+        ("short-buffer-begun", Fault::ShortBufferBegun),
     ];
 }
 
