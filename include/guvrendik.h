@@ -209,6 +209,7 @@ typedef struct guvrendik_revoked {
  * Refusals, the first that applies: 1 register not sound; 3 revoker not in the register; 17 the claim does not stand; 18 the
  * revoker granted neither it nor a claim higher on its chain.
  * Accepted, every place past the count of claims holds a claim of all zeros: nothing of a withdrawn claim is left.
+ * Two revocations leave the same register in either order, but the one that comes second may be told 17: the first took its claim.
  * Stack: 138,000 bytes. */
 guvrendik_revoked guvrendik_revoke(guvrendik_register r, uint32_t revoker, uint32_t claim);
 

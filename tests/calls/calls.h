@@ -171,8 +171,12 @@ static inline Plan followed(Plan p, Action a) {
     return p;
 }
 
+/* Prints the ids of the claims that stand. */
+void claim_ids(Register r);
+
 void soundness_lines(void);
 void change_lines(void);
+void order_lines(void);
 void gate_lines(void);
 void plan_lines(void);
 

@@ -13,10 +13,14 @@ static void grant(const char *label, Register r, Claim c, uint64_t now) {
     printf("%s: %u claims=%zu\n", label, (unsigned)g.refusal, g.state.claims.count);
 }
 
+void claim_ids(Register r) {
+    for (size_t i = 0; i < r.claims.count; i++) printf(" %u", (unsigned)r.claims.list[i].id);
+}
+
 static void revoke(const char *label, Register r, uint32_t who, uint32_t id) {
     guvrendik_revoked y = guvrendik_revoke(r, who, id);
     printf("%s: %u removed=%zu left=", label, (unsigned)y.refusal, y.removed);
-    for (size_t i = 0; i < y.state.claims.count; i++) printf(" %u", (unsigned)y.state.claims.list[i].id);
+    claim_ids(y.state);
     printf("\n");
 }
 

@@ -4,6 +4,7 @@
 int main(void) {
     soundness_lines();
     change_lines();
+    order_lines();
     gate_lines();
     plan_lines();
     return 0;

@@ -10,6 +10,7 @@ pub mod registers;
 pub mod texts;
 
 use crate::case::{Call, Script};
+use crate::pairs::Pair;
 use defects::DEFECTS;
 use guvrendik_model::model::Model;
 use guvrendik_model::shapes::*;
@@ -57,6 +58,17 @@ impl Generator {
             Script { register: None, calls: (0..18).map(|_| paths::pair(&mut self.random)).collect() },
             self.json(),
         ]
+    }
+
+    /// The pairs of revocations of one round: on a sound register, and now and then on one with a defect.
+    pub fn pairs(&mut self, round: usize) -> Vec<Pair> {
+        let shape = self.shape(round);
+        let litter = self.random.chance(50);
+        let mut registers = vec![registers::sound(&mut self.random, shape, litter)];
+        if round % 8 == 0 {
+            registers.extend(self.defect(round).register);
+        }
+        registers.into_iter().map(|register| changes::revoke_pair(&mut self.random, register)).collect()
     }
 
     /// Large registers take the most time, and are the rarest.

@@ -76,6 +76,8 @@ pub enum Fault {
     ExpiryEqualLive,
     /// A revocation takes the claim and its direct children only.
     DirectChildren,
+    /// A revocation takes the claim alone.
+    OnlyNamed,
     /// A number with a leading zero is read.
     LeadingZero,
     /// The hop count is that of the last covering claim.
@@ -89,9 +91,10 @@ pub enum Fault {
 }
 
 impl Fault {
-    pub const ALL: [(&'static str, Fault); 7] = [
+    pub const ALL: [(&'static str, Fault); 8] = [
         ("expiry-equal-live", Fault::ExpiryEqualLive),
         ("direct-children", Fault::DirectChildren),
+        ("only-named", Fault::OnlyNamed),
         ("leading-zero", Fault::LeadingZero),
         ("other-hops", Fault::OtherHops),
         ("cancelled-judged", Fault::CancelledJudged),
