@@ -20,6 +20,7 @@ pub enum Request {
     Boundary,
     Threads,
     Stack,
+    LentStack,
 }
 
 /// Appends a request whose bytes the closure puts.
