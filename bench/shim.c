@@ -31,3 +31,12 @@ guvrendik_written bench_write_register(const guvrendik_register *r, uint8_t *buf
 }
 
 guvrendik_action_read bench_read_action(const uint8_t *text, size_t text_len) { return guvrendik_read_action(text, text_len); }
+
+guvrendik_json_read bench_read_json(const uint8_t *text, size_t text_len, uint64_t now) {
+    return guvrendik_read_json(text, text_len, now);
+}
+
+guvrendik_written bench_write_json(const guvrendik_action *a, const uint8_t *id, size_t id_len, uint32_t kind, uint8_t *buffer,
+                                   size_t buffer_len) {
+    return guvrendik_write_json(*a, id, id_len, kind, buffer, buffer_len);
+}

@@ -37,6 +37,8 @@ extern "C" {
 #define GUVRENDIK_VIOLATIONS 51
 #define GUVRENDIK_REGISTER_TEXT 37741 /* no register's text is longer */
 #define GUVRENDIK_VERDICT_TEXT 1103   /* no verdict's text is longer */
+#define GUVRENDIK_JSON_TEXT 807       /* no action that is written as JSON is longer */
+#define GUVRENDIK_JSON_ID 64          /* bytes of a JSON action's id */
 
 /* The largest numbers of the fields. */
 #define GUVRENDIK_ID_MAX UINT32_C(65535)
@@ -105,6 +107,8 @@ extern "C" {
 #define GUVRENDIK_FORM 19           /* text not of the form */
 #define GUVRENDIK_COUNT 20          /* a count line above its limit */
 #define GUVRENDIK_BUFFER 21         /* buffer too short for the text */
+#define GUVRENDIK_JSON_FORM 24      /* JSON action of another form, with a number out of range or with more than 32 uses */
+#define GUVRENDIK_JSON_LACKS 25     /* a right above 2 or a governed entry, for which a JSON action has no place */
 
 /* ---- The register ---- */
 
@@ -187,7 +191,7 @@ typedef struct guvrendik_granted {
  * 11 it is not live at now; 12 it lacks DELEGATE; 13 it lacks a right; 14 it has less weight; 15 more than 16 hops; 16 a circle.
  * Refused for no other cause: a claim of weight 0, or whose expiry has passed, is granted.
  * Accepted, everything but the new claim and the count of claims is as it came, also what stands past the counts.
- * Stack: 156,000 bytes. */
+ * Stack: 176,000 bytes. */
 guvrendik_granted guvrendik_grant(guvrendik_register r, guvrendik_claim c, uint64_t now);
 
 /* The answer of guvrendik_revoke. */
@@ -205,7 +209,8 @@ typedef struct guvrendik_revoked {
  * Refusals, the first that applies: 1 register not sound; 3 revoker not in the register; 17 the claim does not stand; 18 the
  * revoker granted neither it nor a claim higher on its chain.
  * Accepted, every place past the count of claims holds a claim of all zeros: nothing of a withdrawn claim is left.
- * Stack: 131,000 bytes. */
+ * Two revocations leave the same register in either order, but the one that comes second may be told 17: the first took its claim.
+ * Stack: 138,000 bytes. */
 guvrendik_revoked guvrendik_revoke(guvrendik_register r, uint32_t revoker, uint32_t claim);
 
 /* ---- The gate ---- */
@@ -375,6 +380,56 @@ guvrendik_action_read guvrendik_read_action(const uint8_t *text, size_t text_len
  * Stack: 143,000 bytes. */
 guvrendik_written guvrendik_verdict_text(const uint8_t *register_text, size_t register_len, const uint8_t *action_text,
                                          size_t action_len, uint8_t *buffer, size_t buffer_len);
+
+/* ---- JSON actions ----
+ * The portal builder's ActionWire form, version 2: one object with the keys, in the order of writing, id, actor, capability_kind,
+ * resources_read, resources_write, resources_execute, flags, trust_domain and delegation_depth.
+ *  id                 a string of 0 to 64 bytes, each 0x20 to 0x7E, no quote and no backslash
+ *  actor              a string that holds a decimal without leading zeros, 0 to 65,535
+ *  capability_kind    a string, one of the seventeen rights by its name: READ to POLICY_MODIFY. The gate does not use it.
+ *  resources_..       arrays of strings that hold such decimals, at most 32 in all: uses of READ, WRITE and EXECUTE
+ *  flags              an object with a boolean for each of the ten flags, in their order: increases_machine_sovereignty,
+ *                     resists_human_correction, bypasses_verifier, weakens_verifier, disables_corrigibility,
+ *                     machine_coalition_dominion, coerces, deceives, self_modification_weakens_verifier,
+ *                     machine_coalition_reduces_freedom
+ *  trust_domain       the string default, and no other
+ *  delegation_depth   the number 0, and no other
+ * The moment is no part of it. */
+
+/* The answer of guvrendik_read_json. */
+typedef struct guvrendik_json_read {
+    guvrendik_action action; /* accepted: the reads, then the writes, then the executes, each in its array's order; nothing
+                              * governed; zeros past the counts. Refused: all zeros, its moment too */
+    uint32_t accepted;       /* 1 or 0 */
+    uint32_t refusal;        /* 0 where accepted, else the number */
+    uint32_t kind;           /* the right that capability_kind names; 0 where refused */
+    size_t id_len;           /* bytes of the id; 0 where refused */
+    uint8_t id[GUVRENDIK_JSON_ID]; /* zeros past its length */
+} guvrendik_json_read;
+
+/* Reads a JSON action.
+ *  text/text_len  as for guvrendik_read_register. Keys in any order, also those of the flags, each once. trust_domain and
+ *                 delegation_depth may be missing, each by itself, all other keys and all ten flags must be there. Space, tab, LF
+ *                 and CR may stand around any token and at both ends; no escapes.
+ *  now            the action's moment in seconds, below 2^32
+ * Refusals, the first that applies: 2 now out of range, whatever the text; 24 for everything else: another form, a number out
+ * of range, more than 32 uses.
+ * Stack: 2,000 bytes. */
+guvrendik_json_read guvrendik_read_json(const uint8_t *text, size_t text_len, uint64_t now);
+
+/* Writes an action as JSON: all nine keys in their order, no blanks. Reading that text at the action's moment gives the same id
+ * and kind, and the action with its uses ordered by right, otherwise in their old order.
+ *  a                  the action, every field in the range that guvrendik_action gives, its moment too, though it is not written
+ *  id/id_len          the id, 0 to 64 bytes as above. The caller owns it; read during the call only, never written. It does not
+ *                     overlap the buffer. May be NULL where id_len is 0.
+ *  kind               the right that capability_kind is to name, 0 to 16
+ *  buffer/buffer_len  where to, as for guvrendik_write_register. GUVRENDIK_JSON_TEXT bytes are enough for every action.
+ * Refusals, the first that applies: 2 a field or count of the action, the id or the kind out of range; 25 a right above 2 or a
+ * governed entry; 21 buffer too short. Then the buffer keeps every byte.
+ * Accepted, the buffer keeps its bytes past the text. No zero byte is added.
+ * Stack: 3,000 bytes. */
+guvrendik_written guvrendik_write_json(guvrendik_action a, const uint8_t *id, size_t id_len, uint32_t kind, uint8_t *buffer,
+                                       size_t buffer_len);
 
 #ifdef __cplusplus
 }

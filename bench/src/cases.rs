@@ -1,8 +1,10 @@
 //! The calls that are timed. The answers of the two sides are compared before anything is: a difference ends the run.
 
+use crate::figures::Goal;
 use crate::inputs::*;
 use crate::library;
 use crate::measure::Timed;
+use crate::random::Random;
 use guvrendik_model::model::{paths as model_paths, Model, Sound};
 use guvrendik_model::types::*;
 use std::fmt::Debug;
@@ -19,6 +21,7 @@ pub struct Case {
     pub shape: Option<Shape>,
     /// The bytes of text or of paths that one call goes through.
     pub bytes: Option<usize>,
+    pub goal: Goal,
     pub library: Timed<'static>,
     pub model: Timed<'static>,
     /// Of the gate: the model's gate on a register that is known to be sound, and the library's soundness alone.
@@ -94,6 +97,7 @@ pub fn sound(shape: Shape, world: &World, name: &str) -> Case {
         name,
         shape: Some(shape),
         bytes: None,
+        goal: Goal::on(shape),
         library: Box::new(|_| {
             black_box(library::sound(black_box(register)));
         }),
@@ -118,6 +122,7 @@ pub fn grant(shape: Shape, world: &World) -> Case {
         name,
         shape: Some(shape),
         bytes: None,
+        goal: Goal::on(shape),
         library: Box::new(move |at| {
             black_box(library::grant(&mut ours, black_box(register), &grants[at % VARIED], NOW));
         }),
@@ -143,6 +148,7 @@ pub fn revoke(shape: Shape, world: &World) -> Case {
         name,
         shape: Some(shape),
         bytes: None,
+        goal: Goal::on(shape),
         library: Box::new(move |at| {
             let (revoker, claim) = revocations[at % VARIED];
             black_box(library::revoke(&mut ours, black_box(register), revoker, claim));
@@ -168,6 +174,7 @@ pub fn gate(shape: Shape, world: &World, what: &str, actions: Vec<Action>) -> Ca
         name,
         shape: Some(shape),
         bytes: None,
+        goal: if shape == FULL { Goal::SoundnessAndGate } else { Goal::on(shape) },
         library: Box::new(move |at| {
             black_box(library::gate(&mut ours, black_box(register), &actions[at % VARIED]));
         }),
@@ -199,6 +206,7 @@ pub fn plan(shape: Shape, world: &World, used: usize) -> Case {
         name,
         shape: Some(shape),
         bytes: None,
+        goal: Goal::on(shape),
         library: Box::new(move |at| {
             black_box(library::judge_plan(&mut ours, black_box(register), &plans[at % VARIED]));
         }),
@@ -220,6 +228,7 @@ pub fn read(shape: Shape, world: &World) -> Case {
         name,
         shape: Some(shape),
         bytes: Some(text.len()),
+        goal: Goal::on(shape),
         library: Box::new(move |_| {
             black_box(library::read_register(&mut ours, black_box(text)));
         }),
@@ -242,6 +251,7 @@ pub fn write(shape: Shape, world: &World) -> Case {
         name,
         shape: Some(shape),
         bytes: Some(text.len()),
+        goal: Goal::on(shape),
         library: Box::new(move |_| {
             black_box(library::write_register(black_box(register), black_box(&mut ours)));
         }),
@@ -262,11 +272,61 @@ pub fn read_action(used: usize) -> Case {
         name,
         shape: None,
         bytes: Some(text.len()),
+        goal: Goal::TwiceTheModel,
         library: Box::new(move |_| {
             black_box(library::read_action(&mut ours, black_box(text)));
         }),
         model: Box::new(|_| {
             black_box(model_read_action(black_box(text)));
+        }),
+        parts: None,
+    }
+}
+
+/// Reads a text of each action. All are of one length.
+pub fn read_json(what: &str, texts: Vec<Vec<u8>>) -> Case {
+    let texts = leak(texts);
+    let name = format!("read JSON action, {what}");
+    let mut ours = Box::new(place());
+    for (at, text) in texts.iter().enumerate() {
+        same(&name, at, library::read_json(&mut ours, text, NOW), &MODEL.read_json(text, NOW));
+    }
+    Case {
+        name,
+        shape: None,
+        bytes: Some(texts[0].len()),
+        goal: Goal::HalfAgainTheModel,
+        library: Box::new(move |at| {
+            black_box(library::read_json(&mut ours, black_box(&texts[at % VARIED]), NOW));
+        }),
+        model: Box::new(|at| {
+            black_box(MODEL.read_json(black_box(&texts[at % VARIED]), NOW));
+        }),
+        parts: None,
+    }
+}
+
+pub fn write_json(what: &str, actions: Vec<JsonAction>) -> Case {
+    let actions = leak(actions);
+    let name = format!("write JSON action, {what}");
+    let (mut ours, mut theirs) = (vec![0; JSON_TEXT], vec![0; JSON_TEXT]);
+    for (at, JsonAction { action, id, kind }) in actions.iter().enumerate() {
+        let written = MODEL.write_json(action, id, *kind, &mut theirs);
+        same(&name, at, &library::write_json(action, id, *kind, &mut ours), &written.into());
+        same(&name, at, &ours, &theirs);
+    }
+    Case {
+        name,
+        shape: None,
+        bytes: Some(actions[0].text().len()),
+        goal: Goal::HalfAgainTheModel,
+        library: Box::new(move |at| {
+            let JsonAction { action, id, kind } = black_box(&actions[at % VARIED]);
+            black_box(library::write_json(action, id, *kind, black_box(&mut ours)));
+        }),
+        model: Box::new(move |at| {
+            let JsonAction { action, id, kind } = black_box(&actions[at % VARIED]);
+            black_box(MODEL.write_json(action, id, *kind, black_box(&mut theirs)).ok());
         }),
         parts: None,
     }
@@ -281,6 +341,7 @@ pub fn contains(what: &str, outer: Vec<u8>, inner: Vec<u8>) -> Case {
         name,
         shape: None,
         bytes: Some(outer.len() + inner.len()),
+        goal: Goal::TwiceTheModel,
         library: Box::new(|_| {
             black_box(library::contains(black_box(outer), black_box(inner)));
         }),
@@ -341,6 +402,11 @@ pub fn all() -> Vec<Case> {
         cases.push(write(shape, &usual()));
     }
     cases.push(read_action(USES));
+    let random = &mut Random::new(23);
+    cases.push(read_json("32 uses", json_actions(USES).iter().map(JsonAction::text).collect()));
+    let shuffled = json_actions(USES).iter().map(|action| action.shuffled_text(random)).collect();
+    cases.push(read_json("32 uses, shuffled with blanks", shuffled));
+    cases.push(write_json("32 uses", json_actions(USES)));
     cases.extend(paths().into_iter().map(|(what, outer, inner)| contains(what, outer, inner)));
     cases
 }

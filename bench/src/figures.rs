@@ -13,6 +13,7 @@ pub struct Row {
     pub name: String,
     pub shape: Option<Shape>,
     pub bytes: Option<usize>,
+    pub goal: Goal,
     pub library: f64,
     pub model: f64,
     /// Of the gate: the library's soundness and the model's gate without it.
@@ -22,11 +23,24 @@ pub struct Row {
 }
 
 /// What a call may take.
+#[derive(Clone, Copy, PartialEq, Eq)]
 pub enum Goal {
     TwiceTheModel,
     TwiceTheModelAndFourCopies,
     /// 1.5 times our soundness and the model's gate without soundness.
     SoundnessAndGate,
+    HalfAgainTheModel,
+}
+
+impl Goal {
+    /// Of a call on a register of this shape.
+    pub fn on(shape: Shape) -> Goal {
+        if shape == FULL {
+            Goal::TwiceTheModel
+        } else {
+            Goal::TwiceTheModelAndFourCopies
+        }
+    }
 }
 
 impl Row {
@@ -35,28 +49,21 @@ impl Row {
         calls.extend(case.parts.into_iter().flatten());
         let times = measure::least(&mut calls, TURNS);
         *copy = calls.swap_remove(2);
-        let (name, shape, bytes) = (case.name, case.shape, case.bytes);
+        let (name, shape, bytes, goal) = (case.name, case.shape, case.bytes, case.goal);
         let parts = times.get(3).map(|&gate| [times[4], gate]);
-        Row { name, shape, bytes, library: times[0], model: times[1], parts, copy: times[2] }
+        Row { name, shape, bytes, goal, library: times[0], model: times[1], parts, copy: times[2] }
     }
 
     pub fn ratio(&self) -> f64 {
         self.library / self.model
     }
 
-    pub fn goal(&self) -> Goal {
-        match (self.shape, self.parts) {
-            (Some(FULL), Some(_)) => Goal::SoundnessAndGate,
-            (None | Some(FULL), _) => Goal::TwiceTheModel,
-            _ => Goal::TwiceTheModelAndFourCopies,
-        }
-    }
-
     /// The most that the call may take.
     pub fn allowed(&self) -> f64 {
-        match (self.goal(), self.parts) {
+        match (self.goal, self.parts) {
             (Goal::SoundnessAndGate, Some([soundness, gate])) => 1.5 * (soundness + gate),
             (Goal::TwiceTheModelAndFourCopies, _) => 2.0 * self.model + 4.0 * self.copy,
+            (Goal::HalfAgainTheModel, _) => 1.5 * self.model,
             _ => 2.0 * self.model,
         }
     }

@@ -1,6 +1,7 @@
 //! What the calls are timed on, the same in every run.
 
 use crate::random::Random;
+use guvrendik_model::model::json::{FLAG_NAMES, KEYS, KINDS};
 use guvrendik_model::model::{Model, Sound};
 pub use guvrendik_model::shapes::*;
 use guvrendik_model::types::*;
@@ -262,6 +263,63 @@ pub fn action_text(action: &Action) -> Vec<u8> {
         text += &format!("govern={governed}\n");
     }
     text.into_bytes()
+}
+
+/// A JSON action with what stands beside it.
+pub struct JsonAction {
+    pub action: Action,
+    pub id: Vec<u8>,
+    pub kind: u32,
+}
+
+/// JSON actions with this many uses of READ, WRITE and EXECUTE in turn, all of one length when written.
+pub fn json_actions(used: usize) -> Vec<JsonAction> {
+    let random = &mut Random::new(19);
+    let json_action = |number: usize| {
+        let mut action = Action { actor: 60_000 + number as u32, now: NOW, used, ..Action::ZERO };
+        for (at, usage) in action.uses[..used].iter_mut().enumerate() {
+            *usage = Usage { resource: random.between(10_000, ID_MAX as usize) as u32, right: at as u32 % 3 };
+        }
+        JsonAction { action, id: format!("3f2b8c1e-77a0-4d6b-9c55-0e1f2a3b{number:04x}").into_bytes(), kind: 1 }
+    };
+    (0..VARIED).map(json_action).collect()
+}
+
+impl JsonAction {
+    /// In 002's order, without blanks.
+    pub fn text(&self) -> Vec<u8> {
+        let mut text = vec![0; JSON_TEXT];
+        let length = Model::default().write_json(&self.action, &self.id, self.kind, &mut text);
+        text.truncate(length.expect("it is in range and has a place for all"));
+        text
+    }
+
+    /// In another order, the flags too, a line to each member and a space where a reader expects one.
+    pub fn shuffled_text(&self, random: &mut Random) -> Vec<u8> {
+        let Action { actor, uses, used, .. } = &self.action;
+        let array = |right| {
+            let its = uses[..*used].iter().filter(|usage| usage.right == right);
+            let numbers: Vec<String> = its.map(|usage| format!("\"{}\"", usage.resource)).collect();
+            format!("[{}]", numbers.join(", "))
+        };
+        let mut flags = FLAG_NAMES.map(|name| format!("    \"{name}\": false"));
+        random.shuffle(&mut flags);
+        let values = [
+            format!("\"{}\"", String::from_utf8_lossy(&self.id)),
+            format!("\"{actor}\""),
+            format!("\"{}\"", KINDS[self.kind as usize]),
+            array(0),
+            array(1),
+            array(2),
+            format!("{{\n{}\n  }}", flags.join(",\n")),
+            "\"default\"".to_owned(),
+            "0".to_owned(),
+        ];
+        let mut members: Vec<String> =
+            KEYS.iter().zip(values).map(|(key, value)| format!("  \"{key}\": {value}")).collect();
+        random.shuffle(&mut members);
+        format!("{{\n{}\n}}\n", members.join(",\n")).into_bytes()
+    }
 }
 
 /// Pairs of paths for containment, by name: (name, outer, inner).

@@ -14,6 +14,15 @@ extern "C" {
     fn bench_read_register(answer: *mut RegisterRead, text: *const u8, text_len: usize);
     fn bench_write_register(register: *const Register, buffer: *mut u8, buffer_len: usize) -> Written;
     fn bench_read_action(answer: *mut ActionRead, text: *const u8, text_len: usize);
+    fn bench_read_json(answer: *mut JsonRead, text: *const u8, text_len: usize, now: u64);
+    fn bench_write_json(
+        action: *const Action,
+        id: *const u8,
+        id_len: usize,
+        kind: u32,
+        buffer: *mut u8,
+        buffer_len: usize,
+    ) -> Written;
 }
 
 pub fn sound(register: &Register) -> Soundness {
@@ -69,4 +78,15 @@ pub fn read_action<'a>(answer: &'a mut MaybeUninit<ActionRead>, text: &[u8]) -> 
         bench_read_action(answer.as_mut_ptr(), text.as_ptr(), text.len());
         answer.assume_init_ref()
     }
+}
+
+pub fn read_json<'a>(answer: &'a mut MaybeUninit<JsonRead>, text: &[u8], now: u64) -> &'a JsonRead {
+    unsafe {
+        bench_read_json(answer.as_mut_ptr(), text.as_ptr(), text.len(), now);
+        answer.assume_init_ref()
+    }
+}
+
+pub fn write_json(action: &Action, id: &[u8], kind: u32, buffer: &mut [u8]) -> Written {
+    unsafe { bench_write_json(action, id.as_ptr(), id.len(), kind, buffer.as_mut_ptr(), buffer.len()) }
 }

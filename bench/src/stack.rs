@@ -18,7 +18,7 @@ pub fn of(driver: &str, arguments: &[&str]) -> io::Result<Vec<Stack>> {
     let world = world(FULL, Holding { human: 64, machine: 64 }).cut(CLAIMS - 1);
     let action = world.actions(world.machine, USES, Covered::All)[0];
     let (revoker, revoked) = world.revocations()[0];
-    let text = action_text(&action);
+    let texts = [action_text(&action), json_actions(USES)[0].text()];
     let mut request = Vec::new();
     put_request(&mut request, Request::Stack, |out| {
         world.register.put(out);
@@ -27,8 +27,10 @@ pub fn of(driver: &str, arguments: &[&str]) -> io::Result<Vec<Stack>> {
         world.grants()[0].put(out);
         NOW.put(out);
         [revoker, revoked].put(out);
-        text.len().put(out);
-        out.extend(text);
+        for text in texts {
+            text.len().put(out);
+            out.extend(text);
+        }
     });
 
     let mut driver = Command::new(driver).args(arguments).stdin(Stdio::piped()).stdout(Stdio::piped()).spawn()?;

@@ -26,7 +26,7 @@
 #undef SIZE
 #undef FIELD
 
-/* The same numbers as in src/case.rs. */
+/* The same numbers as in src/requests.rs. */
 enum {
     LOAD = 1,
     SOUND,
@@ -39,6 +39,8 @@ enum {
     WRITE_REGISTER,
     READ_ACTION,
     VERDICT_TEXT,
+    READ_JSON,
+    WRITE_JSON,
     BOUNDARY,
     THREADS,
     STACK,
@@ -234,6 +236,11 @@ static void settle_plan(guvrendik_plan_verdict *v) {
     }
 }
 
+static void settle_json(guvrendik_json_read *read) {
+    size_t gap = offsetof(guvrendik_json_read, kind) + sizeof(uint32_t);
+    memset((uint8_t *)read + gap, 0, offsetof(guvrendik_json_read, id_len) - gap);
+}
+
 static void answer_marked(uint32_t marks, const void *bytes, size_t size) {
     answer(&marks, sizeof marks);
     answer(bytes, size);
@@ -336,6 +343,22 @@ static void do_read_action(payload *p) {
     answer_marked(marks | errno_mark(), got, sizeof *got);
 }
 
+static void do_read_json(payload *p) {
+    guvrendik_json_read got[2];
+    uint64_t now = take64(p);
+    size_t size = p->left;
+    const uint8_t *text = take_bytes(p, size);
+    uint32_t marks = 0;
+    for (placement where = AT_END; where <= AT_START; where++) {
+        const uint8_t *lent = lend(arena_one, text, size, where);
+        got[where] = guvrendik_read_json(lent, size, now);
+        settle_json(&got[where]);
+        marks |= input_mark(lent, text, size);
+    }
+    marks |= memcmp(&got[0], &got[1], sizeof *got) == 0 ? 0 : PLACES_DIFFER;
+    answer_marked(marks | errno_mark(), got, sizeof *got);
+}
+
 /* Keeps what a call wrote at the first placement, and marks where it wrote something else at the second. */
 static uint32_t written_mark(uint8_t *first, const uint8_t *buffer, size_t room, placement where) {
     if (where == AT_END) {
@@ -380,6 +403,26 @@ static void do_verdict_text(payload *p) {
         got[where] = guvrendik_verdict_text(one, register_len, two, action_len, buffer, room);
         marks |= input_mark(one, register_text, register_len) | input_mark(two, action_text, action_len);
         marks |= buffer_mark(arena_three, buffer, room, where);
+        marks |= written_mark(first, buffer, room, where);
+    }
+    answer_written(marks, got, first, room);
+}
+
+static void do_write_json(payload *p) {
+    static uint8_t first[ROOM];
+    guvrendik_action action;
+    take(p, &action, sizeof action);
+    uint32_t kind = take32(p);
+    uint8_t fill = (uint8_t)take32(p);
+    size_t id_len = take64(p), room = take64(p);
+    const uint8_t *id = take_bytes(p, id_len);
+    guvrendik_written got[2];
+    uint32_t marks = 0;
+    for (placement where = AT_END; where <= AT_START; where++) {
+        const uint8_t *lent = lend(arena_one, id, id_len, where);
+        uint8_t *buffer = lend_buffer(arena_two, room, fill, where);
+        got[where] = guvrendik_write_json(action, lent, id_len, kind, buffer, room);
+        marks |= input_mark(lent, id, id_len) | buffer_mark(arena_two, buffer, room, where);
         marks |= written_mark(first, buffer, room, where);
     }
     answer_written(marks, got, first, room);
@@ -679,6 +722,43 @@ static void pass_plans(void) {
     }
 }
 
+/* An action that JSON has a place for, with a number of its own in every field, uses ordered by right. */
+static guvrendik_action json_action(void) {
+    guvrendik_action a = {.actor = 60001, .flags = 0x2AA, .now = GUVRENDIK_MOMENT_MAX, .used = GUVRENDIK_USES};
+    for (size_t i = 0; i < GUVRENDIK_USES; i++) {
+        a.uses[i] = (guvrendik_usage){61000 + (uint32_t)i, (uint32_t)(i / 11)};
+    }
+    return a;
+}
+
+/* Written and read back each field is as it went, and each field of an action that is out of range is noticed. */
+static void pass_json(void) {
+    static uint8_t text[GUVRENDIK_JSON_TEXT];
+    uint8_t id[GUVRENDIK_JSON_ID + 1];
+    for (size_t i = 0; i < sizeof id; i++) {
+        id[i] = (uint8_t)('#' + i);
+    }
+    id['\\' - '#'] = '~';
+    guvrendik_action a = json_action();
+    guvrendik_written wrote = guvrendik_write_json(a, id, GUVRENDIK_JSON_ID, GUVRENDIK_POLICY_MODIFY, text, sizeof text);
+    expect(wrote.accepted == 1 && wrote.refusal == 0 && wrote.length > 0, "a full action is written as JSON");
+    guvrendik_json_read read = guvrendik_read_json(text, wrote.length, a.now);
+    expect(read.accepted == 1 && read.refusal == 0, "what was written as JSON is read");
+    expect(memcmp(&read.action, &a, sizeof a) == 0, "a JSON action is read as it was written");
+    expect(read.kind == GUVRENDIK_POLICY_MODIFY, "so is its kind");
+    expect(read.id_len == GUVRENDIK_JSON_ID && memcmp(read.id, id, GUVRENDIK_JSON_ID) == 0, "so is its id");
+    expect(guvrendik_write_json(a, id, sizeof id, 0, text, sizeof text).refusal == GUVRENDIK_RANGE, "an id too long is noticed");
+    expect(guvrendik_write_json(a, id, 0, GUVRENDIK_RIGHTS, text, sizeof text).refusal == GUVRENDIK_RANGE, "a kind too large is noticed");
+    a.governed = GUVRENDIK_GOVERNS;
+    expect(guvrendik_write_json(a, id, 0, 0, text, sizeof text).refusal == GUVRENDIK_JSON_LACKS, "a governed entry has no place in JSON");
+    for (size_t field = 0; field < ACTION_FIELDS; field++) {
+        guvrendik_action spoiled = a;
+        spoil(&spoiled, field);
+        expect(guvrendik_write_json(spoiled, id, 0, 0, text, sizeof text).refusal == GUVRENDIK_RANGE,
+               "each field of an action is tested before it is written as JSON");
+    }
+}
+
 static void pass_nulls(void) {
     guvrendik_register_read r = guvrendik_read_register(NULL, 0);
     expect(r.accepted == 0 && r.refusal == GUVRENDIK_FORM && r.line == 1, "no register text at all");
@@ -688,6 +768,12 @@ static void pass_nulls(void) {
     expect(w.accepted == 0 && w.refusal == GUVRENDIK_BUFFER && w.length == 0, "no buffer for a register");
     guvrendik_written v = guvrendik_verdict_text(NULL, 0, NULL, 0, NULL, 0);
     expect(v.accepted == 0 && v.refusal == GUVRENDIK_BUFFER && v.length == 0, "no buffer for a verdict");
+    guvrendik_json_read j = guvrendik_read_json(NULL, 0, GUVRENDIK_MOMENT_MAX);
+    expect(j.accepted == 0 && j.refusal == GUVRENDIK_JSON_FORM, "no JSON text at all");
+    j = guvrendik_read_json(NULL, 0, GUVRENDIK_MOMENT_MAX + 1);
+    expect(j.accepted == 0 && j.refusal == GUVRENDIK_RANGE, "no JSON text, and a moment out of range");
+    guvrendik_written n = guvrendik_write_json(json_action(), NULL, 0, 0, NULL, 0);
+    expect(n.accepted == 0 && n.refusal == GUVRENDIK_BUFFER && n.length == 0, "no id, and no buffer for a JSON action");
     expect(guvrendik_contains(NULL, 0, NULL, 0).contained == 1, "the empty path in itself");
 }
 
@@ -714,6 +800,7 @@ static void do_boundary(payload *p) {
     pass_texts(register_text, action_text);
     pass_actions();
     pass_plans();
+    pass_json();
     pass_nulls();
     free(register_text);
     free(action_text);
@@ -723,9 +810,9 @@ static void do_boundary(payload *p) {
 
 /* ---- Threads ---- */
 
-enum { THREAD_COUNT = 8, ACTION_TEXT = 4096 };
+enum { THREAD_COUNT = 8, ACTION_TEXT = 4096, JSON_NOW = 1999 };
 
-/* What all ten calls are asked about. */
+/* What all calls are asked about. */
 typedef struct {
     guvrendik_register r;
     guvrendik_action a;
@@ -735,6 +822,8 @@ typedef struct {
     uint32_t revoker, claim;
     char action_text[ACTION_TEXT];
     size_t action_len;
+    uint8_t json_text[ACTION_TEXT];
+    size_t json_len;
 } input;
 
 typedef struct {
@@ -748,9 +837,23 @@ typedef struct {
     guvrendik_register_read read;
     guvrendik_action_read action;
     guvrendik_written printed;
+    guvrendik_json_read json;
+    guvrendik_written json_written;
     uint8_t text[GUVRENDIK_REGISTER_TEXT];
     uint8_t lines[GUVRENDIK_VERDICT_TEXT];
+    uint8_t page[GUVRENDIK_JSON_TEXT];
 } answers;
+
+/* A text with its length before it. */
+static size_t take_text(payload *p, void *text) {
+    size_t size = take64(p);
+    if (size > ACTION_TEXT) {
+        fprintf(stderr, "driver: action text too long\n");
+        exit(1);
+    }
+    take(p, text, size);
+    return size;
+}
 
 static void take_input(payload *p, input *in) {
     take(p, &in->r, sizeof in->r);
@@ -760,15 +863,11 @@ static void take_input(payload *p, input *in) {
     in->now = take64(p);
     in->revoker = take32(p);
     in->claim = take32(p);
-    in->action_len = take64(p);
-    if (in->action_len > ACTION_TEXT) {
-        fprintf(stderr, "driver: action text too long\n");
-        exit(1);
-    }
-    take(p, in->action_text, in->action_len);
+    in->action_len = take_text(p, in->action_text);
+    in->json_len = take_text(p, in->json_text);
 }
 
-enum { CALLS = 10 };
+enum { CALLS = 12 };
 
 /* Where each call leaves its answer: a struct, and a text where it writes one. */
 static const struct {
@@ -780,10 +879,11 @@ static const struct {
     {PART(verdict), 0, 0},      {PART(judged), 0, 0},
     {PART(written), PART(text)}, {PART(read), 0, 0},
     {PART(action), 0, 0},       {PART(printed), PART(lines)},
+    {PART(json), 0, 0},         {PART(json_written), PART(page)},
 #undef PART
 };
 
-/* Makes one call. The register's text is the one that `known` has. */
+/* Makes one call. The register's text, and what is written as JSON, is what `known` has. */
 static void make_call(size_t call, const input *in, const answers *known, answers *out) {
     const guvrendik_resource *one = &in->r.resources.list[0], *two = &in->r.resources.list[1];
     const uint8_t *action_text = (const uint8_t *)in->action_text;
@@ -813,6 +913,14 @@ static void make_call(size_t call, const input *in, const answers *known, answer
     case 9:
         out->printed = guvrendik_verdict_text(known->text, known->written.length, action_text, in->action_len, out->lines,
                                               sizeof out->lines);
+        break;
+    case 10:
+        out->json = guvrendik_read_json(in->json_text, in->json_len, JSON_NOW);
+        settle_json(&out->json);
+        break;
+    case 11:
+        out->json_written = guvrendik_write_json(known->json.action, known->json.id, known->json.id_len, known->json.kind,
+                                                 out->page, sizeof out->page);
         break;
     }
 }
@@ -927,6 +1035,15 @@ static void stack_verdict_text(void) {
                                                    stack_answers.lines, sizeof stack_answers.lines);
 }
 
+static void stack_read_json(void) {
+    stack_answers.json = guvrendik_read_json(stack_input.json_text, stack_input.json_len, JSON_NOW);
+}
+static void stack_write_json(void) {
+    const guvrendik_json_read *read = &stack_answers.json;
+    stack_answers.json_written = guvrendik_write_json(read->action, read->id, read->id_len, read->kind, stack_answers.page,
+                                                      sizeof stack_answers.page);
+}
+
 /* How far below the top of a fresh stack a function wrote. It runs in a context of its own and not in a thread, whose start and
  * end take more stack than some calls and would hide it. */
 static uint64_t stack_of(void (*body)(void)) {
@@ -951,11 +1068,13 @@ static uint64_t stack_of(void (*body)(void)) {
     return STACK_SIZE - untouched;
 }
 
-/* The stack of each call, in the order of src/compare.rs. The register is written before it is read. */
+/* The stack of each call, in the order of src/requests.rs. The register is written before it is read, a JSON action read before it
+ * is written. */
 static void do_stack(payload *p) {
     static void (*const bodies[CALLS])(void) = {
         stack_sound,    stack_grant,          stack_revoke,        stack_gate,        stack_judge_plan,
         stack_contains, stack_write_register, stack_read_register, stack_read_action, stack_verdict_text,
+        stack_read_json, stack_write_json,
     };
     take_input(p, &stack_input);
     uint64_t idle = stack_of(no_call), used[CALLS];
@@ -1036,6 +1155,8 @@ int main(void) {
         case WRITE_REGISTER: do_write_register(&p); break;
         case READ_ACTION: do_read_action(&p); break;
         case VERDICT_TEXT: do_verdict_text(&p); break;
+        case READ_JSON: do_read_json(&p); break;
+        case WRITE_JSON: do_write_json(&p); break;
         case BOUNDARY: do_boundary(&p); break;
         case THREADS: do_threads(&p); break;
         case STACK: do_stack(&p); break;

@@ -5,7 +5,7 @@ use Prim.Native.Nat.{ℕ}
 use Rattle.changes.specs.declared.Refusal.{Refusal}
 use Rattle.changes.specs.declared.Refusal.the-variants.{Unsound, OutOfRange, Unknown, IdStands, Full, NotKeeper, Ownerless, MachineBarred, ParentAbsent}
 use Rattle.changes.specs.declared.Refusal.the-variants.{ParentNotHeld, ParentDead, NoDelegate, RightLacking, WeightAbove, TooManyHops, Circle, ClaimAbsent, NoGrantor}
-use Rattle.changes.specs.declared.Refusal.the-variants.{BadForm, CountAbove, BufferShort}
+use Rattle.changes.specs.declared.Refusal.the-variants.{BadForm, CountAbove, BufferShort, BadJson, BeyondJson}
 use Rattle.changes.specs.declared.Outcome.{Outcome}
 use Rattle.changes.specs.declared.Outcome.the-variants.{Accepted, Refused}
 
@@ -31,6 +31,8 @@ numberOf NoGrantor = 18
 numberOf BadForm = 19
 numberOf CountAbove = 20
 numberOf BufferShort = 21
+numberOf BadJson = 24
+numberOf BeyondJson = 25
 
 -- a test of a call: whether it is passed, and the refusal where it is not
 pub record Test : Type 0 where

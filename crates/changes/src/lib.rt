@@ -48,6 +48,10 @@ pub enum Refusal {
     CountAbove,
     // 21: the buffer is too short for the text.
     BufferShort,
+    // 24: the text is not of the builder's form, or a number in it is out of range, or it has more than 32 uses.
+    BadJson,
+    // 25: the builder's form has no place for a right above 2 or a governed entry.
+    BeyondJson,
 }
 
 pub enum Outcome {
@@ -94,5 +98,7 @@ pub fn number(why: Refusal) -> u32
         Refusal::BadForm => 19,
         Refusal::CountAbove => 20,
         Refusal::BufferShort => 21,
+        Refusal::BadJson => 24,
+        Refusal::BeyondJson => 25,
     }
 }

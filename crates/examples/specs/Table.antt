@@ -10,7 +10,7 @@ use Rattle.lists.specs.Lists.{every}
 use Rattle.paths.specs.Containment.{same, components, climbing, trimmed, starting, contained}
 use Rattle.register.specs.Chain.{live}
 use Rattle.register.specs.declared.Claim.{Claim}
-use Rattle.examples.specs.Paths.{bytes}
+use Rattle.lists.specs.Bytes.{bytes}
 
 -- one of 01's examples, with the answer that 01 gives
 pub data Example : Type 0 where

@@ -18,10 +18,12 @@ use Rattle.register.specs.declared.Register.{Register}
 use Rattle.rules.specs.Sound.{sound, fresh}
 use Rattle.changes.specs.Changes.{worldIn, standing, sourceLive, appended, granted, revoked}
 use Rattle.history.specs.History.{Call, grant, revoke, step, took, run, Shaped, History}
+use Rattle.history.specs.Order.{SameOrAbsent, AcceptedOrBarred, turnsAbsent, takes}
 use Rattle.history.specs.Calls as calls
 use Rattle.history.specs.Holds as holds
 use Rattle.history.specs.Laws as laws
 use Rattle.history.specs.Replay as replay
+use Rattle.history.proofs.Ordering as ordering
 
 -- 1. From any sound register, whatever the calls: the end is what is left once the revoked is struck with all drawn from it, and the grants that are left, made again, end there too.
 pub history : (r : Register) → Shaped r → sound r ≡ true → (ks : List Call) → History r ks
@@ -74,3 +76,25 @@ refused-register = calls.refused-register
 -- 5b. A refused revocation tells that none went.
 pub refused-removed : (r : Register) (who x : ℕ) → took r (revoke who x) ≡ false → revoked r who x .removed ≡ 0
 refused-removed = calls.refused-removed
+
+-- 6a. Two revocations, of any two claims by any callers, leave the same register in either order, past the counts too: whatever the register and the numbers.
+pub revoke-order : (r : Register) (v x w y : ℕ) → revoked (revoked r v x .register) w y .register ≡ revoked (revoked r w y .register) v x .register
+revoke-order = ordering.revoke-order
+
+-- 6b. The call that comes second is told what it would be told alone, or 17.
+pub revoke-second : (r : Register) (v x w y : ℕ) → SameOrAbsent (revoked r w y .outcome) (revoked (revoked r v x .register) w y .outcome)
+revoke-second = ordering.revoke-second
+
+-- 6c. That changes to 17 exactly where the first is accepted, the second's caller is known and its claim stands with the first's on its chain, itself included.
+pub revoke-told : (r : Register) (v x w y : ℕ)
+    → turnsAbsent (revoked r w y .outcome) (revoked (revoked r v x .register) w y .outcome) ≡ takes r v x w y
+revoke-told = ordering.revoke-told
+
+-- 6d. The numbers removed come to the same sum in either order.
+pub revoke-sum : (r : Register) (v x w y : ℕ)
+    → revoked r v x .removed + revoked (revoked r v x .register) w y .removed ≡ revoked r w y .removed + revoked (revoked r w y .register) v x .removed
+revoke-sum = ordering.revoke-sum
+
+-- 6e. A call that changes to 17 would be accepted alone, or told 18.
+pub revoke-lost : (r : Register) (v x w y : ℕ) → takes r v x w y ≡ true → AcceptedOrBarred (revoked r w y .outcome)
+revoke-lost = ordering.revoke-lost

@@ -70,6 +70,9 @@ length-padded cs h = length-append cs (replicate (claimLimit - length cs) noClai
 pub claims-holding : (s : Register) (cs : List Claim) → claimsOf (holding s cs .claims) ≡ cs
 claims-holding s cs = take-append-seam cs (replicate (claimLimit - length cs) noClaim)
 
+pub standing-holding : (s : Register) (L : List Claim) → standing (holding s (latest L)) ≡ L
+standing-holding s L = ap latest (claims-holding s (latest L)) ∙ reverse-reverse L
+
 pub holds-holding : (r s : Register) (L : List Claim) → s .actors ≡ r .actors → s .resources ≡ r .resources → length L ≤ claimLimit
     → Holds r (holding s (latest L)) L
 holds-holding r s L actors resources room = record {
@@ -77,7 +80,7 @@ holds-holding r s L actors resources room = record {
   resources = resources;
   shaped = length-padded (latest L) (rw (length-reverse L) room);
   count = length-reverse L;
-  claims = ap latest (claims-holding s (latest L)) ∙ reverse-reverse L;
+  claims = standing-holding s L;
 }
 
 -- registers that hold the same claims are the same
@@ -120,7 +123,8 @@ appended-sound r c now h =
     (λ e. let short : length (r .claims .list) ≤ r .claims .count = ltb-false (r .claims .count) (length (r .claims .list)) e in
     rw (take-short (r .claims .list) (r .claims .count) c short) (sr .claims)))
 
-revoked-sound : (r : Register) (P : Claim → Bool) → sound r ≡ true → sound (holding r (leftOf P r)) ≡ true
+-- a sound register stays sound when what P names is struck with all drawn from it
+pub revoked-sound : (r : Register) (P : Claim → Bool) → sound r ≡ true → sound (holding r (leftOf P r)) ≡ true
 revoked-sound r P h =
     let sr = sound-out r h in
     let K : List Claim = strike (λ c. c .id) (λ c. c .parent) P (standing r) in

@@ -14,7 +14,7 @@ use Rattle.lists.specs.Lists.{any}
 use Rattle.lists.specs.Trims.{sift}
 use Rattle.register.specs.Limits.{claimLimit, momentEnd}
 use Rattle.register.specs.Register.{claimsOf}
-use Rattle.register.specs.Chain.{latest, chain, above}
+use Rattle.register.specs.Chain.{chain, above}
 use Rattle.register.specs.declared.Claim.{Claim}
 use Rattle.register.specs.declared.Register.{Register}
 use Rattle.rules.specs.Sound.{World, soundClaims, sound, fresh}
@@ -97,15 +97,17 @@ revoke-removes r who x h e =
     ap (λ s. claimsOf (s .claims)) (revoked-register r who x e) ∙ claims-holding r (leftOf (λ c. eqb (c .id) x) r)
     ∙ strike-latest (λ c. c .id) (λ c. c .parent) (λ d. eqb (d .id) x) (claimsOf (r .claims)) (sound-distinct (worldIn r) (standing r) (sound-out r h .claims))
 
--- and says how many went
+-- what a striking takes and what it leaves come to what stood
+pub left-counts : (P : Claim → Bool) (r : Register) → (length (standing r) - length (leftOf P r)) + length (leftOf P r) ≡ length (standing r)
+left-counts P r =
+    let K : List Claim = strike (λ c. c .id) (λ c. c .parent) P (standing r) in
+    let fewer : length K ≤ length (standing r) = strike-length (λ c. c .id) (λ c. c .parent) P (standing r) in
+    omega (arith, fewer, length-reverse K)
+
+-- an accepted revocation says how many went
 pub revoke-counts : (r : Register) (who x : ℕ) → took r (revoke who x) ≡ true
     → revoked r who x .removed + length (claimsOf (step r (revoke who x) .claims)) ≡ length (claimsOf (r .claims))
 revoke-counts r who x e =
-    let L : List Claim = standing r in
-    let K : List Claim = strike (λ c. c .id) (λ c. c .parent) (λ c. eqb (c .id) x) L in
-    let left : length (claimsOf (step r (revoke who x) .claims)) ≡ length K =
-    ap (λ s. length (claimsOf (s .claims))) (revoked-register r who x e) ∙ ap length (claims-holding r (latest K)) ∙ length-reverse K in
-    let fewer : length K ≤ length L = strike-length (λ c. c .id) (λ c. c .parent) (λ c. eqb (c .id) x) L in
-    let went : revoked r who x .removed ≡ length L - length K = revoked-removed r who x e ∙ ap (λ n. length L - n) (length-reverse K) in
-    let stood : length L ≡ length (claimsOf (r .claims)) = length-reverse (claimsOf (r .claims)) in
-    omega (arith, left, fewer, went, stood)
+    let left : length (claimsOf (step r (revoke who x) .claims)) ≡ length (leftOf (λ c. eqb (c .id) x) r) =
+    ap (λ s. length (claimsOf (s .claims))) (revoked-register r who x e) ∙ ap length (claims-holding r (leftOf (λ c. eqb (c .id) x) r)) in
+    omega (arith, left, revoked-removed r who x e, left-counts (λ c. eqb (c .id) x) r, length-reverse (claimsOf (r .claims)))

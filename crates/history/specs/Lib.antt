@@ -4,3 +4,4 @@ pub mod Holds
 pub mod Books
 pub mod Replay
 pub mod Laws
+pub mod Order

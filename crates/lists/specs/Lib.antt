@@ -6,3 +6,4 @@ pub mod Loops
 pub mod Counts
 pub mod Splices
 pub mod Fills
+pub mod Bytes

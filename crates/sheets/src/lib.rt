@@ -5,8 +5,9 @@ ghost use lib.Dec.{leb};
 ghost use lib.ListN.{length};
 ghost use Rattle.lists.specs.Splices.{splice};
 ghost use Rattle.decimals.specs.Decimals.{digits};
-ghost use Rattle.lines.specs.Lines.{decimalLine};
+ghost use Rattle.lines.specs.Lines.{decimalLine, kindLine};
 ghost use Rattle.sheets.specs.Sheets.{put, behind};
+use register::Actor;
 
 // The byte that ends a line.
 const LINE_FEED: u8 = 10;
@@ -74,6 +75,17 @@ pub fn put_bytes(buf: &mut [u8], at: usize, t: &[u8]) -> usize
     copy(buf, at, t)
 }
 
+// Puts the digits of `n` into the buffer at `at`, and answers the position behind them.
+pub fn put_number(buf: &mut [u8], at: usize, n: u64) -> usize
+    ensures behind { λ r. ⌜ r ≡ behind at (digits n) (now (buf .entry)) ⌝ }
+    ensures written { λ _. ⌜ now (buf .exit) ≡ put at (digits n) (now (buf .entry)) ⌝ }
+{
+    if !has_room(buf, at, digit_count(n)) {
+        return at;
+    }
+    write_digits(buf, at, n)
+}
+
 // Puts the line of `key` and `n` into the buffer at `at`, and answers the position behind it.
 pub fn put_line(buf: &mut [u8], at: usize, key: &[u8], n: u64) -> usize
     ensures behind { λ r. ⌜ r ≡ behind at (decimalLine (now (key .entry)) n) (now (buf .entry)) ⌝ }
@@ -90,4 +102,15 @@ pub fn put_line(buf: &mut [u8], at: usize, key: &[u8], n: u64) -> usize
     let end = write_digits(buf, digits_at, n);
     buf[end] = LINE_FEED;
     end + 1
+}
+
+// Puts the line of an actor's kind into the buffer at `at`, and answers the position behind it.
+pub fn put_kind(buf: &mut [u8], at: usize, kind: u32) -> usize
+    ensures behind { λ r. ⌜ r ≡ behind at (kindLine kind) (now (buf .entry)) ⌝ }
+    ensures written { λ _. ⌜ now (buf .exit) ≡ put at (kindLine kind) (now (buf .entry)) ⌝ }
+{
+    if kind == Actor::HUMAN {
+        return put_bytes(buf, at, b"kind=human\n");
+    }
+    put_bytes(buf, at, b"kind=machine\n")
 }

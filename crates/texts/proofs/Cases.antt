@@ -30,7 +30,7 @@ use Rattle.texts.specs.declared.RegisterRead.{RegisterRead}
 use Rattle.texts.specs.declared.ActionRead.{ActionRead}
 
 -- the bytes of a text written as 01 writes it: one line per item, split by spaces; and as it stands, with no LF at its end
-abbrev lined : String → List ℕ
+abbrev pub lined : String → List ℕ
 lined end = 10 ∷ []
 lined (c then s) = cond (eqb (code c) 32) 10 (code c) ∷ lined s
 
@@ -56,7 +56,7 @@ caseR = record {
   claims = record { list = claim 1 0 1 1 10 19 1000 0 ∷ claim 2 1 1 2 10 1 600 2000 ∷ replicate 254 noClaim; count = 2 };
 }
 
-abbrev caseText : List ℕ
+abbrev pub caseText : List ℕ
 caseText = lined "register=1 actors=2 actor=1 kind=human owner=0 actor=2 kind=machine owner=1 resources=1 resource=10 public=0 keeper=1 scope=site/a claims=2 claim=1 parent=0 grantor=1 holder=1 resource=10 rights=19 weight=1000 expiry=0 claim=2 parent=1 grantor=1 holder=2 resource=10 rights=1 weight=600 expiry=2000"
 
 register-case-read : registerRead caseText ≡ record { register = caseR; outcome = Accepted; line = 0 }
@@ -123,7 +123,7 @@ actionR = record {
   governed = 0;
 }
 
-abbrev actionCase : List ℕ
+abbrev pub actionCase : List ℕ
 actionCase = lined "now=1999 actor=2 flags=0 uses=2 use=10 right=0 use=10 right=1 governs=0"
 
 action-case-read : actionRead actionCase ≡ record { action = actionR; outcome = Accepted; line = 0 }

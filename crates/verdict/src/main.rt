@@ -1,26 +1,12 @@
 // The printing program: the verdict on action.txt by register.txt, both of the working folder, as lines on standard output. A file that
 // can't be opened counts as empty, and of a file the first 65,536 bytes are read.
 use libc::STDOUT_FILENO;
-ghost use Rattle.io.specs.Counts.{Counts};
-
-// Reads the start of a file into the buffer, as much as the buffer takes, and answers how many bytes.
-fn load(name: &[u8], buf: &mut [u8]) -> usize
-    ensures { λ r. ⌜ Counts r (now (buf .exit)) ⌝ }
-{
-    let file = os::open_read(name);
-    if file < 0 {
-        return 0;
-    }
-    let n = io::read_full(file, buf);
-    libc::close(file);
-    n
-}
 
 fn main() {
     let mut register = io::large_buffer();
-    let register_end = load(b"register.txt", &mut register);
+    let register_end = loading::load(b"register.txt", &mut register);
     let mut action = io::large_buffer();
-    let action_end = load(b"action.txt", &mut action);
+    let action_end = loading::load(b"action.txt", &mut action);
     let mut printed = [0u8; verdict_text::PRINTED];
     let written = verdict_text::verdict_text(
         &register[..register_end],

@@ -1,11 +1,7 @@
 -- What is printed of case R of 01, and of small texts that are refused with 1, 3, 19 and 20. Computed. Assumes nothing.
 use Prim.Native.Nat.{ℕ}
-use Prim.Native.Char.{code}
-use Prim.Native.String.{String, [] as end, _∷_ as _then_}
 use mathlib.Core.Path.{_≡_, refl}
-use mathlib.Core.Bool.{cond}
 use mathlib.Core.List.{List, [], _∷_, map}
-use lib.Dec.{eqb}
 use Rattle.lists.specs.Trims.{trim}
 use Rattle.paths.specs.Containment.{same, components, climbing, trimmed, starting, contained}
 use Rattle.rights.specs.Rights.{hasRight, hasRights, barsMachine}
@@ -19,23 +15,12 @@ use Rattle.lines.specs.Lines.{begins, ended, parseLimited, atLeast, decimalLine
 use Rattle.texts.specs.Records.{values, passed, many, texts}
 use Rattle.texts.specs.Registers.{readActors, readResources, readClaims, registerFrom, registerRead}
 use Rattle.texts.specs.Actions.{readUses, readGoverns, actionOf, actionRead}
+use Rattle.texts.proofs.Cases.{lined, caseText, actionCase}
 use Rattle.verdict_text.specs.Printed.{pairText, listText, stoppedText, verdictText, printed}
 
--- the bytes of a text written as 01 writes it: one line per item, split by spaces
-abbrev lined : String → List ℕ
-lined end = 10 ∷ []
-lined (c then s) = cond (eqb (code c) 32) 10 (code c) ∷ lined s
-
--- case R of 01
-abbrev registerR : List ℕ
-registerR = lined "register=1 actors=2 actor=1 kind=human owner=0 actor=2 kind=machine owner=1 resources=1 resource=10 public=0 keeper=1 scope=site/a claims=2 claim=1 parent=0 grantor=1 holder=1 resource=10 rights=19 weight=1000 expiry=0 claim=2 parent=1 grantor=1 holder=2 resource=10 rights=1 weight=600 expiry=2000"
-
-abbrev actionR : List ℕ
-actionR = lined "now=1999 actor=2 flags=0 uses=2 use=10 right=0 use=10 right=1 governs=0"
-
 -- 01's action is refused; without its second use it is permitted; with two flags and nothing covered, each violation has its pair
-printed-in-R : map (printed registerR) (
-    actionR
+printed-in-R : map (printed caseText) (
+    actionCase
     ∷ lined "now=1999 actor=2 flags=0 uses=1 use=10 right=0 governs=0"
     ∷ lined "now=1999 actor=2 flags=513 uses=0 governs=2 govern=7 govern=8"
     ∷ [])
@@ -51,8 +36,8 @@ nobody = lined "register=1 actors=0 resources=0 claims=0"
 
 -- 1: a human with an owner; 3: an actor that does not stand; 19: nothing at all, in either text; 20: more uses than there may be
 printed-stopped :
-    (printed (lined "register=1 actors=1 actor=1 kind=human owner=1 resources=0 claims=0") actionR ≡ lined "verdict=stopped refusal=1")
-    × (printed nobody actionR ≡ lined "verdict=stopped refusal=3")
+    (printed (lined "register=1 actors=1 actor=1 kind=human owner=1 resources=0 claims=0") actionCase ≡ lined "verdict=stopped refusal=1")
+    × (printed nobody actionCase ≡ lined "verdict=stopped refusal=3")
     × (printed [] [] ≡ lined "verdict=stopped refusal=19")
     × (printed nobody [] ≡ lined "verdict=stopped refusal=19")
     × (printed nobody (lined "now=0 actor=2 flags=0 uses=33") ≡ lined "verdict=stopped refusal=20")

@@ -11,11 +11,15 @@ use Rattle.actions.specs.Actions.{violationLimit}
 use Rattle.actions.specs.declared.Action.{Action}
 use Rattle.actions.specs.declared.Verdict.{Verdict}
 use Rattle.verdicts.specs.Gate.{gated}
+use Rattle.lines.specs.Reading.{State, going, failed, closed}
 use Rattle.texts.specs.Registers.{registerRead}
 use Rattle.texts.specs.Actions.{actionRead}
 use Rattle.texts.specs.declared.RegisterRead.{RegisterRead}
 use Rattle.texts.specs.declared.ActionRead.{ActionRead}
+use Rattle.json_actions.specs.Actions.{jsonRead}
+use Rattle.json_actions.specs.declared.JsonRead.{JsonRead}
 use Rattle.verdict_text.specs.Printed.{stoppedText, verdictText, actionLines, registerLines, printed, printedLimit}
+use Rattle.verdict_text.specs.Printed.{jsonLines, clockRefusal, clockRead, clockLines, registerJson, jsonPrinted}
 use Rattle.verdict_text.specs.Lengths.{gated-fitting}
 
 -- the gate's verdict fits
@@ -49,3 +53,45 @@ module _ (t action : List ℕ) {read : RegisterRead} (same : read ≡ registerRe
   refused-printed why e =
       ap (λ (o : RegisterRead). registerLines (o .outcome) o action) (sym same)
       ∙ ap (λ (o : Outcome). registerLines o read action) e
+
+-- a JSON action that is read at a moment, and one that is refused
+module _ (r : Register) (t : List ℕ) (moment : ℕ) {read : JsonRead} (same : read ≡ jsonRead t moment) where
+  pub judged-json : {v : Verdict} → read .outcome ≡ Accepted → v ≡ gated r (read .action)
+      → jsonLines r (jsonRead t moment .outcome) (jsonRead t moment .action) ≡ verdictText v
+  judged-json {v} e f =
+      ap (λ (o : JsonRead). jsonLines r (o .outcome) (o .action)) (sym same)
+      ∙ ap (λ (o : Outcome). jsonLines r o (read .action)) e
+      ∙ ap verdictText (sym f)
+
+  pub refused-json : (why : Refusal) → read .outcome ≡ Refused why
+      → jsonLines r (jsonRead t moment .outcome) (jsonRead t moment .action) ≡ stoppedText why
+  refused-json why e =
+      ap (λ (o : JsonRead). jsonLines r (o .outcome) (o .action)) (sym same)
+      ∙ ap (λ (o : Outcome). jsonLines r o (read .action)) e
+
+-- a clock that is read, and one that fails, by where its reading ends
+module _ (r : Register) (clock action : List ℕ) where
+  pub clock-going : {moment : ℕ} {t : List ℕ} {l : ℕ} → moment ≡ clockRead clock .value → closed (clockRead clock .state) ≡ going t l
+      → clockLines r (closed (clockRead clock .state)) (clockRead clock .value) action ≡ jsonLines r (jsonRead action moment .outcome) (jsonRead action moment .action)
+  clock-going {moment} {t} {l} same e =
+      ap (λ (st : State). clockLines r st (clockRead clock .value) action) e
+      ∙ ap (λ (n : ℕ). jsonLines r (jsonRead action n .outcome) (jsonRead action n .action)) (sym same)
+
+  pub clock-failed : (why l : ℕ) → closed (clockRead clock .state) ≡ failed why l
+      → clockLines r (closed (clockRead clock .state)) (clockRead clock .value) action ≡ stoppedText (clockRefusal why)
+  clock-failed why l e = ap (λ (st : State). clockLines r st (clockRead clock .value) action) e
+
+-- a register that is read before a clock and a JSON action, and one that is refused
+module _ (t clock action : List ℕ) {read : RegisterRead} (same : read ≡ registerRead t) where
+  pub accepted-json : read .outcome ≡ Accepted
+      → jsonPrinted t clock action ≡ clockLines (read .register) (closed (clockRead clock .state)) (clockRead clock .value) action
+  unfolding jsonPrinted
+  accepted-json e =
+      ap (λ (o : RegisterRead). registerJson (o .outcome) o clock action) (sym same)
+      ∙ ap (λ (o : Outcome). registerJson o read clock action) e
+
+  pub stopped-json : (why : Refusal) → read .outcome ≡ Refused why → jsonPrinted t clock action ≡ stoppedText why
+  unfolding jsonPrinted
+  stopped-json why e =
+      ap (λ (o : RegisterRead). registerJson (o .outcome) o clock action) (sym same)
+      ∙ ap (λ (o : Outcome). registerJson o read clock action) e

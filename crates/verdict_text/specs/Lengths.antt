@@ -19,7 +19,7 @@ use Rattle.changes.specs.declared.Outcome.the-variants.{Accepted, Refused as Re
 use Rattle.changes.specs.declared.Refusal.{Refusal}
 use Rattle.changes.specs.declared.Refusal.the-variants.{Unsound, OutOfRange, Unknown, IdStands, Full, NotKeeper, Ownerless, MachineBarred, ParentAbsent}
 use Rattle.changes.specs.declared.Refusal.the-variants.{ParentNotHeld, ParentDead, NoDelegate, RightLacking, WeightAbove, TooManyHops, Circle, ClaimAbsent, NoGrantor}
-use Rattle.changes.specs.declared.Refusal.the-variants.{BadForm, CountAbove, BufferShort}
+use Rattle.changes.specs.declared.Refusal.the-variants.{BadForm, CountAbove, BufferShort, BadJson, BeyondJson}
 use Rattle.actions.specs.Actions.{violationLimit, flagCount, usesOf, governsOf, kindOf, valueOf, actionFits}
 use Rattle.actions.specs.declared.Usage.{Usage}
 use Rattle.actions.specs.declared.Action.{Action}
@@ -36,6 +36,8 @@ use Rattle.verdicts.specs.Bounds.{violations-most}
 use Rattle.decimals.specs.Walk.{length-small, length-under}
 use Rattle.lines.specs.Lines.{decimalLine}
 use Rattle.lines.specs.Laws.{decimal-line-length}
+use Rattle.lines.specs.Reading.{State, going, failed, closed}
+use Rattle.json_actions.specs.Actions.{jsonRead}
 use Rattle.texts.specs.Records.{texts}
 use Rattle.texts.specs.Registers.{registerRead}
 use Rattle.texts.specs.Actions.{actionRead}
@@ -44,6 +46,7 @@ use Rattle.texts.specs.declared.RegisterRead.{RegisterRead}
 use Rattle.texts.specs.declared.ActionRead.{ActionRead}
 use Rattle.verdict_text.specs.Printed.{permittedLine, refusedLine, stoppedLine, violationsKey, violationKey, atKey, refusalKey, violationsIn}
 use Rattle.verdict_text.specs.Printed.{pairText, listText, stoppedText, verdictLines, verdictText, actionLines, registerLines, printed, printedLimit}
+use Rattle.verdict_text.specs.Printed.{jsonLines, clockRefusal, clockRead, clockLines, registerJson, jsonPrinted}
 
 -- a violation names a number of 16 bits
 abbrev pub Small : Violation → Type 0
@@ -138,7 +141,7 @@ list-length vs few small =
       pairs,
     )
 
-number-most : (why : Refusal) → numberOf why ≤ 21
+number-most : (why : Refusal) → numberOf why ≤ 25
 number-most Unsound = omega arith
 number-most OutOfRange = omega arith
 number-most Unknown = omega arith
@@ -160,6 +163,8 @@ number-most NoGrantor = omega arith
 number-most BadForm = omega arith
 number-most CountAbove = omega arith
 number-most BufferShort = omega arith
+number-most BadJson = omega arith
+number-most BeyondJson = omega arith
 
 pub stopped-length : (why : Refusal) → length (stoppedText why) ≤ printedLimit
 unfolding stoppedText
@@ -210,3 +215,20 @@ register-length (RefusedFor why) r action = stopped-length why
 pub printed-length : (register action : List ℕ) → length (printed register action) ≤ printedLimit
 unfolding printed
 printed-length register action = register-length (registerRead register .outcome) (registerRead register) action
+
+-- so with the three texts of a JSON action
+json-lines-length : (r : Register) (o : Outcome) (a : Action) → length (jsonLines r o a) ≤ printedLimit
+json-lines-length r Accepted a = gated-fitting r a .text
+json-lines-length r (RefusedFor why) a = stopped-length why
+
+clock-length : (r : Register) (st : State) (moment : ℕ) (action : List ℕ) → length (clockLines r st moment action) ≤ printedLimit
+clock-length r (going t l) moment action = json-lines-length r (jsonRead action moment .outcome) (jsonRead action moment .action)
+clock-length r (failed why l) moment action = stopped-length (clockRefusal why)
+
+register-json-length : (o : Outcome) (r : RegisterRead) (clock action : List ℕ) → length (registerJson o r clock action) ≤ printedLimit
+register-json-length Accepted r clock action = clock-length (r .register) (closed (clockRead clock .state)) (clockRead clock .value) action
+register-json-length (RefusedFor why) r clock action = stopped-length why
+
+pub json-printed-length : (register clock action : List ℕ) → length (jsonPrinted register clock action) ≤ printedLimit
+unfolding jsonPrinted
+json-printed-length register clock action = register-json-length (registerRead register .outcome) (registerRead register) clock action

@@ -1,13 +1,18 @@
 -- The lines that 01's program prints, of the two texts that it reads. Assumes nothing.
-use Prim.Native.Nat.{ℕ}
+use Prim.Native.Nat.{ℕ, _-_}
 use mathlib.Core.List.{List, [], _∷_, _++_, map}
+use mathlib.Core.Bool.{cond}
+use lib.Dec.{eqb}
 use lib.ListN.{take}
+use Rattle.register.specs.Limits.{momentEnd}
 use Rattle.register.specs.declared.Register.{Register}
 use Rattle.changes.specs.Refusals.{numberOf}
 use Rattle.changes.specs.declared.Outcome.{Outcome}
 use Rattle.changes.specs.declared.Outcome.the-variants.{Accepted, Refused as RefusedFor}
 use Rattle.changes.specs.declared.Refusal.{Refusal}
+use Rattle.changes.specs.declared.Refusal.the-variants.{OutOfRange, BadForm}
 use Rattle.actions.specs.Actions.{kindOf, valueOf}
+use Rattle.actions.specs.declared.Action.{Action}
 use Rattle.actions.specs.declared.Violation.{Violation}
 use Rattle.actions.specs.declared.Violations.{Violations}
 use Rattle.actions.specs.declared.Decision.{Decision}
@@ -15,11 +20,14 @@ use Rattle.actions.specs.declared.Decision.the-variants.{Permitted, Refused, St
 use Rattle.actions.specs.declared.Verdict.{Verdict}
 use Rattle.verdicts.specs.Gate.{gated}
 use Rattle.lines.specs.Lines.{decimalLine}
+use Rattle.lines.specs.Reading.{State, going, failed, Read, count, countRefusal, readForm, closed}
+use Rattle.texts.specs.Keys.{nowKey}
 use Rattle.texts.specs.Records.{texts}
 use Rattle.texts.specs.Registers.{registerRead}
 use Rattle.texts.specs.Actions.{actionRead}
 use Rattle.texts.specs.declared.RegisterRead.{RegisterRead}
 use Rattle.texts.specs.declared.ActionRead.{ActionRead}
+use Rattle.json_actions.specs.Actions.{jsonRead}
 
 -- "verdict=permitted" and LF
 abbrev pub permittedLine : List ℕ
@@ -87,6 +95,32 @@ registerLines (RefusedFor why) r action = stoppedText why
 -- what the program prints of the two texts
 unfoldable pub printed : List ℕ → List ℕ → List ℕ
 printed register action = registerLines (registerRead register .outcome) (registerRead register) action
+
+-- a JSON action that was read, or refused, judged by a register that was read
+abbrev pub jsonLines : Register → Outcome → Action → List ℕ
+jsonLines r Accepted a = verdictText (gated r a)
+jsonLines r (RefusedFor why) a = stoppedText why
+
+-- a clock that is no line `now=`, or not that line alone, is 19; a moment above its limit is the 2 of reading at it
+abbrev pub clockRefusal : ℕ → Refusal
+clockRefusal why = cond (eqb why countRefusal) OutOfRange BadForm
+
+abbrev pub clockRead : List ℕ → Read ℕ
+clockRead clock = readForm (count nowKey (momentEnd - 1)) (going clock 1)
+
+-- the clock's text, then the JSON action's, judged by a register that was read
+abbrev pub clockLines : Register → State → ℕ → List ℕ → List ℕ
+clockLines r (going t l) moment action = jsonLines r (jsonRead action moment .outcome) (jsonRead action moment .action)
+clockLines r (failed why l) moment action = stoppedText (clockRefusal why)
+
+-- a register's text, then a clock's, then a JSON action's; the first refusal stops
+abbrev pub registerJson : Outcome → RegisterRead → List ℕ → List ℕ → List ℕ
+registerJson Accepted r clock action = clockLines (r .register) (closed (clockRead clock .state)) (clockRead clock .value) action
+registerJson (RefusedFor why) r clock action = stoppedText why
+
+-- what the JSON program prints of the three texts
+unfoldable pub jsonPrinted : List ℕ → List ℕ → List ℕ → List ℕ
+jsonPrinted register clock action = registerJson (registerRead register .outcome) (registerRead register) clock action
 
 -- no verdict's text is longer: the verdict, the number of violations, and 51 pairs that each name a number of 16 bits
 abbrev pub printedLimit : ℕ

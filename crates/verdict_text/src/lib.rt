@@ -1,4 +1,5 @@
-// The verdict as text: the lines that 01's program prints, of the two texts that it reads, put into a lent buffer whole or not at all.
+// The verdict as text: the lines that 01's program prints, of the two texts that it reads, and those that the program for JSON actions prints
+// of the three that it reads, put into a lent buffer whole or not at all.
 ghost use mathlib.Core.Path.{_≡_};
 ghost use Prim.Native.Nat.{_+_, _≤_};
 ghost use lib.ListN.{length};
@@ -7,7 +8,10 @@ ghost use Rattle.actions.specs.Actions.{violationLimit};
 ghost use Rattle.texts.specs.Actions.{actionRead};
 ghost use Rattle.sheets.specs.Sheets.{put};
 ghost use Rattle.writing.specs.Writing.{delivered};
+ghost use Rattle.lines.specs.Reading.{closed};
+ghost use Rattle.json_actions.specs.Actions.{jsonRead};
 ghost use Rattle.verdict_text.specs.Printed.{pairText, listText, stoppedText, verdictText, actionLines, printed, printedLimit};
+ghost use Rattle.verdict_text.specs.Printed.{jsonLines, clockRead, clockLines, jsonPrinted};
 use actions::Action;
 use actions::Decision;
 use actions::Verdict;
@@ -15,11 +19,15 @@ use actions::Violation;
 use actions::Violations;
 use changes::Outcome;
 use changes::Refusal;
+use lines::COUNT_REFUSAL;
 use register::Register;
 use texts::Written;
 
 // No verdict's text is longer.
 pub const PRINTED: usize = 1103;
+
+// The last moment.
+const LAST_MOMENT: u64 = 4294967295;
 
 // Puts the pair of a violation into the buffer at `at`, and answers the position behind it.
 fn put_pair(buf: &mut [u8], at: usize, v: Violation) -> usize
@@ -124,6 +132,69 @@ pub fn verdict_text(register: &[u8], action: &[u8], buf: &mut [u8]) -> Written
 {
     let mut sheet = [0u8; PRINTED];
     let length = compose(&mut sheet, register, action);
+    let text: &[u8] = &sheet;
+    writing::deliver(buf, &text[..length])
+}
+
+// Puts what is printed of a register that was read and a JSON action's text, read at a moment, into the buffer, and answers the position
+// behind it.
+fn compose_json(buf: &mut [u8], register: Register, moment: u64, action: &[u8]) -> usize
+    requires { ⌜ printedLimit ≤ length (now buf) ⌝ }
+    ensures behind { λ r. ⌜ r ≡ length (jsonLines register (jsonRead (now (action .entry)) moment .outcome) (jsonRead (now (action .entry)) moment .action)) ⌝ }
+    ensures written { λ _. ⌜ now (buf .exit) ≡ splice 0 (jsonLines register (jsonRead (now (action .entry)) moment .outcome) (jsonRead (now (action .entry)) moment .action)) (now (buf .entry)) ⌝ }
+{
+    let posed = json_reading::read_json(action, moment);
+    let outcome = posed.outcome;
+    match outcome {
+        Outcome::Accepted => {
+            let asked = posed.action;
+            put_verdict(buf, gate::gate(register, asked))
+        }
+        Outcome::Refused(why) => put_stopped(buf, why),
+    }
+}
+
+// Puts what is printed of a register that was read, a clock's text and a JSON action's into the buffer, and answers the position behind it.
+fn compose_clock(buf: &mut [u8], register: Register, clock: &[u8], action: &[u8]) -> usize
+    requires { ⌜ printedLimit ≤ length (now buf) ⌝ }
+    ensures behind { λ r. ⌜ r ≡ length (clockLines register (closed (clockRead (now (clock .entry)) .state)) (clockRead (now (clock .entry)) .value) (now (action .entry))) ⌝ }
+    ensures written { λ _. ⌜ now (buf .exit) ≡ splice 0 (clockLines register (closed (clockRead (now (clock .entry)) .state)) (clockRead (now (clock .entry)) .value) (now (action .entry))) (now (buf .entry)) ⌝ }
+{
+    let field = lines::read_count(clock, lines::start(), b"now=", LAST_MOMENT);
+    let end = lines::finish(clock, field.cursor);
+    if lines::goes_on(clock, end) {
+        return compose_json(buf, register, field.value, action);
+    }
+    if end.refusal == COUNT_REFUSAL {
+        return put_stopped(buf, Refusal::OutOfRange);
+    }
+    put_stopped(buf, Refusal::BadForm)
+}
+
+// Puts what is printed of the three texts into the buffer, and answers the position behind it.
+fn compose_texts(buf: &mut [u8], register: &[u8], clock: &[u8], action: &[u8]) -> usize
+    requires { ⌜ printedLimit ≤ length (now buf) ⌝ }
+    ensures behind { λ r. ⌜ r ≡ length (jsonPrinted (now (register .entry)) (now (clock .entry)) (now (action .entry))) ⌝ }
+    ensures written { λ _. ⌜ now (buf .exit) ≡ splice 0 (jsonPrinted (now (register .entry)) (now (clock .entry)) (now (action .entry))) (now (buf .entry)) ⌝ }
+{
+    let stated = reading::read_register(register);
+    let outcome = stated.outcome;
+    match outcome {
+        Outcome::Accepted => {
+            let state = stated.register;
+            compose_clock(buf, state, clock, action)
+        }
+        Outcome::Refused(why) => put_stopped(buf, why),
+    }
+}
+
+// The lines that the program for JSON actions prints of the three texts.
+pub fn json_verdict_text(register: &[u8], clock: &[u8], action: &[u8], buf: &mut [u8]) -> Written
+    ensures answer { λ r. ⌜ r ≡ delivered (jsonPrinted (now (register .entry)) (now (clock .entry)) (now (action .entry))) (now (buf .entry)) ⌝ }
+    ensures buffer { λ _. ⌜ now (buf .exit) ≡ put 0 (jsonPrinted (now (register .entry)) (now (clock .entry)) (now (action .entry))) (now (buf .entry)) ⌝ }
+{
+    let mut sheet = [0u8; PRINTED];
+    let length = compose_texts(&mut sheet, register, clock, action);
     let text: &[u8] = &sheet;
     writing::deliver(buf, &text[..length])
 }

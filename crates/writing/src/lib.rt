@@ -8,8 +8,8 @@ ghost use Rattle.lists.specs.Splices.{splice};
 ghost use Rattle.register.specs.Limits.{actorLimit, resourceLimit, claimLimit, pathLimit};
 ghost use Rattle.register.specs.Register.{actorsOf, resourcesOf, claimsOf, pathOf};
 ghost use Rattle.rules.specs.Sound.{sound};
-ghost use Rattle.lines.specs.Lines.{kindLine, scopeLine};
-ghost use Rattle.sheets.specs.Sheets.{put, behind};
+ghost use Rattle.lines.specs.Lines.{scopeLine};
+ghost use Rattle.sheets.specs.Sheets.{put};
 ghost use Rattle.texts.specs.Keys.{actorsKey, resourcesKey, claimsKey};
 ghost use Rattle.texts.specs.Records.{sectionText};
 ghost use Rattle.texts.specs.Registers.{actorText, resourceText, claimText, registerText, textLimit};
@@ -24,17 +24,6 @@ use register::Register;
 use register::Resource;
 use register::Resources;
 use texts::Written;
-
-// Puts the line of an actor's kind into the buffer at `at`, and answers the position behind it.
-fn put_kind(buf: &mut [u8], at: usize, kind: u32) -> usize
-    ensures behind { λ r. ⌜ r ≡ behind at (kindLine kind) (now (buf .entry)) ⌝ }
-    ensures written { λ _. ⌜ now (buf .exit) ≡ put at (kindLine kind) (now (buf .entry)) ⌝ }
-{
-    if kind == Actor::HUMAN {
-        return sheets::put_bytes(buf, at, b"kind=human\n");
-    }
-    sheets::put_bytes(buf, at, b"kind=machine\n")
-}
 
 // Puts the line of a resource's path into the buffer at `at`, and answers the position behind it.
 fn put_scope(buf: &mut [u8], at: usize, o: Resource) -> usize
@@ -57,7 +46,7 @@ fn put_actor(buf: &mut [u8], at: usize, a: Actor) -> usize
     ensures written { λ _. ⌜ now (buf .exit) ≡ splice at (actorText a) (now (buf .entry)) ⌝ }
 {
     let kind_at = sheets::put_line(buf, at, b"actor=", a.id as u64);
-    let owner_at = put_kind(buf, kind_at, a.kind);
+    let owner_at = sheets::put_kind(buf, kind_at, a.kind);
     sheets::put_line(buf, owner_at, b"owner=", a.owner as u64)
 }
 

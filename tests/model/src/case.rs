@@ -41,6 +41,17 @@ pub enum Call {
         room: usize,
         fill: u8,
     },
+    ReadJson {
+        text: Vec<u8>,
+        now: u64,
+    },
+    WriteJson {
+        action: Box<Action>,
+        id: Vec<u8>,
+        kind: u32,
+        room: usize,
+        fill: u8,
+    },
 }
 
 /// Calls in order, on a register where one is given.
@@ -50,7 +61,7 @@ pub struct Script {
     pub calls: Vec<Call>,
 }
 
-pub const CALLS: usize = 10;
+pub const CALLS: usize = 12;
 
 /// By `Call::number`: the name, and the outcomes that a run must meet.
 pub const NAMES: [(&str, &[Outcome]); CALLS] = [
@@ -64,6 +75,8 @@ pub const NAMES: [(&str, &[Outcome]); CALLS] = [
     ("write_register", &[YES, 1, 21]),
     ("read_action", &[YES, 19, 20]),
     ("verdict_text", &[YES, 21]),
+    ("read_json", &[YES, 2, 24]),
+    ("write_json", &[YES, 2, 25, 21]),
 ];
 
 /// What an answer comes to: a refusal's number, or one of those below.
@@ -126,6 +139,8 @@ impl Call {
             Call::WriteRegister { .. } => 7,
             Call::ReadAction(_) => 8,
             Call::VerdictText { .. } => 9,
+            Call::ReadJson { .. } => 10,
+            Call::WriteJson { .. } => 11,
         }
     }
 
@@ -163,6 +178,16 @@ impl Call {
                 out.extend_from_slice(register);
                 out.extend_from_slice(action);
             }),
+            Call::ReadJson { text, now } => put_request(out, Request::ReadJson, |out| {
+                now.put(out);
+                out.extend_from_slice(text);
+            }),
+            Call::WriteJson { action, id, kind, room, fill } => put_request(out, Request::WriteJson, |out| {
+                action.put(out);
+                [*kind, u32::from(*fill)].put(out);
+                [id.len(), *room].put(out);
+                out.extend_from_slice(id);
+            }),
         }
     }
 
@@ -177,7 +202,10 @@ impl Call {
                 Call::Contains { .. } => size_of::<Containment>(),
                 Call::ReadRegister(_) => size_of::<RegisterRead>(),
                 Call::ReadAction(_) => size_of::<ActionRead>(),
-                Call::WriteRegister { room, .. } | Call::VerdictText { room, .. } => size_of::<Written>() + room,
+                Call::ReadJson { .. } => size_of::<JsonRead>(),
+                Call::WriteRegister { room, .. } | Call::VerdictText { room, .. } | Call::WriteJson { room, .. } => {
+                    size_of::<Written>() + room
+                }
             }
     }
 
@@ -250,6 +278,14 @@ impl Call {
             Call::VerdictText { register, action, room, fill } => {
                 put_text(*room, *fill, out, |buffer| model.verdict_text(register, action, buffer))
             }
+            Call::ReadJson { text, now } => {
+                let read = model.read_json(text, *now);
+                read.put(out);
+                read.refusal
+            }
+            Call::WriteJson { action, id, kind, room, fill } => {
+                put_text(*room, *fill, out, |buffer| model.write_json(action, id, *kind, buffer))
+            }
         }
     }
 
@@ -266,7 +302,10 @@ impl Call {
             Call::Contains { .. } => fields(&Containment::take(from)),
             Call::ReadRegister(_) => fields(&RegisterRead::take(from)),
             Call::ReadAction(_) => fields(&ActionRead::take(from)),
-            Call::WriteRegister { .. } | Call::VerdictText { .. } => fields(&Written::take(from)),
+            Call::ReadJson { .. } => fields(&JsonRead::take(from)),
+            Call::WriteRegister { .. } | Call::VerdictText { .. } | Call::WriteJson { .. } => {
+                fields(&Written::take(from))
+            }
         };
         fields.insert(0, ("marks".to_owned(), marks.to_string()));
         fields.extend(from.iter().enumerate().map(|(at, byte)| (format!("buffer[{at}]"), byte.to_string())));

@@ -3,7 +3,8 @@
 use crate::case::{outcome_name, Call, Outcome, Script, CALLS, NAMES};
 use crate::driver::Driver;
 use crate::generate::random::Random;
-use crate::generate::{actions, changes, registers, texts};
+use crate::generate::{actions, changes, json, registers, texts};
+use crate::pairs::{Answers, Pair, DEMANDED};
 use crate::{saved, shrink};
 use guvrendik_model::model::Model;
 use guvrendik_model::requests::{put_request, Request, STACK_ORDER};
@@ -44,6 +45,10 @@ pub struct Tally {
     pub calls: [u64; CALLS],
     /// How often each outcome of each call was met.
     pub outcomes: BTreeMap<(usize, Outcome), u64>,
+    pub pairs: u64,
+    pub pairs_on_one_chain: u64,
+    /// How often a call of a pair had these outcomes, when it came first and when it came second.
+    pub pair_outcomes: BTreeMap<(Outcome, Outcome), u64>,
 }
 
 pub struct Comparison<'c> {
@@ -137,8 +142,13 @@ impl<'c> Comparison<'c> {
 
     /// Sends one script and compares its answers. A driver that dies is a difference too.
     pub fn ask(&mut self, script: &Script) -> io::Result<Option<Difference>> {
+        self.ask_seeing(script, |_| ())
+    }
+
+    /// The same, showing each answer.
+    fn ask_seeing(&mut self, script: &Script, see: impl FnMut(&[u8])) -> io::Result<Option<Difference>> {
         self.send(std::slice::from_ref(script));
-        match self.check_answers(script) {
+        match self.check_seeing(script, see) {
             Ok(difference) => Ok(difference),
             Err(call) => {
                 self.tally.failed += 1;
@@ -151,11 +161,17 @@ impl<'c> Comparison<'c> {
     /// Reads the answers to a script that was sent, all of them, and answers the first that differs: after it the two may stand
     /// at different registers. `Err` with the call's position where the driver died.
     fn check_answers(&mut self, script: &Script) -> Result<Option<Difference>, usize> {
+        self.check_seeing(script, |_| ())
+    }
+
+    /// The same, showing each answer.
+    fn check_seeing(&mut self, script: &Script, mut see: impl FnMut(&[u8])) -> Result<Option<Difference>, usize> {
         let mut state = script.start();
         let mut found: Option<Difference> = None;
         let (mut expected, mut got) = (Vec::new(), Vec::new());
         for (position, call) in script.calls.iter().enumerate() {
             self.driver.receive(call.answer_size(), &mut got).map_err(|_| position)?;
+            see(&got);
             if found.is_some() {
                 continue;
             }
@@ -171,6 +187,47 @@ impl<'c> Comparison<'c> {
             }
         }
         Ok(found)
+    }
+
+    /// Compares pairs of revocations in both orders until there are `most` findings, and answers these: each answer with the
+    /// model's, and the library's answers in one order with those in the other.
+    pub fn pairs(&mut self, pairs: impl Iterator<Item = Pair>, most: usize) -> io::Result<Vec<Finding>> {
+        let mut findings = Vec::new();
+        for pair in pairs {
+            let known = findings.len();
+            let scripts = pair.scripts();
+            let mut seen = Vec::new();
+            for script in &scripts {
+                let see = |answer: &[u8]| seen.push(Revoked::take(&mut &answer[size_of::<u32>()..]));
+                if let Some(difference) = self.ask_seeing(script, see)? {
+                    findings.push(Finding { script: script.clone(), difference });
+                }
+            }
+            if let ([one, two, three, four], true) = (&seen[..], findings.len() == known) {
+                self.check_orders(&pair, &scripts, &Answers([[one, two], [three, four]]));
+            }
+            if findings.len() >= most {
+                break;
+            }
+        }
+        Ok(findings)
+    }
+
+    /// Counts a pair, passed where its answers are as proved.
+    fn check_orders(&mut self, pair: &Pair, scripts: &[Script], answers: &Answers) {
+        self.tally.pairs += 1;
+        self.tally.pairs_on_one_chain += u64::from(pair.on_one_chain);
+        for told in answers.told() {
+            *self.tally.pair_outcomes.entry(told).or_default() += 1;
+        }
+        match answers.broken() {
+            None => self.tally.passed += 1,
+            Some(how) => {
+                self.tally.failed += 1;
+                println!("two revocations: {how}");
+                scripts.iter().for_each(|script| print!("{}", saved::write(script)));
+            }
+        }
     }
 
     /// The model's answer to one call of a script.
@@ -404,7 +461,7 @@ fn said_stack(name: &str) -> u64 {
     said.chars().take_while(|c| *c != ' ').filter(char::is_ascii_digit).collect::<String>().parse().unwrap_or(0)
 }
 
-/// An input for all ten calls at once.
+/// An input for all calls at once.
 fn put_input(random: &mut Random, shape: Shape, out: &mut Vec<u8>) {
     let register = registers::sound(random, shape, false);
     let action = actions::action(random, &register);
@@ -419,8 +476,10 @@ fn put_input(random: &mut Random, shape: Shape, out: &mut Vec<u8>) {
     if let Call::Revoke { revoker, claim, .. } = changes::revoke(random, &register, false) {
         [revoker, claim].put(out);
     }
-    text.len().put(out);
-    out.extend(text);
+    for text in [text, json::full_page(random)] {
+        text.len().put(out);
+        out.extend(text);
+    }
 }
 
 impl Tally {
@@ -449,6 +508,32 @@ impl Tally {
             }
         }
         println!("{:>7} cases", self.calls.iter().sum::<u64>());
+        self.summarise_pairs();
+    }
+
+    /// Prints the pairs of revocations, and counts that enough were on one chain and that each demanded change was met.
+    fn summarise_pairs(&mut self) {
+        let met: Vec<String> = self
+            .pair_outcomes
+            .iter()
+            .map(|((first, second), count)| format!("{} to {} {count}", outcome_name(*first), outcome_name(*second)))
+            .collect();
+        let (pairs, chained) = (self.pairs, self.pairs_on_one_chain);
+        println!("{pairs:>7} pairs of revocations in both orders, {chained} on one chain: {}", met.join(", "));
+        for (first, second) in DEMANDED {
+            if self.pair_outcomes.contains_key(&(first, second)) {
+                self.passed += 1;
+            } else {
+                println!("pairs: never met {} to {}", outcome_name(first), outcome_name(second));
+                self.failed += 1;
+            }
+        }
+        if 3 * chained >= pairs {
+            self.passed += 1;
+        } else {
+            println!("pairs: less than a third on one chain");
+            self.failed += 1;
+        }
     }
 }
 

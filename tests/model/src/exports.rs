@@ -113,6 +113,27 @@ pub unsafe extern "C" fn guvrendik_read_action(text: *const u8, text_len: usize)
 }
 
 /// # Safety
+/// The pointer and length are good, as the header says.
+#[no_mangle]
+pub unsafe extern "C" fn guvrendik_read_json(text: *const u8, text_len: usize, now: u64) -> JsonRead {
+    MODEL.read_json(lent(text, text_len), now)
+}
+
+/// # Safety
+/// The pointers and lengths are good, as the header says.
+#[no_mangle]
+pub unsafe extern "C" fn guvrendik_write_json(
+    action: Action,
+    id: *const u8,
+    id_len: usize,
+    kind: u32,
+    buffer: *mut u8,
+    buffer_len: usize,
+) -> Written {
+    MODEL.write_json(&action, lent(id, id_len), kind, lent_mut(buffer, buffer_len)).into()
+}
+
+/// # Safety
 /// The pointers and lengths are good, as the header says.
 #[no_mangle]
 pub unsafe extern "C" fn guvrendik_verdict_text(

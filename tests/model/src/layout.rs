@@ -38,6 +38,7 @@ layout! {
     "plan_verdict" PlanVerdict { accepted, refusal, position, list, count }
     "register_read" RegisterRead { state, accepted, refusal, line }
     "action_read" ActionRead { action, accepted, refusal, line }
+    "json_read" JsonRead { action, accepted, refusal, kind, id_len, id }
     "written" Written { accepted, refusal, length }
 }
 

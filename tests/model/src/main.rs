@@ -6,6 +6,7 @@ mod case;
 mod compare;
 mod driver;
 mod generate;
+mod pairs;
 mod saved;
 mod shrink;
 
@@ -120,7 +121,10 @@ fn run(options: &Options) -> io::Result<(u64, u64)> {
     let mut generator = Generator::new(options.seed);
     let fixed = generator.fixed();
     let rounds = (0..options.rounds).flat_map(move |round| generator.round(round));
-    let findings = comparison.run(fixed.into_iter().chain(rounds), ENOUGH)?;
+    let mut findings = comparison.run(fixed.into_iter().chain(rounds), ENOUGH)?;
+    let mut generator = Generator::new(options.seed);
+    let pairs = (0..options.rounds).flat_map(move |round| generator.pairs(round));
+    findings.extend(comparison.pairs(pairs, ENOUGH)?);
     comparison.report(findings, &options.found, options.seed)?;
     comparison.tally.summarise();
     println!("{:.1} s until here", clock.elapsed().as_secs_f64());

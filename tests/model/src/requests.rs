@@ -17,6 +17,8 @@ pub enum Request {
     WriteRegister,
     ReadAction,
     VerdictText,
+    ReadJson,
+    WriteJson,
     Boundary,
     Threads,
     Stack,
@@ -34,7 +36,7 @@ pub fn put_request(out: &mut Vec<u8>, request: Request, put: impl FnOnce(&mut Ve
 }
 
 /// The calls, in the order in which the driver answers how much stack each of them took.
-pub const STACK_ORDER: [&str; 10] = [
+pub const STACK_ORDER: [&str; 12] = [
     "sound",
     "grant",
     "revoke",
@@ -45,4 +47,6 @@ pub const STACK_ORDER: [&str; 10] = [
     "read_register",
     "read_action",
     "verdict_text",
+    "read_json",
+    "write_json",
 ];

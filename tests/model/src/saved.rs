@@ -113,16 +113,24 @@ fn write_call(call: &Call, out: &mut String) {
             write_bytes("register-text", register, out);
             write_bytes("action-text", action, out);
         }
+        Call::ReadJson { text, now } => {
+            line(out, format_args!("call {name} now={now}"));
+            write_bytes("text", text, out);
+        }
+        Call::WriteJson { action, id, kind, room, fill } => {
+            line(out, format_args!("call {name} id={} kind={kind} room={room} fill={fill}", quoted(id)));
+            write_action(action, out);
+        }
     }
 }
 
-/// Printable bytes as they are, the rest, blanks, quotes and backslashes as `\xNN`, LF as `\n`.
+/// Printable bytes as they are, the rest, blanks and backslashes as `\xNN`, LF as `\n`.
 fn quoted(bytes: &[u8]) -> String {
     let mut out = String::from("\"");
     for &byte in bytes {
         match byte {
             b'\n' => out.push_str("\\n"),
-            0x21..=0x7E if byte != b'"' && byte != b'\\' => out.push(byte.into()),
+            0x21..=0x7E if byte != b'\\' => out.push(byte.into()),
             _ => write!(out, "\\x{byte:02x}").expect("a string takes all"),
         }
     }
@@ -247,7 +255,7 @@ fn register(script: &mut Script) -> Result<&mut Register, String> {
 /// The action that the last call's lines are about: of a plan, the `planned`th.
 fn action(script: &mut Script, planned: usize) -> Result<&mut Action, String> {
     match script.calls.last_mut() {
-        Some(Call::Gate(action)) => Ok(action),
+        Some(Call::Gate(action) | Call::WriteJson { action, .. }) => Ok(action),
         Some(Call::Plan(plan)) => {
             let position = planned.checked_sub(1).ok_or("no action line before it")?;
             plan.actions.get_mut(position).ok_or_else(|| "too many actions".to_owned())
@@ -258,7 +266,7 @@ fn action(script: &mut Script, planned: usize) -> Result<&mut Action, String> {
 
 fn text<'s>(script: &'s mut Script, kind: &str) -> Result<&'s mut Vec<u8>, String> {
     match (script.calls.last_mut(), kind) {
-        (Some(Call::ReadRegister(text) | Call::ReadAction(text)), "text") => Ok(text),
+        (Some(Call::ReadRegister(text) | Call::ReadAction(text) | Call::ReadJson { text, .. }), "text") => Ok(text),
         (Some(Call::VerdictText { register, .. }), "register-text") => Ok(register),
         (Some(Call::VerdictText { action, .. }), "action-text") => Ok(action),
         _ => Err("the call before it has no such text".to_owned()),
@@ -295,6 +303,14 @@ fn call(name: &str, parts: &Parts) -> Result<Call, String> {
         "verdict_text" => Call::VerdictText {
             register: Vec::new(),
             action: Vec::new(),
+            room: number(parts, "room")?,
+            fill: number(parts, "fill")?,
+        },
+        "read_json" => Call::ReadJson { text: Vec::new(), now: number(parts, "now")? },
+        "write_json" => Call::WriteJson {
+            action: Box::new(Action::ZERO),
+            id: unquoted(value(parts, "id")?)?,
+            kind: number(parts, "kind")?,
             room: number(parts, "room")?,
             fill: number(parts, "fill")?,
         },

@@ -121,8 +121,10 @@ fn call_steps(call: &Call) -> usize {
             count + plan.actions[..count].iter().map(action_steps).sum::<usize>() + 1
         }
         Call::Contains { outer, inner } => outer.len() + inner.len() + outer.len().min(inner.len()),
-        Call::ReadRegister(text) | Call::ReadAction(text) => text_steps(text),
-        Call::VerdictText { register, action, .. } => text_steps(register) + text_steps(action) + 1,
+        Call::ReadRegister(text) | Call::ReadAction(text) => text_steps(text, LINE),
+        Call::VerdictText { register, action, .. } => text_steps(register, LINE) + text_steps(action, LINE) + 1,
+        Call::ReadJson { text, .. } => text_steps(text, MEMBER) + 1,
+        Call::WriteJson { action, id, .. } => action_steps(action) + id.len() + 2,
         Call::Sound | Call::Grant { .. } | Call::Revoke { .. } => 0,
         Call::WriteRegister { .. } => 1,
     }
@@ -160,12 +162,31 @@ fn step_call(call: &mut Call, mut step: usize) {
                 inner.remove(step - common - outer.len());
             }
         }
-        Call::ReadRegister(text) | Call::ReadAction(text) => step_text(text, step),
+        Call::ReadRegister(text) | Call::ReadAction(text) => step_text(text, LINE, step),
         Call::VerdictText { register, action, room, .. } => {
-            if step < text_steps(register) {
-                step_text(register, step);
-            } else if step - text_steps(register) < text_steps(action) {
-                step_text(action, step - text_steps(register));
+            let steps = text_steps(register, LINE);
+            if step < steps {
+                step_text(register, LINE, step);
+            } else if step - steps < text_steps(action, LINE) {
+                step_text(action, LINE, step - steps);
+            } else {
+                *room /= 2;
+            }
+        }
+        Call::ReadJson { text, now } => {
+            if step < text_steps(text, MEMBER) {
+                step_text(text, MEMBER, step);
+            } else {
+                *now = 0;
+            }
+        }
+        Call::WriteJson { action, id, kind, room, .. } => {
+            if step < action_steps(action) {
+                step_action(action, step);
+            } else if step - action_steps(action) < id.len() {
+                id.remove(step - action_steps(action));
+            } else if step - action_steps(action) == id.len() {
+                *kind = 0;
             } else {
                 *room /= 2;
             }
@@ -201,23 +222,32 @@ fn step_action(action: &mut Action, mut step: usize) {
     }
 }
 
-/// Halves, then lines, then single bytes of a short text.
-fn text_steps(text: &[u8]) -> usize {
-    let lines = text.split_inclusive(|&byte| byte == b'\n').count();
-    2 + lines + if text.len() <= 200 { text.len() } else { 0 }
+/// The parts of a text: the byte that each ends with, and how long a text is at most whose single bytes are tried too.
+type Parts = (u8, usize);
+
+const LINE: Parts = (b'\n', 200);
+const MEMBER: Parts = (b',', 1_000);
+
+fn lengths(text: &[u8], end: u8) -> Vec<usize> {
+    text.split_inclusive(|&byte| byte == end).map(<[u8]>::len).collect()
 }
 
-fn step_text(text: &mut Vec<u8>, step: usize) {
-    let lines: Vec<usize> = text.split_inclusive(|&byte| byte == b'\n').map(<[u8]>::len).collect();
+/// Halves, then parts, then single bytes of a short text.
+fn text_steps(text: &[u8], (end, short): Parts) -> usize {
+    2 + lengths(text, end).len() + if text.len() <= short { text.len() } else { 0 }
+}
+
+fn step_text(text: &mut Vec<u8>, (end, _): Parts, step: usize) {
+    let parts = lengths(text, end);
     match step {
         0 => text.truncate(text.len() / 2),
         1 => text.drain(..text.len() / 2).for_each(drop),
-        _ if step - 2 < lines.len() => {
-            let start: usize = lines[..step - 2].iter().sum();
-            text.drain(start..start + lines[step - 2]).for_each(drop);
+        _ if step - 2 < parts.len() => {
+            let start: usize = parts[..step - 2].iter().sum();
+            text.drain(start..start + parts[step - 2]).for_each(drop);
         }
         _ => {
-            text.remove(step - 2 - lines.len());
+            text.remove(step - 2 - parts.len());
         }
     }
 }

@@ -12,6 +12,10 @@ pub const ACTIONS: usize = 16;
 pub const VIOLATIONS: usize = 51;
 /// No text of a register is longer than this.
 pub const REGISTER_TEXT: usize = 37_741;
+/// No action that is written as JSON is longer than this.
+pub const JSON_TEXT: usize = 807;
+/// Bytes of a JSON action's id.
+pub const JSON_ID: usize = 64;
 
 pub const ID_MAX: u32 = 65_535;
 pub const RIGHTS_MAX: u32 = 131_071;
@@ -262,6 +266,21 @@ pub struct ActionRead {
     pub accepted: u32,
     pub refusal: u32,
     pub line: usize,
+}
+
+#[repr(C)]
+#[derive(Clone, Copy, Debug, PartialEq, Eq)]
+pub struct JsonRead {
+    pub action: Action,
+    pub accepted: u32,
+    pub refusal: u32,
+    pub kind: u32,
+    pub id_len: usize,
+    pub id: [u8; JSON_ID],
+}
+
+impl Zero for JsonRead {
+    const ZERO: Self = JsonRead { action: Action::ZERO, accepted: 0, refusal: 0, kind: 0, id_len: 0, id: [0; JSON_ID] };
 }
 
 #[repr(C)]

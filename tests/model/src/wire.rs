@@ -90,5 +90,6 @@ structs! {
     PlanVerdict { accepted, refusal, position, list, count }
     RegisterRead { state, accepted, refusal, line }
     ActionRead { action, accepted, refusal, line }
+    JsonRead { action, accepted, refusal, kind, id_len, id }
     Written { accepted, refusal, length }
 }

@@ -1,6 +1,6 @@
 -- `portal::guvrendik_gate` meets its contract: each number is that of the inner answer. Assumes nothing.
 use borrow.Author.Needs.{needs}
-use Rattle.portal.proofs.Telling.{gate-told}
+use Rattle.answers.specs.Laws.{gate-told}
 use Rattle.portal.proofs.guvrendik_gate.Statement.{statement}
 use Rattle.portal.proofs.guvrendik_gate.Tie as tie
 

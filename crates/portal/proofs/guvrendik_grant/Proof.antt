@@ -1,6 +1,6 @@
 -- `portal::guvrendik_grant` meets its contract: each number is that of the inner answer. Assumes nothing.
 use borrow.Author.Needs.{needs}
-use Rattle.portal.proofs.Telling.{grant-told}
+use Rattle.answers.specs.Laws.{grant-told}
 use Rattle.portal.proofs.guvrendik_grant.Statement.{statement}
 use Rattle.portal.proofs.guvrendik_grant.Tie as tie
 
@@ -14,7 +14,7 @@ refusal-requires : tie.Need-refusal-requires
 refusal-requires c κs = search needs
 
 returns : tie.Need-returns
-returns c = grant-told (c .before .before .before .grant .ensures) (c .before .accepted .ensures) (c .refusal .ensures)
+returns c = grant-told (c .before .before .before .grant .ensures) (c .before .before .accepted .ensures) (c .before .refusal .ensures)
 
 pub guvrendik-grant-spec : {M : Type 1} → statement M
 guvrendik-grant-spec = tie.close (tie.spec grant-requires accepted-requires refusal-requires returns)

@@ -1,6 +1,6 @@
 -- `portal::guvrendik_judge_plan` meets its contract: each number is that of the inner answer. Assumes nothing.
 use borrow.Author.Needs.{needs}
-use Rattle.portal.proofs.Telling.{plan-told}
+use Rattle.answers.specs.Laws.{plan-told}
 use Rattle.portal.proofs.guvrendik_judge_plan.Statement.{statement}
 use Rattle.portal.proofs.guvrendik_judge_plan.Tie as tie
 

@@ -1,6 +1,6 @@
 -- `portal::guvrendik_read_action` meets its contract: each number is that of the inner answer. Assumes nothing.
 use borrow.Author.Needs.{needs}
-use Rattle.portal.proofs.Telling.{action-told}
+use Rattle.answers.specs.Laws.{action-told}
 use Rattle.portal.proofs.guvrendik_read_action.Statement.{statement}
 use Rattle.portal.proofs.guvrendik_read_action.Tie as tie
 

@@ -1,6 +1,6 @@
 -- `portal::guvrendik_read_register` meets its contract: each number is that of the inner answer. Assumes nothing.
 use borrow.Author.Needs.{needs}
-use Rattle.portal.proofs.Telling.{register-told}
+use Rattle.answers.specs.Laws.{register-told}
 use Rattle.portal.proofs.guvrendik_read_register.Statement.{statement}
 use Rattle.portal.proofs.guvrendik_read_register.Tie as tie
 

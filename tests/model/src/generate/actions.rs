@@ -120,7 +120,7 @@ fn some_right(rights: u32, random: &mut Random) -> u32 {
 }
 
 /// Puts one number out of its range.
-fn spoil(random: &mut Random, action: &mut Action) {
+pub fn spoil(random: &mut Random, action: &mut Action) {
     match random.below(8) {
         0 => action.actor = *random.pick(&[65_536, 65_536 + (action.actor & ID_MAX), u32::MAX]),
         1 => action.flags = *random.pick(&[1_024, 1_025, 1 << 31, 65_536]),

@@ -4,6 +4,7 @@ use super::actions::moment;
 use super::random::Random;
 use super::registers::standing;
 use crate::case::Call;
+use crate::pairs::Pair;
 use guvrendik_model::types::*;
 
 /// A grant that mostly is acceptable but for one twist.
@@ -65,19 +66,8 @@ pub fn grant(random: &mut Random, register: &Register, keep: bool) -> Call {
 
 /// The one with the longest chain above it: at its end the hops run out.
 fn deepest<'c>(claims: &'c [Claim], parents: &[usize]) -> &'c Claim {
-    let hops = |at: &usize| {
-        let mut claim = &claims[*at];
-        (0..HOPS)
-            .take_while(|_| match claims.iter().find(|above| above.id == claim.parent) {
-                Some(above) => {
-                    claim = above;
-                    true
-                }
-                None => false,
-            })
-            .count()
-    };
-    &claims[*parents.iter().max_by_key(|at| hops(at)).expect("there are parents")]
+    let deepest = parents.iter().max_by_key(|&&at| chain(claims, claims[at].id).len());
+    &claims[*deepest.expect("there are parents")]
 }
 
 /// Ids are often small, so that freed ones come again.
@@ -147,15 +137,20 @@ fn twist(random: &mut Random, register: &Register, claim: &mut Claim, now: &mut 
     }
 }
 
-/// A revocation, mostly by someone on the claim's chain.
 pub fn revoke(random: &mut Random, register: &Register, keep: bool) -> Call {
+    let (revoker, claim) = revocation(random, register);
+    Call::Revoke { revoker, claim, keep }
+}
+
+/// Who revokes which claim, mostly someone on its chain.
+fn revocation(random: &mut Random, register: &Register) -> (u32, u32) {
     let claims = standing(&register.claims);
     let actors = standing(&register.actors);
     let some_id = random.between(0, ID_MAX as usize) as u32;
     if claims.is_empty() || random.chance(6) {
         let revoker = if actors.is_empty() || random.chance(30) { some_id } else { random.pick(actors).id };
         let claim = *random.pick(&[0, some_id, 65_536, u32::MAX]);
-        return Call::Revoke { revoker, claim, keep };
+        return (revoker, claim);
     }
     // Later claims take less with them, so that sequences keep something to go on.
     let at = claims.len()
@@ -174,5 +169,42 @@ pub fn revoke(random: &mut Random, register: &Register, keep: bool) -> Call {
         3 => call.1 = call.1.wrapping_add(65_536),
         _ => (),
     }
-    Call::Revoke { revoker: call.0, claim: call.1, keep }
+    call
+}
+
+/// The claim with this id, its parent, and so on.
+fn chain(claims: &[Claim], id: u32) -> Vec<&Claim> {
+    let named = |id: u32| claims.iter().find(|claim| claim.id == id);
+    // A register with a defect may have a circle.
+    std::iter::successors(named(id), |claim| named(claim.parent)).take(HOPS + 1).collect()
+}
+
+/// Two revocations on a register, half of them of claims on one chain.
+pub fn revoke_pair(random: &mut Random, register: Box<Register>) -> Pair {
+    let claims = standing(&register.claims);
+    let one = revocation(random, &register);
+    let [one, two] = match random.below(10) {
+        0 => [one, one],
+        1..=4 => [one, revocation(random, &register)],
+        _ if claims.is_empty() => [one, one],
+        _ => {
+            // The later ones often have something above them.
+            let below = &claims[claims.len() - 1 - random.below(claims.len().div_ceil(2))];
+            let above = *random.pick(&chain(claims, below.id));
+            [above, below].map(|claim| (caller(random, &register, claim), claim.id))
+        }
+    };
+    let is_above = |above: u32, below: u32| chain(claims, below).iter().any(|claim| claim.id == above);
+    let on_one_chain = is_above(one.1, two.1) || is_above(two.1, one.1);
+    let calls = [one, two].map(|(revoker, claim)| Call::Revoke { revoker, claim, keep: true });
+    Pair { register, calls, on_one_chain }
+}
+
+/// Who revokes a claim: mostly a grantor on its chain, else its holder or anyone.
+fn caller(random: &mut Random, register: &Register, claim: &Claim) -> u32 {
+    match random.below(10) {
+        0..=5 => random.pick(&chain(standing(&register.claims), claim.id)).grantor,
+        6..=8 => claim.holder,
+        _ => random.pick(&register.actors.list).id,
+    }
 }

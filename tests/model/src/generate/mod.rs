@@ -3,12 +3,14 @@
 pub mod actions;
 pub mod changes;
 pub mod defects;
+pub mod json;
 pub mod paths;
 pub mod random;
 pub mod registers;
 pub mod texts;
 
 use crate::case::{Call, Script};
+use crate::pairs::Pair;
 use defects::DEFECTS;
 use guvrendik_model::model::Model;
 use guvrendik_model::shapes::*;
@@ -39,6 +41,7 @@ impl Generator {
             calls: [REGISTER_TEXT, 37_731, 37_730, 0].map(|room| Call::WriteRegister { room, fill: 0xEE }).to_vec(),
         });
         scripts.push(Script::alone(Call::VerdictText { register, action, room: 100, fill: b'#' }));
+        scripts.extend(json::fixed());
         scripts
     }
 
@@ -53,7 +56,19 @@ impl Generator {
             self.defect(round),
             self.sequence(register),
             Script { register: None, calls: (0..18).map(|_| paths::pair(&mut self.random)).collect() },
+            self.json(),
         ]
+    }
+
+    /// The pairs of revocations of one round: on a sound register, and now and then on one with a defect.
+    pub fn pairs(&mut self, round: usize) -> Vec<Pair> {
+        let shape = self.shape(round);
+        let litter = self.random.chance(50);
+        let mut registers = vec![registers::sound(&mut self.random, shape, litter)];
+        if round % 8 == 0 {
+            registers.extend(self.defect(round).register);
+        }
+        registers.into_iter().map(|register| changes::revoke_pair(&mut self.random, register)).collect()
     }
 
     /// Large registers take the most time, and are the rarest.
@@ -140,6 +155,14 @@ impl Generator {
             calls.push(call);
         }
         Script { register: Some(register), calls }
+    }
+
+    /// Readings and writings of JSON actions.
+    fn json(&mut self) -> Script {
+        let random = &mut self.random;
+        let mut calls: Vec<Call> = (0..12).map(|_| json::reading(random)).collect();
+        calls.extend((0..8).map(|_| json::writing(random)));
+        Script { register: None, calls }
     }
 
     /// Readings and printings about the register's text.

@@ -75,7 +75,7 @@ fn line_starts(text: &[u8]) -> Vec<usize> {
     starts
 }
 
-const NUMBERS: [&str; 26] = [
+pub const NUMBERS: [&str; 26] = [
     "0",
     "1",
     "2",

@@ -40,7 +40,8 @@ impl Verdict {
 }
 
 impl Action {
-    fn in_range(&self) -> bool {
+    /// Whether every number and both counts are in their range.
+    pub fn in_range(&self) -> bool {
         let (Some(uses), Some(governs)) = (self.uses.get(..self.used), self.governs.get(..self.governed)) else {
             return false;
         };

@@ -3,12 +3,15 @@
 mod gate;
 mod grant;
 mod ids;
+pub mod json;
 pub mod paths;
 mod plan;
 mod revoke;
 mod rules;
 pub mod text;
 
+#[cfg(test)]
+mod json_tests;
 #[cfg(test)]
 mod tests;
 
@@ -60,6 +63,10 @@ pub enum Refusal {
     Count = 20,
     /// The buffer is too short for the text.
     Buffer = 21,
+    /// The JSON action is of another form, has a number out of range or more than 32 uses.
+    JsonForm = 24,
+    /// A right above 2 or a governed entry, for which a JSON action has no place.
+    JsonLacks = 25,
 }
 
 /// A fault put into the model on purpose, to show that the comparison finds it.
@@ -69,21 +76,30 @@ pub enum Fault {
     ExpiryEqualLive,
     /// A revocation takes the claim and its direct children only.
     DirectChildren,
+    /// A revocation takes the claim alone.
+    OnlyNamed,
     /// A number with a leading zero is read.
     LeadingZero,
     /// The hop count is that of the last covering claim.
     OtherHops,
     /// An action after a flagged one is judged.
     CancelledJudged,
+    /// A JSON action's second actor is taken, in place of the first.
+    SecondActorTaken,
+    /// A buffer too short for a JSON action gets the beginning of it.
+    ShortBufferBegun,
 }
 
 impl Fault {
-    pub const ALL: [(&'static str, Fault); 5] = [
+    pub const ALL: [(&'static str, Fault); 8] = [
         ("expiry-equal-live", Fault::ExpiryEqualLive),
         ("direct-children", Fault::DirectChildren),
+        ("only-named", Fault::OnlyNamed),
         ("leading-zero", Fault::LeadingZero),
         ("other-hops", Fault::OtherHops),
         ("cancelled-judged", Fault::CancelledJudged),
+        ("second-actor-taken", Fault::SecondActorTaken),
+        ("short-buffer-begun", Fault::ShortBufferBegun),
     ];
 }
 

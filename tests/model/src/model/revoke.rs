@@ -34,6 +34,7 @@ impl Model {
         for position in revoked + 1..sound.claims.len() {
             goes[position] = sound.parent(position).is_some_and(|above| match self.fault {
                 Some(Fault::DirectChildren) => above == revoked,
+                Some(Fault::OnlyNamed) => false,
                 _ => goes[above],
             });
         }

@@ -22,6 +22,18 @@ struct Lines<'t> {
 const ANY_ID: RangeInclusive<u64> = 0..=ID_MAX as u64;
 const REAL_ID: RangeInclusive<u64> = 1..=ID_MAX as u64;
 
+/// The decimal that the digits are, of any length; one above 2^64 - 1 is given as that.
+pub fn decimal(digits: &[u8], leading_zeros: bool) -> Option<u64> {
+    let is_decimal = match digits {
+        [] => false,
+        [b'0', _, ..] if !leading_zeros => false,
+        _ => digits.iter().all(u8::is_ascii_digit),
+    };
+    is_decimal.then(|| {
+        digits.iter().fold(0, |number: u64, digit| number.saturating_mul(10).saturating_add(u64::from(digit - b'0')))
+    })
+}
+
 impl<'t> Lines<'t> {
     fn fail<T>(&self, refusal: Refusal) -> Result<T, Unread> {
         Err(Unread { refusal, line: self.line })
@@ -39,20 +51,13 @@ impl<'t> Lines<'t> {
         Ok(&value[..end])
     }
 
-    /// The decimal on the next line, of any length; one above 2^64 - 1 is given as that.
+    /// The decimal on the next line.
     fn decimal(&mut self, key: &str) -> Result<u64, Unread> {
         let digits = self.value(key)?;
-        let is_decimal = match digits {
-            [] => false,
-            [b'0', _, ..] if !self.leading_zeros => false,
-            _ => digits.iter().all(u8::is_ascii_digit),
-        };
-        if !is_decimal {
-            return self.fail(Refusal::Form);
+        match decimal(digits, self.leading_zeros) {
+            Some(number) => Ok(number),
+            None => self.fail(Refusal::Form),
         }
-        Ok(digits
-            .iter()
-            .fold(0, |number: u64, digit| number.saturating_mul(10).saturating_add(u64::from(digit - b'0'))))
     }
 
     fn number(&mut self, key: &str, range: RangeInclusive<u64>) -> Result<u64, Unread> {
@@ -160,10 +165,10 @@ impl<'t> Lines<'t> {
 }
 
 /// Where a text goes.
-trait Sink {
+pub trait Sink {
     fn bytes(&mut self, bytes: &[u8]);
 
-    fn line(&mut self, key: &str, number: u64) {
+    fn number(&mut self, number: u64) {
         // Twenty digits hold every u64.
         let mut digits = [0; 20];
         let mut start = digits.len();
@@ -176,7 +181,14 @@ trait Sink {
                 break;
             }
         }
-        self.words(key, &digits[start..]);
+        self.bytes(&digits[start..]);
+    }
+
+    fn line(&mut self, key: &str, number: u64) {
+        self.bytes(key.as_bytes());
+        self.bytes(b"=");
+        self.number(number);
+        self.bytes(b"\n");
     }
 
     fn words(&mut self, key: &str, value: &[u8]) {
@@ -210,7 +222,7 @@ impl Sink for Filling<'_> {
 }
 
 /// Something with a text.
-trait Text {
+pub trait Text {
     fn text(&self, out: &mut impl Sink);
 
     /// Writes the text to the front of the buffer and answers its length. A buffer too short is left as it was.
@@ -301,6 +313,31 @@ impl Model {
     pub fn read_action(&self, text: &[u8]) -> Result<Action, Unread> {
         let mut action = Action::ZERO;
         self.lines(text).action(&mut action).map(|()| action)
+    }
+
+    /// The moment that a clock's text gives: one line, its number of any size.
+    fn read_clock(&self, text: &[u8]) -> Result<u64, Unread> {
+        let mut lines = self.lines(text);
+        let now = lines.decimal("now")?;
+        lines.end().map(|()| now)
+    }
+
+    /// Writes what the program for JSON actions prints for these three texts, and answers its length.
+    pub fn json_verdict_text(
+        &self,
+        register: &[u8],
+        clock: &[u8],
+        action: &[u8],
+        buffer: &mut [u8],
+    ) -> Result<usize, Refusal> {
+        let mut read = Register::EMPTY;
+        let now = self.read_register(register, &mut read).and_then(|()| self.read_clock(clock));
+        let verdict = match now.map(|now| self.read_json(action, now)) {
+            Err(unread) => Verdict::stopped(unread.refusal),
+            Ok(JsonRead { accepted: 0, refusal, .. }) => Verdict { decision: STOPPED, refusal, ..Verdict::EMPTY },
+            Ok(JsonRead { action, .. }) => self.gate(&read, &action),
+        };
+        verdict.write(buffer)
     }
 
     /// Writes what the printing program prints for these two texts, and answers its length.

@@ -1,0 +1,21 @@
+-- `answers::accepted` meets its contract: each arm by the outcome that it is for. Assumes nothing.
+use mathlib.Core.Path.{sym, ap}
+use borrow.Author.Needs.{needs}
+use Rattle.answers.specs.Answers.{acceptedNumber}
+use Rattle.answers.proofs.accepted.Statement.{statement}
+use Rattle.answers.proofs.accepted.Tie as tie
+
+enum-told : tie.Need-enum-told
+enum-told c = search needs
+
+enum-told-2 : tie.Need-enum-told-2
+enum-told-2 c = search needs
+
+returns : tie.Need-returns
+returns c = sym (ap acceptedNumber (c .enum-told .given .1))
+
+returns-2 : tie.Need-returns-2
+returns-2 c = sym (ap acceptedNumber (c .enum-told2 .given .1))
+
+pub accepted-spec : {M : Type 1} → statement M
+accepted-spec = tie.close (tie.spec enum-told enum-told-2 returns returns-2)

@@ -1,0 +1,68 @@
+-- `answers::violations` meets its contract. The loop's invariant: the numbers of the violations passed are in their places, and zeros past them
+-- (Filling). The measure is the number of violations left. Assumes nothing.
+use mathlib.Core.Path.{refl}
+use Prim.Native.Nat.{_-_}
+use borrow.Author.Needs.{needs}
+use Rattle.lists.specs.Loops.{length-mapped}
+use Rattle.actions.specs.Actions.{violationLimit}
+use Rattle.answers.specs.Answers.{violationNumbers, noViolation}
+use Rattle.answers.proofs.Filling.{Filling, filling-start, filling-next, filling-done}
+use Rattle.answers.proofs.violations.Statement.{statement}
+use Rattle.answers.proofs.violations.Tie as tie
+
+abbrev Inv-loop : tie.InvT-loop
+Inv-loop vs top list₀ i₀ list i = Filling (λ e. violationNumbers (e .what)) noViolation violationLimit (vs .count) (vs .list) top list i
+
+abbrev μ-loop : tie.MeasureT-loop
+μ-loop vs top list₀ i₀ list i = top - i
+
+least-requires : tie.Need-least-requires Inv-loop μ-loop
+least-requires c κs = search needs
+
+loop-holds : tie.Need-loop-holds Inv-loop μ-loop
+loop-holds c = filling-start (search (needs, length-mapped)) (c .least .ensures) refl
+
+mul-v : tie.Need-mul-v Inv-loop μ-loop
+mul-v c = search needs
+
+element-copy-out-v : tie.Need-element-copy-out-v Inv-loop μ-loop
+element-copy-out-v c = search needs
+
+violation-requires : tie.Need-violation-requires Inv-loop μ-loop
+violation-requires c κs = search needs
+
+mul-list : tie.Need-mul-list Inv-loop μ-loop
+mul-list c = search needs
+
+array-set-from-list : tie.Need-array-set-from-list Inv-loop μ-loop
+array-set-from-list c = search needs
+
+add-i : tie.Need-add-i Inv-loop μ-loop
+add-i c = search needs
+
+loop-less : tie.Need-loop-less Inv-loop μ-loop
+loop-less c = search needs
+
+loop-again : tie.Need-loop-again Inv-loop μ-loop
+loop-again c = filling-next (c .before .before .before .loop .inv) _ (c .before .before .loop-test .taken) (c .violation .ensures)
+
+returns : tie.Need-returns Inv-loop μ-loop
+returns c = filling-done (c .before .loop .inv) (c .loop-test .left)
+
+pub violations-spec : {M : Type 1} → statement M
+violations-spec =
+    tie.close
+    (tie.spec
+    Inv-loop
+    μ-loop
+    least-requires
+    loop-holds
+    mul-v
+    element-copy-out-v
+    violation-requires
+    mul-list
+    array-set-from-list
+    add-i
+    loop-less
+    loop-again
+    returns)

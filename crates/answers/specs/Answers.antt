@@ -1,0 +1,160 @@
+-- What the exported calls answer: for each inner answer the struct of numbers that crosses to the portal. No answer whose numbers are all zero
+-- is a yes. Assumes nothing.
+use mathlib.Core.Bool.{Bool, cond}
+use mathlib.Core.List.{List, _++_, map}
+use Prim.Native.Nat.{ℕ, _-_}
+use lib.ListN.{length, take, replicate}
+use Rattle.changes.specs.Refusals.{numberOf}
+use Rattle.changes.specs.declared.Outcome.{Outcome}
+use Rattle.changes.specs.declared.Outcome.the-variants.{Accepted, Refused as RefusedFor}
+use Rattle.changes.specs.declared.Granted.{Granted}
+use Rattle.changes.specs.declared.Revoked.{Revoked}
+use Rattle.actions.specs.Actions.{violationLimit, actionLimit, kindOf, valueOf, judgementNumber, judgementValue}
+use Rattle.actions.specs.declared.Violation.{Violation}
+use Rattle.actions.specs.declared.Violations.{Violations}
+use Rattle.actions.specs.declared.Decision.{Decision}
+use Rattle.actions.specs.declared.Decision.the-variants.{Permitted, Refused, Stopped}
+use Rattle.actions.specs.declared.Verdict.{Verdict}
+use Rattle.actions.specs.declared.Judgement.{Judgement}
+use Rattle.actions.specs.declared.PlanVerdict.{PlanVerdict}
+use Rattle.texts.specs.declared.RegisterRead.{RegisterRead}
+use Rattle.texts.specs.declared.ActionRead.{ActionRead}
+use Rattle.texts.specs.declared.Written.{Written}
+use Rattle.json_actions.specs.declared.JsonRead.{JsonRead}
+use Rattle.answers.specs.declared.Containment.{Containment}
+use Rattle.answers.specs.declared.Soundness.{Soundness}
+use Rattle.answers.specs.declared.GrantAnswer.{GrantAnswer}
+use Rattle.answers.specs.declared.RevokeAnswer.{RevokeAnswer}
+use Rattle.answers.specs.declared.ViolationNumbers.{ViolationNumbers}
+use Rattle.answers.specs.declared.GateAnswer.{GateAnswer}
+use Rattle.answers.specs.declared.JudgementNumbers.{JudgementNumbers}
+use Rattle.answers.specs.declared.PlanAnswer.{PlanAnswer}
+use Rattle.answers.specs.declared.RegisterAnswer.{RegisterAnswer}
+use Rattle.answers.specs.declared.ActionAnswer.{ActionAnswer}
+use Rattle.answers.specs.declared.WrittenAnswer.{WrittenAnswer}
+use Rattle.answers.specs.declared.JsonAnswer.{JsonAnswer}
+
+-- a yes is 1 and a no is 0
+abbrev pub yesNumber : Bool → ℕ
+yesNumber held = cond held 1 0
+
+abbrev pub containment : Bool → Containment
+containment held = record { contained = yesNumber held }
+
+abbrev pub soundness : Bool → Soundness
+soundness held = record { sound = yesNumber held }
+
+-- accepted is 1 and refused is 0
+abbrev pub acceptedNumber : Outcome → ℕ
+acceptedNumber Accepted = 1
+acceptedNumber (RefusedFor why) = 0
+
+-- 01's number of the refusal, 0 where there is none
+abbrev pub refusalNumber : Outcome → ℕ
+refusalNumber Accepted = 0
+refusalNumber (RefusedFor why) = numberOf why
+
+-- a grant: the register as the grant leaves it, beside its outcome
+abbrev pub grantAnswer : Granted → GrantAnswer
+grantAnswer g = record { state = g .register; accepted = acceptedNumber (g .outcome); refusal = refusalNumber (g .outcome) }
+
+-- a revocation: the register as it leaves it, beside its outcome and how many claims went
+abbrev pub revokeAnswer : Revoked → RevokeAnswer
+revokeAnswer g = record {
+  state = g .register;
+  accepted = acceptedNumber (g .outcome);
+  refusal = refusalNumber (g .outcome);
+  removed = g .removed;
+}
+
+-- permitted is 1, refused is 2 and stopped is 3
+abbrev pub decisionNumber : Decision → ℕ
+decisionNumber Permitted = 1
+decisionNumber Refused = 2
+decisionNumber (Stopped why) = 3
+
+-- 01's number of the refusal that stopped a call, 0 where none did
+abbrev pub stopNumber : Decision → ℕ
+stopNumber Permitted = 0
+stopNumber Refused = 0
+stopNumber (Stopped why) = numberOf why
+
+-- f of each of the first k, and nothing but `none` in the places past them, of which there are `most` in all
+abbrev pub filled : {A B : Type 0} → (A → B) → B → ℕ → ℕ → List A → List B
+filled f none most k l = map f (take k l) ++ replicate (most - length (take k l)) none
+
+-- the kind of a violation and what it is about; a place without one holds zeros
+abbrev pub violationNumbers : Violation → ViolationNumbers
+violationNumbers v = record { kind = kindOf v; value = valueOf v }
+
+abbrev pub noViolation : ViolationNumbers
+noViolation = record { kind = 0; value = 0 }
+
+abbrev pub violationList : Violations → List ViolationNumbers
+violationList vs = filled (λ v. violationNumbers (v .what)) noViolation violationLimit (vs .count) (vs .list)
+
+-- the gate: the decision, the refusal that stopped it, the violations with their count, and the hop counts
+abbrev pub gateAnswer : Verdict → GateAnswer
+gateAnswer v = record {
+  decision = decisionNumber (v .decision);
+  refusal = stopNumber (v .decision);
+  violations = violationList (v .violations);
+  count = v .violations .count;
+  hops = v .hops;
+}
+
+-- the number of a plan's verdict on an action and its number of violations; a place without one holds zeros
+abbrev pub judgementNumbers : Judgement → JudgementNumbers
+judgementNumbers j = record { decision = judgementNumber j; violations = judgementValue j }
+
+abbrev pub noJudgement : JudgementNumbers
+noJudgement = record { decision = 0; violations = 0 }
+
+abbrev pub judgementList : PlanVerdict → List JudgementNumbers
+judgementList v = filled (λ j. judgementNumbers (j .what)) noJudgement actionLimit (v .count) (v .list)
+
+-- a plan: the outcome, the position of the action that stopped it, and the verdicts with their count
+abbrev pub planAnswer : PlanVerdict → PlanAnswer
+planAnswer v = record {
+  accepted = acceptedNumber (v .outcome);
+  refusal = refusalNumber (v .outcome);
+  position = v .position;
+  list = judgementList v;
+  count = v .count;
+}
+
+-- a reading: the register or the action, beside its outcome and the line
+abbrev pub registerAnswer : RegisterRead → RegisterAnswer
+registerAnswer r = record {
+  state = r .register;
+  accepted = acceptedNumber (r .outcome);
+  refusal = refusalNumber (r .outcome);
+  line = r .line;
+}
+
+abbrev pub actionAnswer : ActionRead → ActionAnswer
+actionAnswer r = record {
+  action = r .action;
+  accepted = acceptedNumber (r .outcome);
+  refusal = refusalNumber (r .outcome);
+  line = r .line;
+}
+
+-- a writing: its outcome and the length of the text
+abbrev pub writtenAnswer : Written → WrittenAnswer
+writtenAnswer w = record {
+  accepted = acceptedNumber (w .outcome);
+  refusal = refusalNumber (w .outcome);
+  length = w .length;
+}
+
+-- a reading of a JSON action: the action beside its outcome, its kind and its id
+abbrev pub jsonAnswer : JsonRead → JsonAnswer
+jsonAnswer r = record {
+  action = r .action;
+  accepted = acceptedNumber (r .outcome);
+  refusal = refusalNumber (r .outcome);
+  kind = r .kind;
+  len = r .len;
+  id = r .id;
+}

@@ -1,0 +1,236 @@
+// The answers that cross to the portal: structs of numbers, and what gives the numbers of an inner answer. No call asks anything of its
+// caller, and no answer whose numbers are all zero is a yes.
+ghost use mathlib.Core.Path.{_≡_};
+ghost use Rattle.answers.specs.Answers.{yesNumber, acceptedNumber, refusalNumber, decisionNumber, stopNumber};
+ghost use Rattle.answers.specs.Answers.{violationNumbers, violationList, judgementNumbers, judgementList, writtenAnswer};
+use actions::Action;
+use actions::Decision;
+use actions::Judgement;
+use actions::Plan;
+use actions::PlanVerdict;
+use actions::Violation;
+use actions::Violations;
+use changes::Outcome;
+use json_actions::ID_BYTES;
+use register::Register;
+use texts::Written;
+
+// The answer of a containment: 1 for a yes, 0 for a no.
+#[repr(C)]
+pub struct Containment {
+    pub contained: u32,
+}
+
+// Whether a register is sound: 1 for a yes, 0 for a no.
+#[repr(C)]
+pub struct Soundness {
+    pub sound: u32,
+}
+
+// The answer of a grant: accepted is 1, with the claim in the register. Else it is 0, with 01's number and the register as it came.
+#[repr(C)]
+pub struct GrantAnswer {
+    pub state: Register,
+    pub accepted: u32,
+    pub refusal: u32,
+}
+
+// The answer of a revocation: accepted is 1, with how many claims went. Else it is 0, with 01's number and the register as it came.
+#[repr(C)]
+pub struct RevokeAnswer {
+    pub state: Register,
+    pub accepted: u32,
+    pub refusal: u32,
+    pub removed: usize,
+}
+
+// 01's number of a violation's kind, and the flag, actor or position that it is about.
+#[repr(C)]
+pub struct ViolationNumbers {
+    pub kind: u32,
+    pub value: u32,
+}
+
+// The answer of the gate: permitted is 1, refused is 2 with the violations, stopped is 3 with 01's number. Past the counts, zeros.
+#[repr(C)]
+pub struct GateAnswer {
+    pub decision: u32,
+    pub refusal: u32,
+    pub violations: [ViolationNumbers; Violations::MOST],
+    pub count: usize,
+    pub hops: [usize; Action::USES],
+}
+
+// The verdict on an action of a plan: permitted is 1, refused is 2 with its number of violations, cancelled is 3.
+#[repr(C)]
+pub struct JudgementNumbers {
+    pub decision: u32,
+    pub violations: usize,
+}
+
+// The answer for a plan: accepted is 1, with a verdict to each action. Else it is 0, with 01's number and the position of the action that
+// stopped the plan. Past the count, zeros.
+#[repr(C)]
+pub struct PlanAnswer {
+    pub accepted: u32,
+    pub refusal: u32,
+    pub position: usize,
+    pub list: [JudgementNumbers; Plan::ACTIONS],
+    pub count: usize,
+}
+
+// The answer of a reading of a register's text: accepted is 1, with the register and line 0. Else it is 0, with 01's number, the empty
+// register, and the failing line from 1, or 0 where the register is not sound.
+#[repr(C)]
+pub struct RegisterAnswer {
+    pub state: Register,
+    pub accepted: u32,
+    pub refusal: u32,
+    pub line: usize,
+}
+
+// The answer of a reading of an action's text: accepted is 1, with the action and line 0. Else it is 0, with 01's number, the action of all
+// zeros and the failing line from 1.
+#[repr(C)]
+pub struct ActionAnswer {
+    pub action: Action,
+    pub accepted: u32,
+    pub refusal: u32,
+    pub line: usize,
+}
+
+// The answer of a reading of a JSON action: accepted is 1, with the action, its kind and its id, zeros behind it. Else it is 0, with 01's
+// number, the action of all zeros, no id, and kind 0.
+#[repr(C)]
+pub struct JsonAnswer {
+    pub action: Action,
+    pub accepted: u32,
+    pub refusal: u32,
+    pub kind: u32,
+    pub len: usize,
+    pub id: [u8; ID_BYTES],
+}
+
+// The answer of a writing: accepted is 1, with the length of the text. Else it is 0, with 01's number and length 0.
+#[repr(C)]
+pub struct WrittenAnswer {
+    pub accepted: u32,
+    pub refusal: u32,
+    pub length: usize,
+}
+
+// A yes is 1 and a no is 0.
+pub fn yes(held: bool) -> u32
+    ensures { λ y. ⌜ y ≡ yesNumber held ⌝ }
+{
+    if held { 1 } else { 0 }
+}
+
+// Accepted is 1 and refused is 0.
+pub fn accepted(o: Outcome) -> u32
+    ensures { λ y. ⌜ y ≡ acceptedNumber o ⌝ }
+{
+    match o {
+        Outcome::Accepted => 1,
+        Outcome::Refused(_) => 0,
+    }
+}
+
+// 01's number of the refusal, 0 where there is none.
+pub fn refusal(o: Outcome) -> u32
+    ensures { λ y. ⌜ y ≡ refusalNumber o ⌝ }
+{
+    match o {
+        Outcome::Accepted => 0,
+        Outcome::Refused(why) => changes::number(why),
+    }
+}
+
+// Permitted is 1, refused is 2 and stopped is 3.
+pub fn decision(d: Decision) -> u32
+    ensures { λ y. ⌜ y ≡ decisionNumber d ⌝ }
+{
+    match d {
+        Decision::Permitted => 1,
+        Decision::Refused => 2,
+        Decision::Stopped(_) => 3,
+    }
+}
+
+// 01's number of the refusal that stopped a call, 0 where none did.
+pub fn stop(d: Decision) -> u32
+    ensures { λ y. ⌜ y ≡ stopNumber d ⌝ }
+{
+    match d {
+        Decision::Permitted => 0,
+        Decision::Refused => 0,
+        Decision::Stopped(why) => changes::number(why),
+    }
+}
+
+fn violation(v: Violation) -> ViolationNumbers
+    ensures { λ y. ⌜ y ≡ violationNumbers v ⌝ }
+{
+    ViolationNumbers {
+        kind: actions::kind(v),
+        value: actions::value(v),
+    }
+}
+
+// The violations below the count, and zeros past them.
+pub fn violations(vs: Violations) -> [ViolationNumbers; Violations::MOST]
+    ensures { λ y. ⌜ y ≡ violationList vs ⌝ }
+{
+    let top = columns::least(vs.count, Violations::MOST);
+    let none = ViolationNumbers { kind: 0, value: 0 };
+    let mut list = [none; Violations::MOST];
+    let mut i: usize = 0;
+    while i < top {
+        let v = vs.list[i];
+        let what = v.what;
+        list[i] = violation(what);
+        i += 1;
+    }
+    list
+}
+
+fn judgement(j: Judgement) -> JudgementNumbers
+    ensures { λ y. ⌜ y ≡ judgementNumbers j ⌝ }
+{
+    JudgementNumbers {
+        decision: actions::judgement_number(j),
+        violations: actions::judgement_value(j),
+    }
+}
+
+// The verdicts below the count, and zeros past them.
+pub fn judgements(v: PlanVerdict) -> [JudgementNumbers; Plan::ACTIONS]
+    ensures { λ y. ⌜ y ≡ judgementList v ⌝ }
+{
+    let top = columns::least(v.count, Plan::ACTIONS);
+    let none = JudgementNumbers {
+        decision: 0,
+        violations: 0,
+    };
+    let mut list = [none; Plan::ACTIONS];
+    let mut i: usize = 0;
+    while i < top {
+        let j = v.list[i];
+        let what = j.what;
+        list[i] = judgement(what);
+        i += 1;
+    }
+    list
+}
+
+// A writing: its outcome and the length of the text.
+pub fn written(w: Written) -> WrittenAnswer
+    ensures { λ y. ⌜ y ≡ writtenAnswer w ⌝ }
+{
+    let outcome = w.outcome;
+    WrittenAnswer {
+        accepted: accepted(outcome),
+        refusal: refusal(outcome),
+        length: w.length,
+    }
+}

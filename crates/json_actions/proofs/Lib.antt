@@ -1,0 +1,15 @@
+pub mod Naming
+pub mod Cases
+pub mod Holding
+pub mod Taking
+pub mod Spelling
+pub mod Bits
+pub mod Ordering
+pub mod ReadWritten
+pub mod Shuffling
+pub mod Own
+pub mod OwnMembers
+pub mod Answering
+pub mod WrittenRead
+pub mod OneText
+pub mod Theorems

@@ -1,0 +1,12 @@
+pub mod Lists
+pub mod Distinct
+pub mod Flags
+pub mod FlagSettings
+pub mod Places
+pub mod Keys
+pub mod Values
+pub mod Fillings
+pub mod Drafts
+pub mod Turns
+pub mod Wholes
+pub mod Readings

@@ -1,0 +1,5 @@
+pub mod Tokens
+pub mod Answers
+pub mod Laws
+pub mod Spelling
+pub mod SpellingLaws

@@ -1,0 +1,4 @@
+pub mod Joining
+pub mod Listing
+pub mod Composing
+pub mod Theorems

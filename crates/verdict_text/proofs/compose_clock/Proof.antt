@@ -1,0 +1,142 @@
+-- `verdict_text::compose_clock` meets its contract: a clock that is read judges the JSON action's text at its moment; else the lines of the
+-- clock's refusal are put. Assumes nothing.
+use Prim.Native.Nat.{ℕ, _-_}
+use mathlib.Core.Path.{_≡_, sym, ap, _∙_}
+use mathlib.Core.Bool.{cond}
+use native.Mathlib.Omega.{arith}
+use borrow.Author.Needs.{needs}
+use borrow.Author.Tests.{eq-eqb, ne-eqb}
+use Rattle.register.specs.Limits.{momentEnd}
+use Rattle.changes.specs.declared.Refusal.the-variants.{OutOfRange, BadForm}
+use Rattle.lines.specs.Reading.{State, count, countRefusal, readForm, closed, stateOf}
+use Rattle.texts.specs.Keys.{nowKey}
+use Rattle.reading.specs.Runs.{run-start, stands-failed, stands-going}
+use Rattle.json_actions.specs.Actions.{jsonRead}
+use Rattle.verdict_text.specs.Printed.{stoppedText, jsonLines, clockRefusal, clockRead, clockLines}
+use Rattle.verdict_text.specs.Lengths.{stopped-length}
+use Rattle.verdict_text.proofs.Joining.{same-written}
+use Rattle.verdict_text.proofs.Composing.{clock-going, clock-failed}
+use Rattle.verdict_text.proofs.compose_clock.Statement.{statement}
+use Rattle.verdict_text.proofs.compose_clock.Tie as tie
+
+-- the moment that is read, and where the reading of the clock ends
+begun : (c : tie.After-read-count) →
+    let clock = c .before .before .before .before .before .before .args .clock .now in
+    (c .read-count .result .value ≡ clockRead clock .value) × (stateOf clock (c .read-count .result .cursor) ≡ clockRead clock .state)
+begun c =
+    let clock = c .before .before .before .before .before .before .args .clock .now in
+    let start = c .before .before .start in
+    let first = run-start clock (start .result) (start .ensures) in (
+      c .read-count .ensures .value ∙ ap (λ (st : State). readForm (count nowKey (momentEnd - 1)) st .value) first,
+      c .read-count .ensures .state ∙ ap (λ (st : State). readForm (count nowKey (momentEnd - 1)) st .state) first,
+    )
+
+ended : (c : tie.After-finish) →
+    let clock = c .before .before .before .before .before .before .before .args .clock .now in
+    stateOf clock (c .finish .result) ≡ closed (clockRead clock .state)
+ended c = c .finish .ensures ∙ ap closed (begun (c .before) .1)
+
+-- a refusal by which the clock's is told
+other : (why : ℕ) → (why ≡ countRefusal → ⊥) → clockRefusal why ≡ BadForm
+other why h = ap (λ b. cond b OutOfRange BadForm) (ne-eqb why countRefusal h)
+
+large : (why : ℕ) → why ≡ countRefusal → clockRefusal why ≡ OutOfRange
+large why h = ap (λ b. cond b OutOfRange BadForm) (eq-eqb why countRefusal h)
+
+start-requires : tie.Need-start-requires
+start-requires c κs = search needs
+
+slice-aggregate-read-count : tie.Need-slice-aggregate-read-count
+slice-aggregate-read-count c = search needs
+
+read-count-requires : tie.Need-read-count-requires
+read-count-requires c κs = search needs
+
+finish-requires : tie.Need-finish-requires
+finish-requires c κs = search needs
+
+goes-on-requires : tie.Need-goes-on-requires
+goes-on-requires c κs = search needs
+
+compose-json-requires : tie.Need-compose-json-requires
+compose-json-requires c κs = search needs
+
+same-length : tie.Need-same-length
+same-length c = search needs
+
+returns : tie.Need-returns
+returns c =
+    let call = c .before .before .compose-json in
+    let test = c .before .before .before .before in
+    let end = test .before .before in
+    let read = end .before in
+    let a = read .before .before .before .before .before .before .args in
+    let moment = read .read-count .result .value in
+    let going = stands-going (a .clock .now) (end .finish .result) (sym (test .before .goes-on .ensures) ∙ test .if1 .taken) in
+    same-written (jsonLines (a .register) (jsonRead (a .action .now) moment .outcome) (jsonRead (a .action .now) moment .action))
+    (clockLines (a .register) (closed (clockRead (a .clock .now) .state)) (clockRead (a .clock .now) .value) (a .action .now)) (a .buf .now)
+    (clock-going (a .register) (a .clock .now) (a .action .now) (begun read .0) (sym (ended end) ∙ going))
+    (call .ensures .0) (call .ensures .1)
+
+put-stopped-requires : tie.Need-put-stopped-requires
+put-stopped-requires c κs =
+    omega (arith, stopped-length OutOfRange, c .before .before .before .before .before .before .before .before .before .before .before .before .pre)
+
+same-length-2 : tie.Need-same-length-2
+same-length-2 c = search needs
+
+returns-2 : tie.Need-returns-2
+returns-2 c =
+    let call = c .before .before .put-stopped in
+    let which = c .before .before .before .before in
+    let test = which .before .before in
+    let end = test .before .before in
+    let a = end .before .before .before .before .before .before .before .args in
+    let why = end .finish .result .refusal in
+    let failed = stands-failed (a .clock .now) (end .finish .result) (sym (test .before .goes-on .ensures) ∙ test .if1 .left) in
+    same-written (stoppedText OutOfRange)
+    (clockLines (a .register) (closed (clockRead (a .clock .now) .state)) (clockRead (a .clock .now) .value) (a .action .now)) (a .buf .now)
+    (clock-failed (a .register) (a .clock .now) (a .action .now) why (end .finish .result .line) (sym (ended end) ∙ failed)
+    ∙ ap stoppedText (large why (which .if2 .taken)))
+    (call .ensures .0) (call .ensures .1)
+
+put-stopped-requires-2 : tie.Need-put-stopped-requires-2
+put-stopped-requires-2 c κs =
+    omega (arith, stopped-length BadForm, c .before .before .before .before .before .before .before .before .before .before .before .before .pre)
+
+same-length-3 : tie.Need-same-length-3
+same-length-3 c = search needs
+
+returns-3 : tie.Need-returns-3
+returns-3 c =
+    let call = c .before .before .put-stopped2 in
+    let which = c .before .before .before .before in
+    let test = which .before .before in
+    let end = test .before .before in
+    let a = end .before .before .before .before .before .before .before .args in
+    let why = end .finish .result .refusal in
+    let failed = stands-failed (a .clock .now) (end .finish .result) (sym (test .before .goes-on .ensures) ∙ test .if1 .left) in
+    same-written (stoppedText BadForm)
+    (clockLines (a .register) (closed (clockRead (a .clock .now) .state)) (clockRead (a .clock .now) .value) (a .action .now)) (a .buf .now)
+    (clock-failed (a .register) (a .clock .now) (a .action .now) why (end .finish .result .line) (sym (ended end) ∙ failed)
+    ∙ ap stoppedText (other why (which .if2 .left)))
+    (call .ensures .0) (call .ensures .1)
+
+pub compose-clock-spec : {M : Type 1} → statement M
+compose-clock-spec =
+    tie.close
+    (tie.spec
+    start-requires
+    slice-aggregate-read-count
+    read-count-requires
+    finish-requires
+    goes-on-requires
+    compose-json-requires
+    same-length
+    returns
+    put-stopped-requires
+    same-length-2
+    returns-2
+    put-stopped-requires-2
+    same-length-3
+    returns-3)

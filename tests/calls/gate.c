@@ -1,0 +1,91 @@
+/* The gate for one action: a line to an action, with the decision, each violation as its kind and what it is about, and the hop count of
+ * each use.
+ *
+ * What is expected comes from 01, "The gate". 1: "one for each set flag, lowest first: its i". 2: "machine without owner: its actor id". 3:
+ * "machine, one for each governed entry: its position from 0". 4 "where the actor does not cover it; else kind 5 where the actor is a machine
+ * with an owner who does not cover it", by use position from 0. "Tests 1, 2, 3 (the actor), then violations." A hop count is that "of the first
+ * covering claim of the actor in register order, 0 when there is none". In the base human 1 holds claim 1 on resource 10 (0 hops), its
+ * machine 2 claim 2 (1 hop) and claim 5 on resource 11; human 3 holds claim 3 (2 hops, READ and DELEGATE, run out
+ * at 2000) and its machine 5 claim 4 (3 hops, READ); resources 10 and 11 both have the path `site/a`, and 11 is public.
+ * A line `inner in outer` has human 1 read a resource of the one path by its root on one of the other (01, "Path containment"). */
+#include "calls.h"
+
+static void ask(const char *label, Register r, Action a) {
+    static const char *const decisions[] = {"", "permitted", "refused", "stopped"};
+    guvrendik_verdict v = guvrendik_gate(r, a);
+    printf("%s: %s", label, v.decision <= GUVRENDIK_STOPPED ? decisions[v.decision] : "");
+    if (v.decision == GUVRENDIK_STOPPED) printf(" %u", (unsigned)v.refusal);
+    for (size_t i = 0; i < v.count; i++) printf(" %u/%u", (unsigned)v.violations[i].kind, (unsigned)v.violations[i].value);
+    printf(" hops");
+    for (size_t i = 0; i < a.used; i++) printf(" %zu", v.hops[i]);
+    printf("\n");
+}
+
+/* The base with the path of resource 10, on which human 1 holds a root, and a third resource of human 3. */
+static Register within(const char *outer, const char *inner) {
+    return with_resource(with_resource(base(), 0, resource_at(10, 0, 1, outer)), 2, resource_at(12, 0, 3, inner));
+}
+
+static void decided(void) {
+    Register r = base();
+    ask("nothing used", r, action(1, 0));
+    ask("human reads and modifies policy", r, using(using(action(1, 0), 10, 0), 10, 16));
+    ask("owned machine reads at 1999", r, using(action(2, 1999), 10, 0));
+    ask("human reads while its claim runs", r, using(action(3, 1999), 10, 0));
+    ask("public READ without a claim", r, using(action(3, 2000), 11, 0));
+    ask("public READ with a claim", r, using(action(2, 0), 11, 0));
+    ask("human governs nobody that stands", r, governing(action(1, 0), 8));
+    ask("claim run out at 2000", r, using(action(3, 2000), 10, 0));
+    ask("right not held", r, using(action(3, 0), 10, 1));
+    ask("resource absent", r, using(action(3, 0), 12, 0));
+    ask("resource 0", r, using(action(3, 0), 0, 0));
+    ask("owner's claim run out at 2000", r, using(action(5, 2000), 10, 0));
+    ask("second use of two", r, using(using(action(2, 0), 10, 0), 12, 0));
+    ask("flags 0 and 9", r, flagged(action(1, 0), 513));
+    ask("machine without owner", r, action(4, 0));
+    ask("machine governs two", r, governing(action(2, 0), 2));
+    ask("all of it in order", r, using(governing(flagged(action(4, 0), 2), 1), 10, 0));
+}
+
+static void stopped(void) {
+    Register r = base();
+    ask("register not sound", with_counts(r, 65, 2, 5), action(1, 0));
+    ask("flags 1024", r, flagged(action(1, 0), 1024));
+    ask("moment 2^32", r, action(1, UINT64_C(4294967296)));
+    ask("right 17", r, using(action(1, 0), 10, 17));
+    ask("nine governed", r, governing(action(1, 0), 9));
+    ask("actor absent", r, action(9, 0));
+    ask("actor 0", r, action(0, 0));
+    ask("2 before 3", r, flagged(action(9, 0), 1024));
+}
+
+static void paths(void) {
+    Action reads = using(action(1, 0), 12, 0);
+    ask("the same path in site/a", within("site/a", "site/a"), reads);
+    ask("site/b in site/a", within("site/a", "site/b"), reads);
+    ask("site/ in site/a", within("site/a", "site/"), reads);
+    ask("the empty path in site/a", within("site/a", ""), reads);
+    ask("site/a/b in site/a", within("site/a", "site/a/b"), reads);
+    ask("site/ab in site/a", within("site/a", "site/ab"), reads);
+    ask("site/a/ in site/a", within("site/a", "site/a/"), reads);
+    ask("site/a in site/a/", within("site/a/", "site/a"), reads);
+    ask("site/ab in site/a/", within("site/a/", "site/ab"), reads);
+    ask("site/a/b in site/a//", within("site/a//", "site/a/b"), reads);
+    ask("x in the empty path", within("", "x"), reads);
+    ask("the empty path in /", within("/", ""), reads);
+    ask("x in /", within("/", "x"), reads);
+    ask("a/../b in itself", within("a/../b", "a/../b"), reads);
+    ask("a/.. in the empty path", within("", "a/.."), reads);
+    ask("a..b in itself", within("a..b", "a..b"), reads);
+    ask("public READ of a/../b", with_resource(base(), 2, resource_at(12, 1, 3, "a/../b")), reads);
+}
+
+void gate_lines(void) {
+    decided();
+    stopped();
+    paths();
+    ask("51 violations", base(), most());
+    /* 01's case R: its action, and the same action when the machine's claim has run out. */
+    ask("case R", case_r(), using(using(action(2, 1999), 10, 0), 10, 1));
+    ask("case R at 2000", case_r(), using(using(action(2, 2000), 10, 0), 10, 1));
+}

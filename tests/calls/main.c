@@ -1,0 +1,11 @@
+/* The register's calls, run on registers built for the purpose: a line to a case. */
+#include "calls.h"
+
+int main(void) {
+    soundness_lines();
+    change_lines();
+    order_lines();
+    gate_lines();
+    plan_lines();
+    return 0;
+}
