@@ -44,6 +44,7 @@ enum {
     BOUNDARY,
     THREADS,
     STACK,
+    LENT_STACK,
 };
 
 /* Marks: what was noticed beside an answer. */
@@ -1084,6 +1085,40 @@ static void do_stack(payload *p) {
     errno = 0;
 }
 
+/* ---- Stack of containment ---- */
+
+static const uint8_t *lent_outer, *lent_inner;
+static size_t lent_outer_len, lent_inner_len;
+
+static void stack_lent(void) {
+    stack_answers.contained = guvrendik_contains(lent_outer, lent_outer_len, lent_inner, lent_inner_len);
+}
+
+/* What the measure has to see: the outer path copied without the slashes at its end, and the library asked with the copy. */
+static void stack_copied(void) {
+    uint8_t copy[GUVRENDIK_PATH];
+    size_t length = lent_outer_len < sizeof copy ? lent_outer_len : sizeof copy;
+    while (length > 0 && lent_outer[length - 1] == '/') {
+        length--;
+    }
+    for (size_t i = 0; i < length; i++) {
+        copy[i] = lent_outer[i];
+    }
+    stack_answers.contained = guvrendik_contains(copy, length, lent_inner, lent_inner_len);
+}
+
+/* The stack of one call on two lent paths, or of a caller that copies the outer one first; and the answer. */
+static void do_lent_stack(payload *p) {
+    void (*body)(void) = take32(p) ? stack_copied : stack_lent;
+    lent_outer_len = take64(p);
+    lent_inner_len = take64(p);
+    lent_outer = lend(arena_one, take_bytes(p, lent_outer_len), lent_outer_len, AT_END);
+    lent_inner = lend(arena_two, take_bytes(p, lent_inner_len), lent_inner_len, AT_END);
+    uint64_t used = stack_of(body) - stack_of(no_call), told[2] = {used, stack_answers.contained.contained};
+    answer_marked(0, told, sizeof told);
+    errno = 0;
+}
+
 int main(void) {
     /* Larger pipes save waits; smaller ones do as well. */
     fcntl(STDIN_FILENO, F_SETPIPE_SZ, CHUNK);
@@ -1125,6 +1160,7 @@ int main(void) {
         case BOUNDARY: do_boundary(&p); break;
         case THREADS: do_threads(&p); break;
         case STACK: do_stack(&p); break;
+        case LENT_STACK: do_lent_stack(&p); break;
         default: fprintf(stderr, "driver: unknown request %u\n", (unsigned)header[0]); return 1;
         }
     }

@@ -403,11 +403,54 @@ impl<'c> Comparison<'c> {
         for (name, used) in STACK_ORDER.iter().zip(most) {
             let said = said_stack(name);
             println!("stack of guvrendik_{name}: {used} bytes, and the header says {said}");
-            self.tally.passed += u64::from(used <= said);
-            self.tally.failed += u64::from(used > said);
+            self.tally.count(used <= said);
         }
         Ok(())
     }
+
+    /// Prints how much stack the containment of lent paths took, short and long. Counts each that is at most `bound` and answered
+    /// rightly, and each shape that takes the same for every length: no copy of a path is made. Last the driver copies a path itself,
+    /// which must be measured above the bound.
+    pub fn lent_stack(&mut self, bound: u64) -> io::Result<()> {
+        const LENGTHS: [usize; 3] = [PATH, 4_096, 65_536];
+        // The last byte that is compared with the outer path's, what follows it, and the answer.
+        let shapes: [(&str, u8, &[u8], u64); 3] = [
+            ("contained", b'a', b"/bb", 1),
+            ("parted at the last byte", b'b', b"/bb", 0),
+            ("with `..` at the end", b'a', b"/..", 0),
+        ];
+        for (name, last, tail, contained) in shapes {
+            let mut used = Vec::new();
+            for length in LENGTHS {
+                let inner = [&vec![b'a'; length - 4][..], &[last], tail].concat();
+                let told = self.contains_stack(false, &slashed(length), &inner)?;
+                self.tally.count(told[0] <= bound && told[1] == contained);
+                used.push(told[0]);
+            }
+            println!("stack of guvrendik_contains, paths of {LENGTHS:?} bytes, {name}: {used:?} bytes");
+            self.tally.count(used.iter().all(|each| *each == used[0]));
+        }
+        let told = self.contains_stack(true, &slashed(PATH), &[b'a'; PATH - 3])?;
+        println!("stack of a caller that copies a path of {PATH} bytes: {} bytes, and the bound is {bound}", told[0]);
+        self.tally.count(told[0] > bound && told[1] == 1);
+        Ok(())
+    }
+
+    /// The stack of one call on lent paths, by a caller that copies the outer one or not, and the answer.
+    fn contains_stack(&mut self, copies: bool, outer: &[u8], inner: &[u8]) -> io::Result<[u64; 2]> {
+        let answer = self.special(Request::LentStack, 2 * size_of::<u64>(), |out| {
+            u32::from(copies).put(out);
+            [outer.len(), inner.len()].put(out);
+            out.extend_from_slice(outer);
+            out.extend_from_slice(inner);
+        })?;
+        Ok(Wire::take(&mut &answer[..]))
+    }
+}
+
+/// A path that ends in three slashes.
+fn slashed(length: usize) -> Vec<u8> {
+    [&vec![b'a'; length - 3][..], b"///"].concat()
 }
 
 /// The bytes of stack that the header gives a call, whose declaration follows the comment that has them.
@@ -440,6 +483,11 @@ fn put_input(random: &mut Random, shape: Shape, out: &mut Vec<u8>) {
 }
 
 impl Tally {
+    fn count(&mut self, holds: bool) {
+        self.passed += u64::from(holds);
+        self.failed += u64::from(!holds);
+    }
+
     /// Prints the cases of each call, and counts each outcome that a full run must meet.
     pub fn summarise(&mut self) {
         for (number, (name, demanded)) in NAMES.iter().enumerate() {

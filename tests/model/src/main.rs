@@ -1,6 +1,6 @@
 //! Compares the library behind a driver with the model.
 //!
-//! usage: compare [--seed N] [--rounds N] [--fault NAME] [--found FOLDER] -- DRIVER [ARGUMENT..]
+//! usage: compare [--seed N] [--rounds N] [--fault NAME] [--found FOLDER] [--lent-stack BYTES] -- DRIVER [ARGUMENT..]
 
 mod case;
 mod compare;
@@ -24,6 +24,8 @@ const SEED: u64 = 20_260_101;
 const ROUNDS: usize = 1_800;
 /// A fault has to be found in so many rounds.
 const FAULT_ROUNDS: usize = 60;
+/// So much stack may the containment of lent paths take: less than the shortest of them is long.
+const LENT_STACK: u64 = 48;
 /// After so many scripts with a difference, a run ends.
 const ENOUGH: usize = 40;
 
@@ -33,12 +35,19 @@ struct Options {
     /// Compare with this fault in the model, and show what is found.
     fault: Option<Fault>,
     found: PathBuf,
+    lent_stack: u64,
     driver: Vec<String>,
 }
 
 fn options() -> Result<Options, String> {
-    let mut options =
-        Options { seed: SEED, rounds: ROUNDS, fault: None, found: PathBuf::from("tests/found"), driver: Vec::new() };
+    let mut options = Options {
+        seed: SEED,
+        rounds: ROUNDS,
+        fault: None,
+        found: PathBuf::from("tests/found"),
+        lent_stack: LENT_STACK,
+        driver: Vec::new(),
+    };
     let mut words = std::env::args().skip(1);
     while let Some(word) = words.next() {
         if word == "--" {
@@ -51,6 +60,7 @@ fn options() -> Result<Options, String> {
             "--seed" => options.seed = number()?,
             "--rounds" => options.rounds = number()? as usize,
             "--found" => options.found = PathBuf::from(value),
+            "--lent-stack" => options.lent_stack = number()?,
             "--fault" => {
                 let known = Fault::ALL.iter().find(|(name, _)| *name == value);
                 let names = || Fault::ALL.map(|(name, _)| name).join(", ");
@@ -70,7 +80,7 @@ fn main() -> ExitCode {
         Ok(options) => options,
         Err(why) => {
             eprintln!("compare: {why}");
-            eprintln!("usage: compare [--seed N] [--rounds N] [--fault NAME] [--found FOLDER] -- DRIVER [ARGUMENT..]");
+            eprintln!("usage: compare [--seed N] [--rounds N] [--fault NAME] [--found FOLDER] [--lent-stack BYTES] -- DRIVER [ARGUMENT..]");
             return ExitCode::from(2);
         }
     };
@@ -105,6 +115,7 @@ fn run(options: &Options) -> io::Result<(u64, u64)> {
     comparison.boundary(&mut random)?;
     comparison.threads(&mut random)?;
     comparison.stack(&mut random)?;
+    comparison.lent_stack(options.lent_stack)?;
     println!("{:.1} s until here", clock.elapsed().as_secs_f64());
 
     let mut generator = Generator::new(options.seed);

@@ -22,6 +22,7 @@ pub enum Request {
     Boundary,
     Threads,
     Stack,
+    LentStack,
 }
 
 /// Appends a request whose bytes the closure puts.
