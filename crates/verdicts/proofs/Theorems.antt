@@ -4,7 +4,7 @@ use mathlib.Core.Bool.{true, false}
 use mathlib.Core.List.{List, [], _∷_, _++_, map}
 use Prim.Native.Nat.{ℕ, _≤_, _<_, _/_, _%_, _^_}
 use lib.Dec.{eqb}
-use lib.ListN.{length, replicate}
+use lib.ListN.{length, take, replicate}
 use Rattle.lists.specs.Lists.{any}
 use Rattle.lists.specs.Each.{All}
 use Rattle.register.specs.Limits.{hopLimit}
@@ -129,6 +129,16 @@ parent-never-gone = coverage.parent-never-gone
 -- 8b. So in a sound register no violation has kind 6.
 pub never-kind-six : (r : Register) → sound r ≡ true → (a : Action) → All (λ v. kindOf v ≡ 6 → ⊥) (violationsOf r a)
 never-kind-six = kinds.never-kind-six
+
+-- 8c. So no violation that the gate answers with has kind 6, of every register: an unsound one is stopped with 1 and has no violations.
+pub never-six : (r : Register) (a : Action)
+    → All (λ v. kindOf (v .what) ≡ 6 → ⊥) (take (gated r a .violations .count) (gated r a .violations .list))
+never-six = kinds.never-six
+
+-- 8d. Nor has a violation of an action that a plan judges.
+pub planned-never-six : (r : Register) (p : Plan) → planned r p .outcome ≡ Accepted → (a : Action) → Place (actionsOf p) a
+    → All (λ v. kindOf v ≡ 6 → ⊥) (violationsOf r a)
+planned-never-six = kinds.planned-never-six
 
 -- 9a. Up to and with the first flagged action the verdicts of a plan are the judgements of the violations, and every later one is cancelled.
 pub plan-flagged : (r : Register) (p : Plan) → planned r p .outcome ≡ Accepted → (before : List Action) (a : Action) (after : List Action)
