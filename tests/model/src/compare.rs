@@ -1,6 +1,6 @@
 //! The comparison: scripts go to the driver in batches, and each whole answer is held against the model's.
 
-use crate::case::{outcome_name, Call, Outcome, Script, CALLS, NAMES};
+use crate::case::{outcome_name, Call, Outcome, Script, CALLS, KINDS, NAMES};
 use crate::driver::Driver;
 use crate::generate::random::Random;
 use crate::generate::{actions, changes, json, registers, texts};
@@ -44,6 +44,8 @@ pub struct Tally {
     pub calls: [u64; CALLS],
     /// How often each outcome of each call was met.
     pub outcomes: BTreeMap<(usize, Outcome), u64>,
+    /// How many violations of each kind the gate of the library listed.
+    pub kinds: BTreeMap<u32, u64>,
 }
 
 pub struct Comparison<'c> {
@@ -163,6 +165,7 @@ impl<'c> Comparison<'c> {
             let outcome = call.answer(&self.model, &mut state, &mut expected);
             self.tally.calls[call.number()] += 1;
             *self.tally.outcomes.entry((call.number(), outcome)).or_default() += 1;
+            call.kinds(&got).into_iter().for_each(|kind| *self.tally.kinds.entry(kind).or_default() += 1);
             if expected == got {
                 self.tally.passed += 1;
             } else {
@@ -383,7 +386,8 @@ fn put_input(random: &mut Random, shape: Shape, out: &mut Vec<u8>) {
 }
 
 impl Tally {
-    /// Prints the cases of each call, and counts each outcome that a full run must meet.
+    /// Prints the cases of each call and the violations of each kind, and counts each outcome and kind that a full run must meet. A kind that
+    /// there is not has failed.
     pub fn summarise(&mut self) {
         for (number, (name, demanded)) in NAMES.iter().enumerate() {
             let met: Vec<String> = self
@@ -403,6 +407,15 @@ impl Tally {
             }
         }
         println!("{:>7} cases", self.calls.iter().sum::<u64>());
+        for kind in KINDS {
+            self.kinds.entry(kind).or_default();
+        }
+        for (kind, count) in &self.kinds {
+            println!("{count:>7} violations of kind {kind}");
+            let due = KINDS.contains(kind) && *count > 0;
+            self.passed += u64::from(due);
+            self.failed += u64::from(!due);
+        }
     }
 }
 
