@@ -235,9 +235,9 @@ typedef struct guvrendik_action {
 #define GUVRENDIK_FLAG 1               /* value: the flag, lowest first */
 #define GUVRENDIK_MACHINE_OWNERLESS 2  /* value: the actor's id */
 #define GUVRENDIK_MACHINE_GOVERNS 3    /* value: the governed entry's position, from 0 */
-#define GUVRENDIK_NOT_COVERED 4        /* value: the use's position, from 0. Kinds 4 to 6 come by use position */
+#define GUVRENDIK_NOT_COVERED 4        /* value: the use's position, from 0. Kinds 4 and 5 come by use position */
 #define GUVRENDIK_OWNER_NOT_COVERED 5  /* value: the use's position */
-#define GUVRENDIK_BROKEN_CHAIN 6       /* value: the use's position. Never met: in a sound register every parent stands */
+/* 6 is not used and will not be: a register with a claim whose parent does not stand is not sound, and refused with 1. */
 
 typedef struct guvrendik_violation {
     uint32_t kind;

@@ -11,7 +11,7 @@ use Rattle.register.specs.Limits.{idLimit, momentEnd}
 use Rattle.actions.specs.declared.Usage.{Usage}
 use Rattle.actions.specs.declared.Action.{Action}
 use Rattle.actions.specs.declared.Violation.{Violation}
-use Rattle.actions.specs.declared.Violation.the-variants.{FlagSet, NoOwner, MachineGoverns, NotCovered, OwnerNotCovering, ParentGone}
+use Rattle.actions.specs.declared.Violation.the-variants.{FlagSet, NoOwner, MachineGoverns, NotCovered, OwnerNotCovering}
 use Rattle.actions.specs.declared.Judgement.{Judgement}
 use Rattle.actions.specs.declared.Judgement.the-variants.{Permitted, Refused, Cancelled}
 
@@ -58,7 +58,6 @@ kindOf (NoOwner id) = 2
 kindOf (MachineGoverns at) = 3
 kindOf (NotCovered at) = 4
 kindOf (OwnerNotCovering at) = 5
-kindOf (ParentGone at) = 6
 
 abbrev pub valueOf : Violation → ℕ
 valueOf (FlagSet i) = i
@@ -66,7 +65,6 @@ valueOf (NoOwner id) = id
 valueOf (MachineGoverns at) = at
 valueOf (NotCovered at) = at
 valueOf (OwnerNotCovering at) = at
-valueOf (ParentGone at) = at
 
 -- the number of a plan's verdict on an action, in the order in which the paper names them, and its value: permitted, refused with its number of
 -- violations, or cancelled. 0 is no verdict's number, so that memory that was never written permits nothing.

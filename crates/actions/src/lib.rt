@@ -53,8 +53,6 @@ pub enum Violation {
     NotCovered(u32),
     // 5: the machine's owner does not cover the use.
     OwnerNotCovering(u32),
-    // 6: a claim relied on has a parent that does not stand.
-    ParentGone(u32),
 }
 
 pub struct Violated {
@@ -116,7 +114,6 @@ pub fn kind(v: Violation) -> u32
         Violation::MachineGoverns(_) => 3,
         Violation::NotCovered(_) => 4,
         Violation::OwnerNotCovering(_) => 5,
-        Violation::ParentGone(_) => 6,
     }
 }
 
@@ -130,7 +127,6 @@ pub fn value(v: Violation) -> u32
         Violation::MachineGoverns(at) => at,
         Violation::NotCovered(at) => at,
         Violation::OwnerNotCovering(at) => at,
-        Violation::ParentGone(at) => at,
     }
 }
 

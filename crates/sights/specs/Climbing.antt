@@ -1,21 +1,20 @@
--- Hop counts, and whether a parent stands, by the places of the parents: what the chains of the columns say. Assumes nothing.
-use mathlib.Core.Path.{_≡_, sym, ap}
+-- Hop counts by the places of the parents: what the chains of the columns say. Assumes nothing.
+use mathlib.Core.Path.{_≡_}
 use mathlib.Core.Bool.{not, _&&_, cond}
 use mathlib.Core.List.{List}
 use Prim.Native.Nat.{ℕ, zero, suc, _≤_, _<_, min}
 use native.Mathlib.Omega.{arith}
 use borrow.Author.Tests.{lt-ltb, eqb-true, eqb-false}
 use lib.Dec.{eqb, ltb}
-use lib.ListN.{length, getD, take}
+use lib.ListN.{length, getD}
 use Rattle.lists.specs.Tests.{cases}
-use Rattle.lists.specs.Lists.{any}
 use Rattle.register.specs.Limits.{hopLimit, claimLimit}
 use Rattle.columns.specs.Columns.{latestPlace, chainPlaces}
-use Rattle.columns.specs.Laws.{place-cases, place-found, nowhere-none, place-among, chain-places-zero, chain-places-at, chain-places-nowhere}
+use Rattle.columns.specs.Laws.{place-cases, place-found, chain-places-zero, chain-places-at, chain-places-nowhere}
 use Rattle.columns.specs.declared.Place.the-variants.{At}
 use Rattle.finding.specs.Finding.{numberOf, asked, earlierPlaces}
 use Rattle.finding.specs.Laws.{earlier-at}
-use Rattle.use_judging.specs.Uses.{climbed, hopsFrom, parentlessAt}
+use Rattle.use_judging.specs.Uses.{climbed, hopsFrom}
 
 module _ (ids parents : List ℕ) (n : ℕ) (few : n ≤ claimLimit) (long : n ≤ length parents) where
   abbrev ups : List ℕ
@@ -48,17 +47,3 @@ module _ (ids parents : List ℕ) (n : ℕ) (few : n ≤ claimLimit) (long : n �
   -- the hop count of the claim at a place is the number of steps of its chain among the claims before it, up to the limit
   pub hops-climbed : (j : ℕ) → j < n → hopsFrom parents ups (At j) ≡ min hopLimit (length (chainPlaces ids parents j (getD parents j 0)))
   hops-climbed j h = climbs hopLimit j h
-
-  found-among : (j p : ℕ) → j < n → ltb (numberOf claimLimit (latestPlace ids j p)) claimLimit ≡ any (eqb p) (take j ids)
-  found-among j p h =
-      place-cases (latestPlace ids j p)
-      (λ i q. let inside : i < claimLimit = omega (arith, place-found ids p j i q .0) in
-      rw (q, lt-ltb i claimLimit inside) (sym (place-among ids p j i q)))
-      (λ q. rw q (sym (nowhere-none ids p j q)))
-
-  -- a claim is parentless where its parent's number is no claim's before it
-  pub parentless-found : (j : ℕ) → j < n
-      → parentlessAt parents ups (At j) ≡ not (eqb (getD parents j 0) 0) && not (any (eqb (getD parents j 0)) (take j ids))
-  parentless-found j h =
-      rw (earlier-at ids parents n claimLimit j claimLimit (all-asked j h))
-      (ap (λ b. not (eqb (getD parents j 0) 0) && not b) (found-among j (getD parents j 0) h))

@@ -1,15 +1,13 @@
 -- The judgement of a use by columns is 01's: the violations and the hop count of the use. Assumes nothing.
 use mathlib.Core.Path.{_≡_, refl, sym, ap, _∙_}
-use mathlib.Core.Bool.{Bool, true, false, not, _&&_, cond, or-false, and-false, and-assoc}
+use mathlib.Core.Bool.{Bool, true, false, not, _&&_, cond, and-assoc}
 use mathlib.Core.List.{List, [], _∷_, _++_, map}
 use Prim.Native.Nat.{ℕ, suc, _≤_, _<_}
 use native.Mathlib.Omega.{arith}
-use borrow.Author.Tests.{eqb-false}
 use lib.Dec.{eqb}
 use lib.ListN.{length, getD, take, drop, length-map, length-take, List·getD-map}
 use lib.Seq.{split-at, getD-take, take-take}
-use Rattle.lists.specs.Tests.{cases}
-use Rattle.lists.specs.Lists.{any, any-reverse}
+use Rattle.lists.specs.Lists.{any}
 use Rattle.lists.specs.Each.{all-imp}
 use Rattle.register.specs.Limits.{claimLimit, machineKind}
 use Rattle.register.specs.Register.{actorsOf, resourcesOf, claimsOf, noActor, noClaim}
@@ -17,27 +15,26 @@ use Rattle.register.specs.Chain.{latest, hopsOf}
 use Rattle.register.specs.declared.Actor.{Actor}
 use Rattle.register.specs.declared.Register.{Register}
 use Rattle.columns.specs.Columns.{actorId, ownerOf, publicOf, claimId, parentOf, latestPlace, chainPlaces}
-use Rattle.columns.specs.Laws.{among-natural, chain-natural}
+use Rattle.columns.specs.Laws.{chain-natural}
 use Rattle.columns.specs.declared.Place.{Place}
 use Rattle.columns.specs.declared.Place.the-variants.{At, Nowhere}
 use Rattle.rules.specs.Sound.{World, worldOf, soundClaims, sound}
 use Rattle.rules.specs.Registers.{sound-out}
-use Rattle.rules.specs.Places.{place-parent}
 use Rattle.rules.specs.Chains.{place-hops-whole}
 use Rattle.actions.specs.declared.Usage.{Usage}
-use Rattle.actions.specs.declared.Violation.the-variants.{NotCovered as UseNotCovered, OwnerNotCovering as UseOwnerNotCovering, ParentGone as UseParentGone}
-use Rattle.verdicts.specs.Gate.{covers, isMachine, ownerLacks, parentless, parentGone, useViolation, hopsIn, hopsFor}
+use Rattle.actions.specs.declared.Violation.the-variants.{NotCovered as UseNotCovered, OwnerNotCovering as UseOwnerNotCovering}
+use Rattle.verdicts.specs.Gate.{covers, isMachine, ownerLacks, useViolation, hopsIn, hopsFor}
 use Rattle.verdicts.specs.Places.{Place as Stands, latest-split}
-use Rattle.verdicts.specs.Coverage.{sound-place, parent-stands}
+use Rattle.verdicts.specs.Coverage.{sound-place}
 use Rattle.verdicts.specs.Trace.{place-hops-most}
-use Rattle.use_judging.specs.Uses.{openTo, hopsFrom, parentlessAt, coveredBy, faultOf, reliedOn, useJudged}
+use Rattle.use_judging.specs.Uses.{openTo, hopsFrom, coveredBy, faultOf, reliedOn, useJudged}
 use Rattle.gathering.specs.Gathering.{coverPlaces}
 use Rattle.sights.specs.Sights.{Typed, ownerAt, ownerIn, ownedIn, upsOf, sightOf, spotFor, faultAt}
 use Rattle.rules.specs.Distinct.{askedAt, asked-natural}
-use Rattle.sights.specs.Climbing.{hops-climbed, parentless-found}
+use Rattle.sights.specs.Climbing.{hops-climbed}
 use Rattle.sights.specs.Relying.{aloneAt, claimAt, claimPlaces, firstPlace, first-any, places-within, relied-natural, place-natural, covers-natural}
 
--- ---- the claim relied on: its parent and its hops
+-- ---- the claim relied on: its hops
 module _ (r : Register) (typed : Typed r) (h : sound r ≡ true) where
   abbrev ids : List ℕ
   ids = map claimId (r .claims .list)
@@ -77,33 +74,6 @@ module _ (r : Register) (typed : Typed r) (h : sound r ≡ true) where
   sound-at : (j : ℕ) (inside : j < length (claimsOf (r .claims)))
       → soundClaims around (latest (stands-at j inside .after) ++ claimAt r j ∷ latest (take j (r .claims .list))) ≡ true
   sound-at j inside = sound-place r h (claimAt r j) (stands-at j inside)
-
-  -- so its parent stands before it
-  parent-before : (j : ℕ) → j < length (claimsOf (r .claims)) → (claimAt r j .parent ≡ 0 → ⊥)
-      → any (λ d. eqb (claimAt r j .parent) (d .id)) (take j (r .claims .list)) ≡ true
-  parent-before j inside other =
-      sym (any-reverse (λ d. eqb (claimAt r j .parent) (d .id)) (take j (r .claims .list)))
-      ∙ place-parent around (latest (stands-at j inside .after)) (claimAt r j) (latest (take j (r .claims .list))) (sound-at j inside) other
-
-  -- the claim at a place has a parent that stands, and the columns say so
-  parentless-at : (j : ℕ) → j < length (claimsOf (r .claims))
-      → any (parentless r) (aloneAt (claimAt r) (At j)) ≡ parentlessAt parents (upsOf r) (At j)
-  parentless-at j inside =
-      or-false (parentless r (claimAt r j))
-      ∙ parent-stands r h (claimAt r j) (stands-at j inside)
-      ∙ sym (parentless-found ids parents (r .claims .count) few long j (below j inside)
-      ∙ rw (parent-at j, among-natural claimId (claimAt r j .parent) j (r .claims .list))
-      (cases (eqb (claimAt r j .parent) 0) (λ e. rw e)
-      (λ e. rw (parent-before j inside (eqb-false (claimAt r j .parent) 0 e)) (and-false (not (eqb (claimAt r j .parent) 0))))))
-
-  -- the claim relied on has a parent that does not stand where the columns say so of the first place
-  pub parent-natural : (now x : ℕ) (u : Usage) → parentGone r now x u ≡ parentlessAt parents (upsOf r) (firstPlace r now x u)
-  unfolding parentGone
-  parent-natural now x u =
-      ap (any (parentless r)) (relied-natural r now x u)
-      ∙ first-any (λ p. any (parentless r) (aloneAt (claimAt r) p) ≡ parentlessAt parents (upsOf r) p) _ (claimPlaces r) refl
-      (all-imp (λ j. j < length (claimsOf (r .claims)))
-      (λ j. any (parentless r) (aloneAt (claimAt r) (At j)) ≡ parentlessAt parents (upsOf r) (At j)) parentless-at (claimPlaces r) (places-within r))
 
   -- the claim at a place of the register has as many hops as its chain by columns has steps
   hops-at : (j : ℕ) → j < length (claimsOf (r .claims)) → hopsIn r (aloneAt (claimAt r) (At j)) ≡ hopsFrom parents (upsOf r) (At j)
@@ -160,12 +130,11 @@ module _ (r : Register) (h : sound r ≡ true) (x : ℕ) where
 -- ---- the judgement
 
 -- the violations of a fault are chosen by the same tests
-fault-chosen : (n : ℕ) (covered lacking gone : Bool) → faultAt n (faultOf covered lacking gone)
-    ≡ cond covered (cond lacking (UseOwnerNotCovering n ∷ []) (cond gone (UseParentGone n ∷ []) [])) (UseNotCovered n ∷ [])
-fault-chosen n false lacking gone = refl
-fault-chosen n true true gone = refl
-fault-chosen n true false true = refl
-fault-chosen n true false false = refl
+fault-chosen : (n : ℕ) (covered lacking : Bool) → faultAt n (faultOf covered lacking)
+    ≡ cond covered (cond lacking (UseOwnerNotCovering n ∷ []) []) (UseNotCovered n ∷ [])
+fault-chosen n false lacking = refl
+fault-chosen n true true = refl
+fault-chosen n true false = refl
 
 -- what is asked only where a test holds need stand only there
 asked-where : {A : Type 0} (q : A → Bool) (b : Bool) (there none : A) → b && q (cond b there none) ≡ b && q there
@@ -192,13 +161,10 @@ module _ (r : Register) (typed : Typed r) (h : sound r ≡ true) (now x : ℕ) (
       ∙ ap (λ b. ownedIn r x && not b) (covered-natural (ownerIn r x))
       ∙ sym (owner-natural r h x now u)
 
-  gone-natural : parentlessAt (map parentOf (r .claims .list)) (upsOf r) (place x) ≡ parentGone r now x u
-  gone-natural = ap (parentlessAt (map parentOf (r .claims .list)) (upsOf r)) (place-natural r typed h now x u x) ∙ sym (parent-natural r typed h now x u)
-
   pub fault-natural : (n : ℕ) → faultAt n (useJudged (sightOf r now x) (spotFor r u) (u .right) .fault) ≡ useViolation r now x n u
   unfolding useJudged useViolation
   fault-natural n =
-      rw (covered-natural x, lacking-natural, gone-natural) (fault-chosen n (covers r now x u) (ownerLacks r now x u) (parentGone r now x u))
+      rw (covered-natural x, lacking-natural) (fault-chosen n (covers r now x u) (ownerLacks r now x u))
 
   pub hop-natural : useJudged (sightOf r now x) (spotFor r u) (u .right) .hops ≡ hopsFor r now x u
   unfolding useJudged

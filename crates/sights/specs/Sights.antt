@@ -13,14 +13,14 @@ use Rattle.columns.specs.declared.Place.{Place}
 use Rattle.columns.specs.declared.Place.the-variants.{At, Nowhere}
 use Rattle.actions.specs.declared.Usage.{Usage}
 use Rattle.actions.specs.declared.Violation.{Violation}
-use Rattle.actions.specs.declared.Violation.the-variants.{NotCovered as UseNotCovered, OwnerNotCovering as UseOwnerNotCovering, ParentGone as UseParentGone}
+use Rattle.actions.specs.declared.Violation.the-variants.{NotCovered as UseNotCovered, OwnerNotCovering as UseOwnerNotCovering}
 use Rattle.verdicts.specs.Gate.{isMachine}
 use Rattle.finding.specs.Finding.{placesOf, earlierPlaces}
 use Rattle.gathering.specs.Gathering.{spotIn, coverPlaces}
 use Rattle.flat_paths.specs.Laid.{laid}
 use Rattle.use_judging.specs.Uses.{Sight}
 use Rattle.use_judging.specs.declared.Fault.{Fault}
-use Rattle.use_judging.specs.declared.Fault.the-variants.{Nothing, NotCovered, OwnerNotCovering, ParentGone}
+use Rattle.use_judging.specs.declared.Fault.the-variants.{Nothing, NotCovered, OwnerNotCovering}
 
 -- the arrays of a register have their lengths
 pub record Typed (r : Register) : Type 0 where
@@ -75,4 +75,3 @@ abbrev pub faultAt : ℕ → Fault → List Violation
 faultAt n Nothing = []
 faultAt n NotCovered = UseNotCovered n ∷ []
 faultAt n OwnerNotCovering = UseOwnerNotCovering n ∷ []
-faultAt n ParentGone = UseParentGone n ∷ []

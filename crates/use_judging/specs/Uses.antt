@@ -1,5 +1,5 @@
 -- Working definitions: a use judged by columns. What they are in 01's words is `use-natural` of sights/specs/Laws.
-use mathlib.Core.Bool.{Bool, true, false, not, _&&_, cond}
+use mathlib.Core.Bool.{Bool, true, not, _&&_, cond}
 use mathlib.Core.List.{List}
 use Prim.Native.Nat.{ℕ, zero, suc}
 use lib.Dec.{eqb, ltb}
@@ -10,7 +10,7 @@ use Rattle.columns.specs.declared.Place.{Place}
 use Rattle.columns.specs.declared.Place.the-variants.{At, Nowhere}
 use Rattle.coverage.specs.Coverage.{firstCovering}
 use Rattle.use_judging.specs.declared.Fault.{Fault}
-use Rattle.use_judging.specs.declared.Fault.the-variants.{Nothing, NotCovered, OwnerNotCovering, ParentGone}
+use Rattle.use_judging.specs.declared.Fault.the-variants.{Nothing, NotCovered, OwnerNotCovering}
 use Rattle.use_judging.specs.declared.UseJudged.{UseJudged}
 
 -- the resource at a place is public and the right is READ
@@ -31,19 +31,14 @@ abbrev pub hopsFrom : List ℕ → List ℕ → Place → ℕ
 hopsFrom parents ups Nowhere = 0
 hopsFrom parents ups (At j) = climbed parents ups hopLimit j
 
--- whether the claim relied on has a parent that does not stand before it
-abbrev pub parentlessAt : List ℕ → List ℕ → Place → Bool
-parentlessAt parents ups Nowhere = false
-parentlessAt parents ups (At j) = not (eqb (getD parents j 0) 0) && not (ltb (getD ups j claimLimit) claimLimit)
-
 -- whether a use is covered: it is open, or a claim is relied on
 abbrev pub coveredBy : Bool → Place → Bool
 coveredBy freely (At j) = true
 coveredBy freely Nowhere = freely
 
 -- what is wrong with a use, by the tests in their order
-abbrev pub faultOf : Bool → Bool → Bool → Fault
-faultOf covered lacking parentless = cond covered (cond lacking OwnerNotCovering (cond parentless ParentGone Nothing)) NotCovered
+abbrev pub faultOf : Bool → Bool → Fault
+faultOf covered lacking = cond covered (cond lacking OwnerNotCovering Nothing) NotCovered
 
 -- what a use is judged by: the actor's gathered places and its owner's, whether it is a machine with an owner, and the columns
 pub record Sight : Type 0 where
@@ -66,7 +61,6 @@ reliedOn s places spot right = firstCovering places (s .rights) (s .spots) (s .b
 unfoldable pub useJudged : Sight → ℕ → ℕ → UseJudged
 useJudged s spot right = record {
   fault = faultOf (coveredBy (openTo (s .publics) spot right) (reliedOn s (s .own) spot right))
-      (s .owned && not (coveredBy (openTo (s .publics) spot right) (reliedOn s (s .theirs) spot right)))
-      (parentlessAt (s .parents) (s .ups) (reliedOn s (s .own) spot right));
+      (s .owned && not (coveredBy (openTo (s .publics) spot right) (reliedOn s (s .theirs) spot right)));
   hops = hopsFrom (s .parents) (s .ups) (reliedOn s (s .own) spot right);
 }

@@ -1,9 +1,9 @@
-// One use of an action judged by lent columns: whether the actor covers it, whether a machine's owner does, whether the claim relied on has
-// a parent that stands, and the hop count of that claim.
+// One use of an action judged by lent columns: whether the actor covers it, whether a machine's owner does, and the hop count of the
+// claim relied on.
 ghost use mathlib.Core.Path.{_≡_};
 ghost use lib.ListN.{getD, take};
 ghost use Rattle.register.specs.Limits.{hopLimit, claimLimit};
-ghost use Rattle.use_judging.specs.Uses.{openTo, drawnAt, climbed, hopsFrom, parentlessAt, coveredBy, faultOf, useJudged};
+ghost use Rattle.use_judging.specs.Uses.{openTo, drawnAt, climbed, hopsFrom, coveredBy, faultOf, useJudged};
 use columns::Place;
 use register::Register;
 
@@ -12,7 +12,6 @@ pub enum Fault {
     Nothing,
     NotCovered,
     OwnerNotCovering,
-    ParentGone,
 }
 
 // The judgement of a use, with the hop count of the claim relied on.
@@ -78,20 +77,6 @@ fn hops_from<'a>(parents: &'a [u32], ups: &'a [usize], relied: Place) -> usize
     }
 }
 
-// Whether the claim at a place has a parent that does not stand before it.
-fn is_parentless<'a>(parents: &'a [u32], ups: &'a [usize], relied: Place) -> bool
-    ensures { λ r. ⌜ r ≡ parentlessAt (now (parents .entry)) (now (ups .entry)) relied ⌝ }
-{
-    match relied {
-        Place::Nowhere => false,
-        Place::At(j) => {
-            let parent = columns::number_at(parents, j);
-            let place = place_at(ups, j);
-            (parent != 0) & !(place < Register::CLAIMS)
-        }
-    }
-}
-
 // Whether a use is covered: it is open, or a claim is relied on.
 fn is_covered(freely: bool, relied: Place) -> bool
     ensures { λ r. ⌜ r ≡ coveredBy freely relied ⌝ }
@@ -103,15 +88,12 @@ fn is_covered(freely: bool, relied: Place) -> bool
 }
 
 // What is wrong with a use, by the tests in their order.
-fn fault_of(covered: bool, lacking: bool, parentless: bool) -> Fault
-    ensures { λ r. ⌜ r ≡ faultOf covered lacking parentless ⌝ }
+fn fault_of(covered: bool, lacking: bool) -> Fault
+    ensures { λ r. ⌜ r ≡ faultOf covered lacking ⌝ }
 {
     if covered {
         if lacking {
             return Fault::OwnerNotCovering;
-        }
-        if parentless {
-            return Fault::ParentGone;
         }
         return Fault::Nothing;
     }
@@ -144,7 +126,6 @@ pub fn judge_use<'a>(
     let covered = is_covered(freely, relied);
     let other = coverage::first_covering(theirs, has, rights, spots, bytes, lens, right, spot);
     let lacking = owned & !is_covered(freely, other);
-    let parentless = is_parentless(parents, ups, relied);
-    let fault = fault_of(covered, lacking, parentless);
+    let fault = fault_of(covered, lacking);
     UseJudged { fault, hops }
 }

@@ -21,7 +21,6 @@ pub fn put_fault(vs: Violations, at: u32, fault: Fault) -> Violations
         Fault::Nothing => vs,
         Fault::NotCovered => violations::push(vs, Violation::NotCovered(at)),
         Fault::OwnerNotCovering => violations::push(vs, Violation::OwnerNotCovering(at)),
-        Fault::ParentGone => violations::push(vs, Violation::ParentGone(at)),
     }
 }
 

@@ -9,7 +9,7 @@ use Rattle.register.specs.Chain.{chain, rootGranted, circling}
 use Rattle.rules.specs.Sound.{distinct, actorFits, resourceFits, claimFits, namesStand, rootKept, drawnFrom, machineMay, overChain, drawn, fresh, alone, over, acceptable, soundClaims, soundActors, soundResources, withinLimits, sound}
 use Rattle.changes.specs.Refusals.{outcomeOf}
 use Rattle.actions.specs.Actions.{actionFits}
-use Rattle.verdicts.specs.Gate.{publicRead, contains, covering, covers, isMachine, isOwnerless, ownerLacks, firstOf, parentGone, flagsSet, governed, useViolation, useViolations, violationsOf, actionTests, gateTests, gated}
+use Rattle.verdicts.specs.Gate.{publicRead, contains, covering, covers, isMachine, isOwnerless, ownerLacks, firstOf, flagsSet, governed, useViolation, useViolations, violationsOf, actionTests, gateTests, gated}
 use Rattle.decimals.specs.Decimals.{digits, digitsWith, run, after, value, canonical, parse}
 use Rattle.lines.specs.Lines.{begins, ended, parseLimited, atLeast, decimalLine, parseKind, pathOn, parseScope}
 use Rattle.texts.specs.Records.{values, passed, many, texts}
@@ -28,7 +28,7 @@ printed-in-R : map (printed caseText) (
     ∷ lined "verdict=permitted violations=0"
     ∷ lined "verdict=refused violations=4 violation=1 at=0 violation=1 at=9 violation=3 at=0 violation=3 at=1"
     ∷ []
-unfolding printed verdictText listText pairText stoppedText texts decimalLine digits digitsWith registerRead registerFrom readActors readResources readClaims actionRead actionOf readUses readGoverns values passed many parseLimited atLeast begins ended parse canonical run after value parseKind parseScope pathOn gated gateTests actionTests outcomeOf actionFits violationsOf flagsSet trim isOwnerless isMachine governed useViolations useViolation covers covering publicRead contains ownerLacks parentGone firstOf contained climbing components same trimmed starting sound withinLimits soundActors soundResources soundClaims acceptable alone over fresh drawn overChain machineMay drawnFrom rootKept namesStand claimFits resourceFits actorFits distinct chain circling rootGranted hasRight hasRights barsMachine
+unfolding printed verdictText listText pairText stoppedText texts decimalLine digits digitsWith registerRead registerFrom readActors readResources readClaims actionRead actionOf readUses readGoverns values passed many parseLimited atLeast begins ended parse canonical run after value parseKind parseScope pathOn gated gateTests actionTests outcomeOf actionFits violationsOf flagsSet trim isOwnerless isMachine governed useViolations useViolation covers covering publicRead contains ownerLacks firstOf contained climbing components same trimmed starting sound withinLimits soundActors soundResources soundClaims acceptable alone over fresh drawn overChain machineMay drawnFrom rootKept namesStand claimFits resourceFits actorFits distinct chain circling rootGranted hasRight hasRights barsMachine
 printed-in-R = refl
 
 abbrev nobody : List ℕ

@@ -24,13 +24,14 @@ use Rattle.actions.specs.Actions.{violationLimit, flagCount, usesOf, governsOf,
 use Rattle.actions.specs.declared.Usage.{Usage}
 use Rattle.actions.specs.declared.Action.{Action}
 use Rattle.actions.specs.declared.Violation.{Violation}
-use Rattle.actions.specs.declared.Violation.the-variants.{FlagSet, NoOwner, MachineGoverns, NotCovered, OwnerNotCovering, ParentGone}
+use Rattle.actions.specs.declared.Violation.the-variants.{FlagSet, NoOwner, NotCovered, OwnerNotCovering}
 use Rattle.actions.specs.declared.Violated.{Violated}
 use Rattle.actions.specs.declared.Violations.{Violations}
 use Rattle.actions.specs.declared.Decision.{Decision}
 use Rattle.actions.specs.declared.Decision.the-variants.{Permitted, Refused, Stopped}
-use Rattle.verdicts.specs.Gate.{covers, isMachine, isOwnerless, ownerLacks, parentGone, flagsSet, governed, useViolation, useViolations, violationsOf}
+use Rattle.verdicts.specs.Gate.{covers, isMachine, isOwnerless, ownerLacks, flagsSet, governed, useViolation, useViolations, violationsOf}
 use Rattle.verdicts.specs.Gate.{gateTests, listed, decided, gated}
+use Rattle.verdicts.specs.Kinds.{kinds-five}
 use Rattle.verdicts.specs.Laws.{action-fits-out, gate-tests-out, gated-judged, gated-stopped, governed-nil, governed-cons, use-violations-nil, use-violations-cons}
 use Rattle.verdicts.specs.Bounds.{violations-most}
 use Rattle.decimals.specs.Walk.{length-small, length-under}
@@ -68,15 +69,13 @@ governed-small : (n : ℕ) (entries : List ℕ) → n + length entries ≤ idLim
 governed-small n [] h = rw (governed-nil n) tt
 governed-small n (g ∷ entries) h = rw (governed-cons n g entries) (omega arith, governed-small (suc n) entries (omega arith))
 
-choice-small : (covered lacks gone : Bool) (n : ℕ) → n ≤ idLimit
-    → All Small (cond covered (cond lacks (OwnerNotCovering n ∷ []) (cond gone (ParentGone n ∷ []) [])) (NotCovered n ∷ []))
-choice-small true true gone n h = (h, tt)
-choice-small true false gone n h = chosen-small gone (ParentGone n ∷ []) (h, tt)
-choice-small false lacks gone n h = (h, tt)
+choice-small : (covered lacks : Bool) (n : ℕ) → n ≤ idLimit → All Small (cond covered (cond lacks (OwnerNotCovering n ∷ []) []) (NotCovered n ∷ []))
+choice-small true lacks n h = chosen-small lacks (OwnerNotCovering n ∷ []) (h, tt)
+choice-small false lacks n h = (h, tt)
 
 use-small : (r : Register) (now x n : ℕ) (u : Usage) → n ≤ idLimit → All Small (useViolation r now x n u)
 unfolding useViolation
-use-small r now x n u h = choice-small (covers r now x u) (ownerLacks r now x u) (parentGone r now x u) n h
+use-small r now x n u h = choice-small (covers r now x u) (ownerLacks r now x u) n h
 
 uses-small : (r : Register) (now x n : ℕ) (us : List Usage) → n + length us ≤ idLimit → All Small (useViolations r now x n us)
 uses-small r now x n [] h = rw (use-violations-nil r now x n) tt
@@ -108,12 +107,7 @@ listed-in vs = front vs (replicate (violationLimit - length vs) (record { what =
     front (v ∷ vs) rest = ap (λ l. v ∷ l) (front vs rest)
 
 kind-small : (v : Violation) → kindOf v < 10
-kind-small (FlagSet i) = omega arith
-kind-small (NoOwner id) = omega arith
-kind-small (MachineGoverns at) = omega arith
-kind-small (NotCovered at) = omega arith
-kind-small (OwnerNotCovering at) = omega arith
-kind-small (ParentGone at) = omega arith
+kind-small v = omega (arith, kinds-five v .1)
 
 pair-length : (v : Violation) → Small v → length (pairText v) ≤ 21
 unfolding pairText

@@ -8,8 +8,9 @@ use lib.ListN.{length, replicate}
 use Rattle.lists.specs.Lists.{any}
 use Rattle.lists.specs.Each.{All}
 use Rattle.register.specs.Limits.{hopLimit}
-use Rattle.register.specs.Register.{actorsOf, resourcesOf, Same}
+use Rattle.register.specs.Register.{actorsOf, resourcesOf, claimsOf, Same}
 use Rattle.register.specs.declared.Actor.{Actor}
+use Rattle.register.specs.declared.Claim.{Claim}
 use Rattle.register.specs.declared.Register.{Register}
 use Rattle.rules.specs.Sound.{sound}
 use Rattle.changes.specs.Refusals.{outcomeOf}
@@ -20,10 +21,11 @@ use Rattle.actions.specs.Actions.{actionLimit, violationLimit, flagCount, usesO
 use Rattle.actions.specs.declared.Usage.{Usage}
 use Rattle.actions.specs.declared.Action.{Action}
 use Rattle.actions.specs.declared.Plan.{Plan}
+use Rattle.actions.specs.declared.Violation.{Violation}
 use Rattle.actions.specs.declared.Violation.the-variants.{NotCovered}
 use Rattle.actions.specs.declared.Decision.the-variants.{Permitted, Refused, Stopped}
 use Rattle.actions.specs.declared.Judgement.the-variants.{Permitted as Agreed, Refused as Denied, Cancelled}
-use Rattle.verdicts.specs.Gate.{covers, isMachine, isOwnerless, parentGone, useViolation, violationsOf, hopsFor, hopCounts, gateTests, actionTests, listed, padded, decided, gated}
+use Rattle.verdicts.specs.Gate.{covering, covers, isMachine, isOwnerless, useViolation, violationsOf, hopsFor, hopCounts, gateTests, actionTests, listed, padded, decided, gated}
 use Rattle.verdicts.specs.Plans.{actionsOf, judged, held, stopped, planned}
 use Rattle.verdicts.specs.Places.{Place}
 use Rattle.verdicts.specs.Laws.{Passed}
@@ -122,13 +124,14 @@ gated-same = sameness.gated-same
 pub planned-same : (r s : Register) → Same r s → (p : Plan) → planned r p ≡ planned s p
 planned-same = sameness.planned-same
 
--- 8a. In a sound register no claim relied on has a parent that does not stand.
-pub parent-never-gone : (r : Register) → sound r ≡ true → (now x : ℕ) (u : Usage) → parentGone r now x u ≡ false
-parent-never-gone = coverage.parent-never-gone
+-- 8a. In a sound register every claim by which anyone covers a use, and that has a parent, has one that stands.
+pub parent-stands : (r : Register) → sound r ≡ true → (now x : ℕ) (u : Usage) (c : Claim) → Place (claimsOf (r .claims)) c → covering r now x u c ≡ true
+    → (c .parent ≡ 0 → ⊥) → (d : Claim) × Place (claimsOf (r .claims)) d × (d .id ≡ c .parent)
+parent-stands r h now x u c at covers = coverage.parent-stands r h c at
 
--- 8b. So in a sound register no violation has kind 6.
-pub never-kind-six : (r : Register) → sound r ≡ true → (a : Action) → All (λ v. kindOf v ≡ 6 → ⊥) (violationsOf r a)
-never-kind-six = kinds.never-kind-six
+-- 8b. The kind of every violation is 1 to 5.
+pub kinds-five : (v : Violation) → (1 ≤ kindOf v) × (kindOf v ≤ 5)
+kinds-five = kinds.kinds-five
 
 -- 9a. Up to and with the first flagged action the verdicts of a plan are the judgements of the violations, and every later one is cancelled.
 pub plan-flagged : (r : Register) (p : Plan) → planned r p .outcome ≡ Accepted → (before : List Action) (a : Action) (after : List Action)

@@ -19,8 +19,8 @@ use Rattle.actions.specs.declared.Usage.{Usage}
 use Rattle.actions.specs.declared.Action.{Action}
 use Rattle.actions.specs.declared.Violation.{Violation}
 use Rattle.actions.specs.declared.Violated.{Violated}
-use Rattle.actions.specs.declared.Violation.the-variants.{FlagSet, NoOwner, NotCovered, OwnerNotCovering, ParentGone}
-use Rattle.verdicts.specs.Gate.{covering, covers, isMachine, isOwnerless, ownerLacks, parentGone, flagsSet, governed, useViolation, useViolations, violationsOf, hopsFor, hopCounts, listed, padded}
+use Rattle.actions.specs.declared.Violation.the-variants.{FlagSet, NoOwner, NotCovered, OwnerNotCovering}
+use Rattle.verdicts.specs.Gate.{covering, covers, isMachine, isOwnerless, ownerLacks, flagsSet, governed, useViolation, useViolations, violationsOf, hopsFor, hopCounts, listed, padded}
 use Rattle.verdicts.specs.Places.{first-none, first-found}
 use Rattle.verdicts.specs.Laws.{action-fits-out, use-violations-nil, use-violations-cons}
 use Rattle.verdicts.specs.Trace.{place-hops-most}
@@ -47,14 +47,13 @@ governed-most : (b : Bool) (entries : List ℕ) → length (cond b (governed 0 e
 governed-most true entries = omega (arith, governed-length 0 entries)
 governed-most false entries = omega arith
 
-choice-most : (covered lacks gone : Bool) (f s t : Violation) → length (cond covered (cond lacks (s ∷ []) (cond gone (t ∷ []) [])) (f ∷ [])) ≤ 1
-choice-most true true gone f s t = omega arith
-choice-most true false gone f s t = owner-most gone t
-choice-most false lacks gone f s t = omega arith
+choice-most : (covered lacks : Bool) (f s : Violation) → length (cond covered (cond lacks (s ∷ []) []) (f ∷ [])) ≤ 1
+choice-most true lacks f s = owner-most lacks s
+choice-most false lacks f s = omega arith
 
 use-most : (r : Register) (now x n : ℕ) (u : Usage) → length (useViolation r now x n u) ≤ 1
 unfolding useViolation
-use-most r now x n u = choice-most (covers r now x u) (ownerLacks r now x u) (parentGone r now x u) (NotCovered n) (OwnerNotCovering n) (ParentGone n)
+use-most r now x n u = choice-most (covers r now x u) (ownerLacks r now x u) (NotCovered n) (OwnerNotCovering n)
 
 uses-most : (r : Register) (now x n : ℕ) (us : List Usage) → length (useViolations r now x n us) ≤ length us
 uses-most r now x n [] = rw (use-violations-nil r now x n) (omega arith)

@@ -1,10 +1,10 @@
--- Covering: what a covering claim is, a use that is not covered, and that a sound register never has kind 6.
+-- Covering: what a covering claim is, a use that is not covered, and that in a sound register the parent of a claim stands.
 -- Assumes nothing.
 use mathlib.Core.Path.{_≡_, sym, _∙_}
-use mathlib.Core.Bool.{true, false, _&&_, cond, and-false}
+use mathlib.Core.Bool.{Bool, true, false, _&&_, and-false}
 use mathlib.Core.List.{[], _∷_, _++_}
 use Prim.Native.Nat.{ℕ}
-use borrow.Author.Tests.{eqb-false}
+use borrow.Author.Tests.{eqb-true}
 use lib.Dec.{eqb}
 use Rattle.lists.specs.Tests.{cases, clash, and-left, or-right}
 use Rattle.lists.specs.Lists.{any, any-append, any-reverse}
@@ -19,9 +19,9 @@ use Rattle.rules.specs.Sound.{World, worldOf, soundClaims, sound}
 use Rattle.rules.specs.Registers.{sound-out}
 use Rattle.rules.specs.Places.{place-parent}
 use Rattle.actions.specs.declared.Usage.{Usage}
-use Rattle.actions.specs.declared.Violation.the-variants.{NotCovered, OwnerNotCovering}
-use Rattle.verdicts.specs.Places.{Place, latest-split, first-none, first-found}
-use Rattle.verdicts.specs.Gate.{publicRead, contains, covering, covers, ownerLacks, parentless, parentGone, useViolation, hopsFor}
+use Rattle.actions.specs.declared.Violation.the-variants.{NotCovered}
+use Rattle.verdicts.specs.Places.{Place, any-place, latest-split, first-none}
+use Rattle.verdicts.specs.Gate.{publicRead, contains, covering, covers, useViolation, hopsFor}
 
 -- what a covering claim is
 pub record Covering (r : Register) (now x : ℕ) (u : Usage) (c : Claim) : Type 0 where
@@ -99,24 +99,11 @@ sound-place r h c at =
     rw (← latest-split (at .before) c (at .after)) (rw (at .split) at (sound-out r h .claims))
 
 -- the parent of a claim that stands in a sound register stands too
-pub parent-stands : (r : Register) → sound r ≡ true → (c : Claim) → Place (claimsOf (r .claims)) c → parentless r c ≡ false
-parent-stands r h c at =
+pub parent-stands : (r : Register) → sound r ≡ true → (c : Claim) → Place (claimsOf (r .claims)) c → (c .parent ≡ 0 → ⊥)
+    → (d : Claim) × Place (claimsOf (r .claims)) d × (d .id ≡ c .parent)
+parent-stands r h c at other =
     let w : World = worldOf (actorsOf (r .actors)) (resourcesOf (r .resources)) in
-    cases (eqb (c .parent) 0) (λ e. rw e)
-    (λ e. let earlier = sym (any-reverse (λ d. eqb (c .parent) (d .id)) (at .before))
-    ∙ place-parent w (latest (at .after)) c (latest (at .before)) (sound-place r h c at) (eqb-false (c .parent) 0 e) in
-    rw (e, at .split, any-append (λ d. eqb (c .parent) (d .id)) (at .before) (c ∷ at .after), earlier))
-
--- so in a sound register no use has kind 6
-pub parent-never-gone : (r : Register) → sound r ≡ true → (now x : ℕ) (u : Usage) → parentGone r now x u ≡ false
-unfolding parentGone
-parent-never-gone r h now x u =
-    cases (any (covering r now x u) (claimsOf (r .claims)))
-    (λ e. let found = first-found (covering r now x u) (claimsOf (r .claims)) e in
-    rw (found .1 .alone, parent-stands r h (found .0) (found .1 .place)))
-    (λ e. rw (first-none (covering r now x u) (claimsOf (r .claims)) e))
-
-pub use-violation-sound : (r : Register) → sound r ≡ true → (now x n : ℕ) (u : Usage)
-    → useViolation r now x n u ≡ cond (covers r now x u) (cond (ownerLacks r now x u) (OwnerNotCovering n ∷ []) []) (NotCovered n ∷ [])
-unfolding useViolation
-use-violation-sound r h now x n u = rw (parent-never-gone r h now x u)
+    let named : Claim → Bool = λ d. eqb (c .parent) (d .id) in
+    let earlier = sym (any-reverse named (at .before)) ∙ place-parent w (latest (at .after)) c (latest (at .before)) (sound-place r h c at) other in
+    let found = any-place named (claimsOf (r .claims)) (rw (at .split, any-append named (at .before) (c ∷ at .after), earlier)) in
+    (found .0, found .1, sym (eqb-true (c .parent) (found .0 .id) (found .2)))

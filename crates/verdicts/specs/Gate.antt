@@ -24,7 +24,7 @@ use Rattle.actions.specs.Actions.{useLimit, violationLimit, flagCount, usesOf, 
 use Rattle.actions.specs.declared.Usage.{Usage}
 use Rattle.actions.specs.declared.Action.{Action}
 use Rattle.actions.specs.declared.Violation.{Violation}
-use Rattle.actions.specs.declared.Violation.the-variants.{FlagSet, NoOwner, MachineGoverns, NotCovered, OwnerNotCovering, ParentGone}
+use Rattle.actions.specs.declared.Violation.the-variants.{FlagSet, NoOwner, MachineGoverns, NotCovered, OwnerNotCovering}
 use Rattle.actions.specs.declared.Violations.{Violations}
 use Rattle.actions.specs.declared.Decision.{Decision}
 use Rattle.actions.specs.declared.Decision.the-variants.{Permitted, Refused, Stopped}
@@ -73,13 +73,6 @@ firstOf p (c ∷ cs) = let more = firstOf p cs in cond (p c) (c ∷ []) more
 abbrev pub relied : Register → ℕ → ℕ → Usage → List Claim
 relied r now x u = firstOf (covering r now x u) (claimsOf (r .claims))
 
--- whether the claim relied on has a parent that does not stand
-abbrev pub parentless : Register → Claim → Bool
-parentless r c = not (eqb (c .parent) 0) && not (any (λ d. eqb (c .parent) (d .id)) (claimsOf (r .claims)))
-
-unfoldable pub parentGone : Register → ℕ → ℕ → Usage → Bool
-parentGone r now x u = any (parentless r) (relied r now x u)
-
 -- 1: one for each set flag, lowest first; flag i is bit i
 unfoldable pub flagsSet : ℕ → List Violation
 flagsSet flags = map (λ i. FlagSet i) (sift (λ i. eqb (flags / 2 ^ i % 2) 0) (counted 0 flagCount))
@@ -89,13 +82,10 @@ unfoldable pub governed : ℕ → List ℕ → List Violation
 governed n [] = []
 governed n (g ∷ entries) = MachineGoverns n ∷ governed (suc n) entries
 
--- 4, 5, 6: by use position from n, where the actor does not cover it; else where its owner does not; else where a claim relied on has a
--- parent that does not stand
+-- 4, 5: by use position from n, where the actor does not cover it; else where its owner does not
 unfoldable pub useViolation : Register → ℕ → ℕ → ℕ → Usage → List Violation
 useViolation r now x n u =
-    cond (covers r now x u)
-    (cond (ownerLacks r now x u) (OwnerNotCovering n ∷ []) (cond (parentGone r now x u) (ParentGone n ∷ []) []))
-    (NotCovered n ∷ [])
+    cond (covers r now x u) (cond (ownerLacks r now x u) (OwnerNotCovering n ∷ []) []) (NotCovered n ∷ [])
 
 unfoldable pub useViolations : Register → ℕ → ℕ → ℕ → List Usage → List Violation
 useViolations r now x n [] = []

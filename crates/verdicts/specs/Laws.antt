@@ -25,9 +25,9 @@ use Rattle.actions.specs.Actions.{useLimit, governLimit, flagCount, usesOf, gov
 use Rattle.actions.specs.declared.Usage.{Usage}
 use Rattle.actions.specs.declared.Action.{Action}
 use Rattle.actions.specs.declared.Violation.{Violation}
-use Rattle.actions.specs.declared.Violation.the-variants.{NoOwner, MachineGoverns, NotCovered, OwnerNotCovering, ParentGone}
+use Rattle.actions.specs.declared.Violation.the-variants.{NoOwner, MachineGoverns, NotCovered, OwnerNotCovering}
 use Rattle.actions.specs.declared.Decision.the-variants.{Permitted, Refused, Stopped}
-use Rattle.verdicts.specs.Gate.{covers, isMachine, isOwnerless, ownerLacks, parentGone, flagsSet, governed, useViolation, useViolations, violationsOf, hopCounts}
+use Rattle.verdicts.specs.Gate.{covers, isMachine, isOwnerless, ownerLacks, flagsSet, governed, useViolation, useViolations, violationsOf, hopCounts}
 use Rattle.verdicts.specs.Gate.{actionTests, gateTests, listed, padded, decided, verdictOn, gated}
 
 -- a stopped gate call gives no violations and no hop counts
@@ -155,23 +155,21 @@ violations-none-in r a h =
 pub record UseClean (r : Register) (now x : ℕ) (u : Usage) : Type 0 where
   pub covered : covers r now x u ≡ true
   pub ownerCovers : ownerLacks r now x u ≡ false
-  pub parentStands : parentGone r now x u ≡ false
 
-use-choice : {A : Type 0} (covered lacks gone : Bool) (f s t : A) → cond covered (cond lacks (s ∷ []) (cond gone (t ∷ []) [])) (f ∷ []) ≡ []
-    → (covered ≡ true) × (lacks ≡ false) × (gone ≡ false)
-use-choice true lacks gone f s t h =
-    (refl, cases lacks (λ e. cons-clash (rw e at h)) (λ e. e), cases lacks (λ e. cons-clash (rw e at h)) (λ e. choice-none gone t [] (rw e at h)))
-use-choice false lacks gone f s t h = cons-clash h
+use-choice : {A : Type 0} (covered lacks : Bool) (f s : A) → cond covered (cond lacks (s ∷ []) []) (f ∷ []) ≡ []
+    → (covered ≡ true) × (lacks ≡ false)
+use-choice true lacks f s h = (refl, choice-none lacks s [] h)
+use-choice false lacks f s h = cons-clash h
 
 pub use-violation-out : (r : Register) (now x n : ℕ) (u : Usage) → useViolation r now x n u ≡ [] → UseClean r now x u
 unfolding useViolation
 use-violation-out r now x n u h =
-    let told = use-choice (covers r now x u) (ownerLacks r now x u) (parentGone r now x u) (NotCovered n) (OwnerNotCovering n) (ParentGone n) h in
-    record { covered = told .0; ownerCovers = told .1; parentStands = told .2 }
+    let told = use-choice (covers r now x u) (ownerLacks r now x u) (NotCovered n) (OwnerNotCovering n) h in
+    record { covered = told .0; ownerCovers = told .1 }
 
 pub use-violation-in : (r : Register) (now x n : ℕ) (u : Usage) → UseClean r now x u → useViolation r now x n u ≡ []
 unfolding useViolation
-use-violation-in r now x n u h = rw (h .covered, h .ownerCovers, h .parentStands)
+use-violation-in r now x n u h = rw (h .covered, h .ownerCovers)
 
 pub use-violations-nil : (r : Register) (now x n : ℕ) → useViolations r now x n [] ≡ []
 unfolding useViolations

@@ -23,7 +23,7 @@ use Rattle.verdicts.specs.Gate.{publicRead, contains, covering, covers, 
 use Rattle.verdicts.specs.Places.{Place, place-any, each-place}
 use Rattle.verdicts.specs.Laws.{Passed, UseClean, use-violations-in, permitted-in}
 use Rattle.verdicts.specs.Flags.{flags-zero}
-use Rattle.verdicts.specs.Coverage.{covering-in, parent-never-gone}
+use Rattle.verdicts.specs.Coverage.{covering-in}
 use Rattle.verdicts.specs.Authority.{Contains, PublicRead, Traced, Rests, Owned, Authority}
 
 pub contains-in : (r : Register) (x y : ℕ) → Contains r x y → contains r x y ≡ true
@@ -99,7 +99,6 @@ authority-permits r a passed flagless owned ungoverning rests =
             (λ u at. record {
               covered = rests-covers r (a .now) (a .actor) u (rests u at .actorRests);
               ownerCovers = owner-not-lacking r (a .now) (a .actor) u (rests u at .machineOwned);
-              parentStands = parent-never-gone r (passed .soundly) (a .now) (a .actor) u;
             }) (usesOf a) (each-place (usesOf a)));
       };
     }

@@ -9,7 +9,7 @@ use Rattle.lists.specs.Each.{each-all, any-map, any-same}
 use Rattle.paths.specs.Containment.{contained}
 use Rattle.rights.specs.Rights.{reading}
 use Rattle.register.specs.Limits.{machineKind}
-use Rattle.register.specs.Register.{actorsOf, resourcesOf, claimsOf, pathOf, Standing, standing, Same}
+use Rattle.register.specs.Register.{actorsOf, resourcesOf, pathOf, Standing, standing, Same}
 use Rattle.register.specs.Chain.{latest, hopsOf}
 use Rattle.register.specs.declared.Claim.{Claim}
 use Rattle.register.specs.declared.Register.{Register}
@@ -21,7 +21,7 @@ use Rattle.actions.specs.Actions.{usesOf}
 use Rattle.actions.specs.declared.Usage.{Usage}
 use Rattle.actions.specs.declared.Action.{Action}
 use Rattle.actions.specs.declared.Plan.{Plan}
-use Rattle.verdicts.specs.Gate.{publicRead, contains, covering, covers, isMachine, isOwnerless, ownerLacks, relied, parentGone, useViolation, useViolations}
+use Rattle.verdicts.specs.Gate.{publicRead, contains, covering, covers, isMachine, isOwnerless, ownerLacks, relied, useViolation, useViolations}
 use Rattle.verdicts.specs.Gate.{violationsOf, hopsIn, hopsFor, hopCounts, actionTests, gateTests, verdictOn, gated}
 use Rattle.verdicts.specs.Plans.{actionsOf, judgements, Halt, runs, halts, haltOn, firstHalt, haltOf, held, planVerdict, planned}
 
@@ -84,15 +84,9 @@ module _ (r s : Register) (same : Same r s) where
   relied-same : (now x : ℕ) (u : Usage) → relied r now x u ≡ relied s now x u
   relied-same now x u = rw (covering-same now x u, same .claims)
 
-  gone-same : (now x : ℕ) (u : Usage) → parentGone r now x u ≡ parentGone s now x u
-  unfolding parentGone
-  gone-same now x u =
-      ap (λ l. any (λ c. not (eqb (c .parent) 0) && not (any (λ d. eqb (c .parent) (d .id)) l)) (relied r now x u)) (same .claims)
-      ∙ ap (λ l. any (λ c. not (eqb (c .parent) 0) && not (any (λ d. eqb (c .parent) (d .id)) (claimsOf (s .claims)))) l) (relied-same now x u)
-
   violation-same : (now x n : ℕ) (u : Usage) → useViolation r now x n u ≡ useViolation s now x n u
   unfolding useViolation
-  violation-same now x n u = rw (covers-same now x u, lacks-same now x u, gone-same now x u)
+  violation-same now x n u = rw (covers-same now x u, lacks-same now x u)
 
   use-violations-same : (now x n : ℕ) (us : List Usage) → useViolations r now x n us ≡ useViolations s now x n us
   unfolding useViolations

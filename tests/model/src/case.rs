@@ -6,6 +6,7 @@ use guvrendik_model::requests::{put_request, Request};
 use guvrendik_model::types::*;
 use guvrendik_model::wire::Wire;
 use std::mem::size_of;
+use std::ops::RangeInclusive;
 
 /// A call. Those about a register are made on the script's register as it stands.
 #[derive(Clone, Debug, PartialEq, Eq)]
@@ -62,6 +63,9 @@ pub struct Script {
 }
 
 pub const CALLS: usize = 12;
+
+/// The kinds of violation. 6 is not used.
+pub const KINDS: RangeInclusive<u32> = 1..=5;
 
 /// By `Call::number`: the name, and the outcomes that a run must meet.
 pub const NAMES: [(&str, &[Outcome]); CALLS] = [
@@ -287,6 +291,17 @@ impl Call {
                 put_text(*room, *fill, out, |buffer| model.write_json(action, id, *kind, buffer))
             }
         }
+    }
+
+    /// The kinds of the violations that an answer of the gate lists; of another call, none.
+    pub fn kinds(&self, mut answer: &[u8]) -> Vec<u32> {
+        let Call::Gate(_) = self else {
+            return Vec::new();
+        };
+        let from = &mut answer;
+        u32::take(from);
+        let verdict = Verdict::take(from);
+        verdict.violations.iter().take(verdict.count).map(|violation| violation.kind).collect()
     }
 
     /// An answer's fields by name, for a reader.

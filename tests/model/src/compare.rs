@@ -1,6 +1,6 @@
 //! The comparison: scripts go to the driver in batches, and each whole answer is held against the model's.
 
-use crate::case::{outcome_name, Call, Outcome, Script, CALLS, NAMES};
+use crate::case::{outcome_name, Call, Outcome, Script, CALLS, KINDS, NAMES};
 use crate::driver::Driver;
 use crate::generate::random::Random;
 use crate::generate::{actions, changes, json, registers, texts};
@@ -49,6 +49,8 @@ pub struct Tally {
     pub pairs_on_one_chain: u64,
     /// How often a call of a pair had these outcomes, when it came first and when it came second.
     pub pair_outcomes: BTreeMap<(Outcome, Outcome), u64>,
+    /// How many violations of each kind the gate of the library listed.
+    pub kinds: BTreeMap<u32, u64>,
 }
 
 pub struct Comparison<'c> {
@@ -179,6 +181,7 @@ impl<'c> Comparison<'c> {
             let outcome = call.answer(&self.model, &mut state, &mut expected);
             self.tally.calls[call.number()] += 1;
             *self.tally.outcomes.entry((call.number(), outcome)).or_default() += 1;
+            call.kinds(&got).into_iter().for_each(|kind| *self.tally.kinds.entry(kind).or_default() += 1);
             if expected == got {
                 self.tally.passed += 1;
             } else {
@@ -488,7 +491,8 @@ impl Tally {
         self.failed += u64::from(!holds);
     }
 
-    /// Prints the cases of each call, and counts each outcome that a full run must meet.
+    /// Prints the cases of each call and the violations of each kind, and counts each outcome and kind that a full run must meet. A kind that
+    /// there is not has failed.
     pub fn summarise(&mut self) {
         for (number, (name, demanded)) in NAMES.iter().enumerate() {
             let met: Vec<String> = self
@@ -508,7 +512,21 @@ impl Tally {
             }
         }
         println!("{:>7} cases", self.calls.iter().sum::<u64>());
+        self.summarise_kinds();
         self.summarise_pairs();
+    }
+
+    /// Prints the violations of each kind, and counts each kind as met; one that there is not has failed.
+    fn summarise_kinds(&mut self) {
+        for kind in KINDS {
+            self.kinds.entry(kind).or_default();
+        }
+        for (kind, count) in &self.kinds {
+            println!("{count:>7} violations of kind {kind}");
+            let due = KINDS.contains(kind) && *count > 0;
+            self.passed += u64::from(due);
+            self.failed += u64::from(!due);
+        }
     }
 
     /// Prints the pairs of revocations, and counts that enough were on one chain and that each demanded change was met.

@@ -22,9 +22,6 @@ first-covering-requires-2 c κs = search needs
 is-covered-requires-2 : tie.Need-is-covered-requires-2
 is-covered-requires-2 c κs = search needs
 
-is-parentless-requires : tie.Need-is-parentless-requires
-is-parentless-requires c κs = search needs
-
 fault-of-requires : tie.Need-fault-of-requires
 fault-of-requires c κs = search needs
 
@@ -33,13 +30,12 @@ unfolding useJudged
 returns c =
     rw (
       c .fault-of .ensures,
-      c .before .before .before .before .before .hops-from .ensures,
-      c .before .is-parentless .ensures,
-      c .before .before .before .before .is-covered .ensures,
-      c .before .before .is-covered2 .ensures,
-      c .before .before .before .before .before .before .first-covering .ensures,
-      c .before .before .before .first-covering2 .ensures,
-      c .before .before .before .before .before .before .before .is-open .ensures,
+      c .before .before .before .before .hops-from .ensures,
+      c .before .before .before .is-covered .ensures,
+      c .before .is-covered2 .ensures,
+      c .before .before .before .before .before .first-covering .ensures,
+      c .before .before .first-covering2 .ensures,
+      c .before .before .before .before .before .before .is-open .ensures,
     )
 
 pub judge-use-spec : {M : Type 1} → statement M
@@ -52,6 +48,5 @@ judge-use-spec =
     is-covered-requires
     first-covering-requires-2
     is-covered-requires-2
-    is-parentless-requires
     fault-of-requires
     returns)

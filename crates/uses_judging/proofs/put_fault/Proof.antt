@@ -19,12 +19,6 @@ enum-told-3 c = search needs
 push-requires-2 : tie.Need-push-requires-2
 push-requires-2 c κs = search needs
 
-enum-told-4 : tie.Need-enum-told-4
-enum-told-4 c = search needs
-
-push-requires-3 : tie.Need-push-requires-3
-push-requires-3 c κs = search needs
-
 returns : tie.Need-returns
 unfolding pushedAll
 returns c = rw (c .enum-told .given .1)
@@ -37,10 +31,6 @@ returns-3 : tie.Need-returns-3
 unfolding pushedAll
 returns-3 c = rw (c .before .enum-told3 .given .1) (c .push2 .ensures)
 
-returns-4 : tie.Need-returns-4
-unfolding pushedAll
-returns-4 c = rw (c .before .enum-told4 .given .1) (c .push3 .ensures)
-
 pub put-fault-spec : {M : Type 1} → statement M
 put-fault-spec =
     tie.close
@@ -50,9 +40,6 @@ put-fault-spec =
     push-requires
     enum-told-3
     push-requires-2
-    enum-told-4
-    push-requires-3
     returns
     returns-2
-    returns-3
-    returns-4)
+    returns-3)

@@ -280,6 +280,17 @@ pub const DEFECTS: &[(&str, Defect)] = &[
         let parent = absent(register, random);
         child(register, random, |claim, _| claim.parent = parent)
     }),
+    ("parent removed", |register, random| {
+        let pairs = pairs(register, |_, _| true);
+        if pairs.is_empty() {
+            return false;
+        }
+        let &(_, parent) = random.pick(&pairs);
+        let claims = &mut register.claims;
+        claims.list[parent..claims.count].rotate_left(1);
+        claims.count -= 1;
+        true
+    }),
     ("parent is the claim", |register, random| child(register, random, |claim, _| claim.parent = claim.id)),
     ("parent later in the list", |register, random| {
         let pairs = pairs(register, |_, _| true);
@@ -466,13 +477,15 @@ mod tests {
         let mut random = Random::new(3);
         for (name, defect) in DEFECTS {
             let mut fitted = 0;
-            for round in 0..60 {
+            for round in 0..120 {
                 let shape = [SMALL, MEDIUM, FULL, Shape { claims: 200, ..FULL }][round % 4];
                 let mut register = registers::sound(&mut random, shape, round % 2 == 0);
                 let before = register.clone();
                 if defect(&mut register, &mut random) {
                     fitted += 1;
                     assert!(!Model::default().sound(&register), "{name}");
+                    let verdict = Model::default().gate(&register, &Action::ZERO);
+                    assert_eq!((verdict.decision, verdict.refusal, verdict.count), (STOPPED, 1, 0), "{name}");
                 } else {
                     assert_eq!(register, before, "{name}");
                 }

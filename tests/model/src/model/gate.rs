@@ -4,8 +4,7 @@ use super::paths::{climbs, reaches};
 use super::{Fault, Model, Refusal, Sound};
 use crate::types::*;
 
-/// What a violation is, with the flag, actor or position it is about. The sixth kind, a claim relied on whose parent does not
-/// stand, is met in no sound register: there each parent stands.
+/// What a violation is, with the flag, actor or position it is about.
 enum Breach {
     Flag(usize),
     Ownerless(u32),
