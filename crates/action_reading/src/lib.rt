@@ -5,12 +5,12 @@ ghost use Prim.Native.Nat.{_-_};
 ghost use lib.ListN.{length, replicate};
 ghost use Rattle.actions.specs.Actions.{useLimit, governLimit};
 ghost use Rattle.lines.specs.Reading.{stateOf};
-ghost use Rattle.texts.specs.Actions.{readUse, readUses, readGoverns, noUse, noAction, actionAnswer, actionRead};
+ghost use Rattle.texts.specs.Actions.{readUse, readUses, readGoverns, noUse, noAction, actionRead, actionEnding};
 ghost use Rattle.reading.specs.Reads.{Reads};
 use actions::Action;
 use actions::Usage;
-use changes::Outcome;
 use lines::Cursor;
+use refusals::Outcome;
 use register::ID_LIMIT;
 use register::MOMENT_END;
 use rights::POLICY_MODIFY;
@@ -125,7 +125,7 @@ fn no_action() -> Action
 
 // The answer, by where the reading ended.
 fn answer(s: &[u8], c: Cursor, action: Action) -> ActionRead
-    ensures { λ r. ⌜ r ≡ actionAnswer action (stateOf (now (s .entry)) c) ⌝ }
+    ensures { λ r. ⌜ r ≡ actionEnding action (stateOf (now (s .entry)) c) ⌝ }
 {
     if !lines::goes_on(s, c) {
         let none = no_action();

@@ -2,8 +2,8 @@
 // are ignored. The structs that come in cross to C as they are; answers hold enums.
 ghost use mathlib.Core.Path.{_≡_};
 ghost use Rattle.actions.specs.Actions.{kindOf, valueOf, judgementNumber, judgementValue};
-use changes::Outcome;
-use changes::Refusal;
+use refusals::Outcome;
+use refusals::Refusal;
 
 // A resource number with a right.
 #[repr(C)]

@@ -12,13 +12,13 @@ use Rattle.register.specs.Limits.{claimLimit, machineKind}
 use Rattle.register.specs.declared.Actor.{Actor}
 use Rattle.register.specs.declared.Resource.{Resource}
 use Rattle.register.specs.declared.Claim.{Claim}
-use Rattle.columns.specs.Columns.{actorId, kindOf, ownerOf, resourceId, keeperOf, latestPlace, beside}
-use Rattle.finding.specs.Finding.{numberOf}
+use Rattle.columns.specs.Columns.{actorId, actorKind, ownerOf, resourceId, keeperOf, latestPlace, beside}
+use Rattle.finding.specs.Finding.{placeNumber}
 use Rattle.rules.specs.Sound.{World, claimFits}
 
 -- the world by the first n of the columns of the actors, and the first m of those of the resources
-abbrev pub worldIn : List ℕ → List ℕ → List ℕ → ℕ → List ℕ → List ℕ → ℕ → World
-worldIn ids kinds owners n reports keepers m = record {
+abbrev pub worldBy : List ℕ → List ℕ → List ℕ → ℕ → List ℕ → List ℕ → ℕ → World
+worldBy ids kinds owners n reports keepers m = record {
   known = λ x. any (eqb x) (take n ids);
   machine = λ x. beside (take n ids) (take n kinds) x machineKind;
   ownerless = λ x. beside (take n ids) (take n owners) x 0;
@@ -37,7 +37,7 @@ pub record Found : Type 0 where
 
 -- the place of a number among the first n of a column, the claims' limit for nowhere
 abbrev pub placeIn : List ℕ → ℕ → ℕ → ℕ
-placeIn column n x = numberOf claimLimit (latestPlace column n x)
+placeIn column n x = placeNumber claimLimit (latestPlace column n x)
 
 -- what is looked up of a claim among the first n actors and the first m resources
 abbrev pub foundIn : List Actor → ℕ → List Resource → ℕ → Claim → Found
@@ -45,7 +45,7 @@ foundIn actors n resources m c = record {
   grantor = placeIn (map actorId actors) n (c .grantor);
   holder = placeIn (map actorId actors) n (c .holder);
   report = placeIn (map resourceId resources) m (c .resource);
-  kind = getD (map kindOf actors) (placeIn (map actorId actors) n (c .grantor)) 0;
+  kind = getD (map actorKind actors) (placeIn (map actorId actors) n (c .grantor)) 0;
   owner = getD (map ownerOf actors) (placeIn (map actorId actors) n (c .grantor)) 0;
   keeper = getD (map keeperOf resources) (placeIn (map resourceId resources) m (c .resource)) 0;
 }

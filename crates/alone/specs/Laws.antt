@@ -16,11 +16,11 @@ use Rattle.register.specs.Register.{noActor, noResource}
 use Rattle.register.specs.declared.Actor.{Actor}
 use Rattle.register.specs.declared.Resource.{Resource}
 use Rattle.register.specs.declared.Claim.{Claim}
-use Rattle.columns.specs.Columns.{actorId, kindOf, ownerOf, resourceId, keeperOf, latestPlace}
+use Rattle.columns.specs.Columns.{actorId, ownerOf, resourceId, keeperOf, latestPlace, actorKind}
 use Rattle.columns.specs.Laws.{place-cases, place-found, nowhere-none, place-among, among-natural}
-use Rattle.finding.specs.Finding.{numberOf}
+use Rattle.finding.specs.Finding.{placeNumber}
+use Rattle.finding.specs.Asked.{askedAt, asked-natural}
 use Rattle.rules.specs.Sound.{worldOf, distinct, claimFits, namesStand, rootKept, machineMay, alone}
-use Rattle.rules.specs.Distinct.{askedAt, asked-natural}
 use Rattle.alone.specs.Judged.{placeIn, foundIn, aloneAt}
 
 -- what is looked up by the number x among the first n of a list
@@ -33,7 +33,7 @@ module _ {A : Type 0} (id : A → ℕ) (l : List A) (n x : ℕ) (short : n ≤ c
       rw e (lt-ltb k claimLimit (omega (arith, found .0)))
       ∙ sym (place-among (map id l) x n k e)
       ∙ among-natural id x n l)
-      (λ e. ap (λ p. ltb (numberOf claimLimit p) claimLimit) e ∙ sym (nowhere-none (map id l) x n e) ∙ among-natural id x n l)
+      (λ e. ap (λ p. ltb (placeNumber claimLimit p) claimLimit) e ∙ sym (nowhere-none (map id l) x n e) ∙ among-natural id x n l)
 
   -- with distinct numbers, what is asked of the one numbered x is asked of what stands at its place
   module _ (apart : distinct (map id (take n l)) ≡ true) (d : A) (unnumbered : id d ≡ 0) (field : A → ℕ) (unset : field d ≡ 0) (y : ℕ) where
@@ -42,11 +42,11 @@ module _ {A : Type 0} (id : A → ℕ) (l : List A) (n x : ℕ) (short : n ≤ c
     field-asked placed =
         place-cases (latestPlace (map id l) n x)
         (λ k e. let read : getD (map field l) k 0 ≡ field (getD l k d) = rw unset at (List·getD-map field l k d) in
-        ap (λ p. eqb y (getD (map field l) (numberOf claimLimit p) 0)) e
+        ap (λ p. eqb y (getD (map field l) (placeNumber claimLimit p) 0)) e
         ∙ ap (eqb y) read
         ∙ sym (ap (askedAt d l (λ a. eqb y (field a))) e)
         ∙ sym (asked-natural id d unnumbered l x (λ a. eqb y (field a)) n apart))
-        (λ e. absurd (omega (arith, ltb-true claimLimit claimLimit (sym (ap (λ p. ltb (numberOf claimLimit p) claimLimit) e) ∙ placed))))
+        (λ e. absurd (omega (arith, ltb-true claimLimit claimLimit (sym (ap (λ p. ltb (placeNumber claimLimit p) claimLimit) e) ∙ placed))))
 
 -- the places are asked one by one and the names together; the tests behind them count where all of those stand
 tests-same : (fits grantor holder report root machine root′ machine′ : Bool)
@@ -81,7 +81,7 @@ alone-natural actors n resources m c few apart short distant =
     (not (eqb (c .parent) 0) || w .keeps (c .grantor) (c .resource))
     (not (w .machine (c .grantor)) || (not (w .ownerless (c .grantor)) && not (barsMachine (c .rights))))
     (λ placed. rw (
-      ← field-asked actorId actors n (c .grantor) few apart noActor refl kindOf refl machineKind placed,
+      ← field-asked actorId actors n (c .grantor) few apart noActor refl actorKind refl machineKind placed,
       ← field-asked actorId actors n (c .grantor) few apart noActor refl ownerOf refl 0 placed,
     ))
     (λ placed. rw (← field-asked resourceId resources m (c .resource) short distant noResource refl keeperOf refl (c .grantor) placed)))

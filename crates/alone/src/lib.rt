@@ -3,7 +3,7 @@
 ghost use mathlib.Core.Path.{_≡_};
 ghost use mathlib.Core.List.{[]};
 ghost use Rattle.rules.specs.Sound.{claimFits, namesStand, rootKept};
-ghost use Rattle.alone.specs.Judged.{worldIn, aloneAt};
+ghost use Rattle.alone.specs.Judged.{worldBy, aloneAt};
 use register::Actor;
 use register::Claim;
 use register::Register;
@@ -24,7 +24,7 @@ pub fn claim_fits(c: Claim) -> bool
 
 // Whether every actor and resource that a claim names stands, among the first `n` actors and the first `m` resources.
 pub fn names_stand<'a>(ids: &'a [u32], n: usize, reports: &'a [u32], m: usize, c: Claim) -> bool
-    ensures { λ r. ⌜ r ≡ namesStand (worldIn (now (ids .entry)) [] [] n (now (reports .entry)) [] m) c ⌝ }
+    ensures { λ r. ⌜ r ≡ namesStand (worldBy (now (ids .entry)) [] [] n (now (reports .entry)) [] m) c ⌝ }
 {
     columns::is_among(ids, n, c.grantor)
         & columns::is_among(ids, n, c.holder)
@@ -33,7 +33,7 @@ pub fn names_stand<'a>(ids: &'a [u32], n: usize, reports: &'a [u32], m: usize, c
 
 // (a): a root's grantor is its resource's keeper.
 pub fn root_kept<'a>(reports: &'a [u32], keepers: &'a [u32], m: usize, c: Claim) -> bool
-    ensures { λ r. ⌜ r ≡ rootKept (worldIn [] [] [] 0 (now (reports .entry)) (now (keepers .entry)) m) c ⌝ }
+    ensures { λ r. ⌜ r ≡ rootKept (worldBy [] [] [] 0 (now (reports .entry)) (now (keepers .entry)) m) c ⌝ }
 {
     if c.parent != 0 {
         return true;

@@ -4,9 +4,9 @@ use mathlib.Core.Bool.{Bool, cond}
 use mathlib.Core.List.{List, _++_, map}
 use Prim.Native.Nat.{ℕ, _-_}
 use lib.ListN.{length, take, replicate}
-use Rattle.changes.specs.Refusals.{numberOf}
-use Rattle.changes.specs.declared.Outcome.{Outcome}
-use Rattle.changes.specs.declared.Outcome.the-variants.{Accepted, Refused as RefusedFor}
+use Rattle.refusals.specs.Refusals.{numberOf}
+use Rattle.refusals.specs.declared.Outcome.{Outcome}
+use Rattle.refusals.specs.declared.Outcome.the-variants.{Accepted, Refused as RefusedFor}
 use Rattle.changes.specs.declared.Granted.{Granted}
 use Rattle.changes.specs.declared.Revoked.{Revoked}
 use Rattle.actions.specs.Actions.{violationLimit, actionLimit, kindOf, valueOf, judgementNumber, judgementValue}

@@ -10,8 +10,8 @@ use actions::Plan;
 use actions::PlanVerdict;
 use actions::Violation;
 use actions::Violations;
-use changes::Outcome;
 use json_actions::ID_BYTES;
+use refusals::Outcome;
 use register::Register;
 use texts::Written;
 
@@ -142,7 +142,7 @@ pub fn refusal(o: Outcome) -> u32
 {
     match o {
         Outcome::Accepted => 0,
-        Outcome::Refused(why) => changes::number(why),
+        Outcome::Refused(why) => refusals::number(why),
     }
 }
 
@@ -164,7 +164,7 @@ pub fn stop(d: Decision) -> u32
     match d {
         Decision::Permitted => 0,
         Decision::Refused => 0,
-        Decision::Stopped(why) => changes::number(why),
+        Decision::Stopped(why) => refusals::number(why),
     }
 }
 

@@ -6,18 +6,18 @@ use lib.Dec.{eqb, leb, ltb}
 use lib.ListN.{length, set, replicate}
 use Rattle.lists.specs.Lists.{any}
 use Rattle.rights.specs.Rights.{delegating, hasRight, hasRights, barsMachine}
-use Rattle.register.specs.Limits.{claimLimit, hopLimit, momentEnd}
+use Rattle.register.specs.Limits.{claimLimit, momentEnd}
 use Rattle.register.specs.Register.{actorsOf, resourcesOf, claimsOf, noClaim}
 use Rattle.register.specs.Chain.{latest, chain, above, circling, live}
 use Rattle.register.specs.declared.Claim.{Claim}
 use Rattle.register.specs.declared.Register.{Register}
-use Rattle.rules.specs.Sound.{World, worldOf, sound, claimFits, namesStand, fresh, rootKept}
+use Rattle.rules.specs.Sound.{World, worldOf, sound, claimFits, namesStand, rootKept, withinHops, fresh}
 use Rattle.rules.specs.Striking.{strike}
-use Rattle.changes.specs.Refusals.{Test, outcomeOf, isAccepted}
+use Rattle.refusals.specs.Refusals.{Test, outcomeOf, isAccepted}
 use Rattle.changes.specs.declared.Granted.{Granted}
 use Rattle.changes.specs.declared.Revoked.{Revoked}
-use Rattle.changes.specs.declared.Refusal.the-variants.{Unsound, OutOfRange, Unknown, IdStands, Full, NotKeeper, Ownerless, MachineBarred, ParentAbsent}
-use Rattle.changes.specs.declared.Refusal.the-variants.{ParentNotHeld, ParentDead, NoDelegate, RightLacking, WeightAbove, TooManyHops, Circle, ClaimAbsent, NoGrantor}
+use Rattle.refusals.specs.declared.Refusal.the-variants.{Unsound, OutOfRange, Unknown, IdStands, Full, NotKeeper, Ownerless, MachineBarred, ParentAbsent}
+use Rattle.refusals.specs.declared.Refusal.the-variants.{ParentNotHeld, ParentDead, NoDelegate, RightLacking, WeightAbove, TooManyHops, Circle, ClaimAbsent, NoGrantor}
 
 -- the world of a register, and its claims latest first
 abbrev pub worldIn : Register → World
@@ -41,7 +41,7 @@ parentTests now (p ∷ higher) c =
     ∷ record { passed = hasRight (p .rights) delegating; refusal = NoDelegate }
     ∷ record { passed = hasRights (p .rights) (c .rights); refusal = RightLacking }
     ∷ record { passed = leb (c .weight) (p .weight); refusal = WeightAbove }
-    ∷ record { passed = leb (length (p ∷ higher)) hopLimit; refusal = TooManyHops }
+    ∷ record { passed = withinHops (p ∷ higher); refusal = TooManyHops }
     ∷ record { passed = not (circling (λ d. d .grantor) (λ d. d .holder) (p ∷ higher) (c .holder)); refusal = Circle }
     ∷ []
 

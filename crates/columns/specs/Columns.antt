@@ -21,8 +21,8 @@ use Rattle.columns.specs.declared.Place.the-variants.{At, Nowhere}
 abbrev pub actorId : Actor → ℕ
 actorId a = a .id
 
-abbrev pub kindOf : Actor → ℕ
-kindOf a = a .kind
+abbrev pub actorKind : Actor → ℕ
+actorKind a = a .kind
 
 abbrev pub ownerOf : Actor → ℕ
 ownerOf a = a .owner
@@ -62,7 +62,7 @@ expiryOf c = c .expiry
 
 -- the columns of a list of actors, of resources, of claims
 abbrev pub actorColumns : List Actor → ActorColumns
-actorColumns l = record { ids = map actorId l; kinds = map kindOf l; owners = map ownerOf l }
+actorColumns l = record { ids = map actorId l; kinds = map actorKind l; owners = map ownerOf l }
 
 abbrev pub resourceColumns : List Resource → ResourceColumns
 resourceColumns l = record { ids = map resourceId l; keepers = map keeperOf l; publics = map publicOf l }

@@ -1,6 +1,6 @@
 -- What covering by columns says of the claims and the resources that they are the columns of, and which place is the first. Assumes nothing.
 use mathlib.Core.Path.{_≡_, refl, sym, ap, _∙_}
-use mathlib.Core.Bool.{Bool, true, false, not, _&&_, cond, and-false}
+use mathlib.Core.Bool.{Bool, true, false, _&&_, cond, and-false}
 use mathlib.Core.List.{List, [], _∷_, _++_, map}
 use Prim.Native.Nat.{ℕ, _≤_, _<_}
 use native.Mathlib.Omega.{arith}
@@ -9,7 +9,7 @@ use lib.Dec.{ltb}
 use lib.ListN.{length, getD, List·getD-map}
 use Rattle.lists.specs.Tests.{cases}
 use Rattle.lists.specs.Each.{All}
-use Rattle.lists.specs.Trims.{sift, trim-nil, trim-hit, trim-miss}
+use Rattle.lists.specs.Trims.{filter, filter-nil, filter-hit, filter-miss}
 use Rattle.rights.specs.Rights.{hasRight}
 use Rattle.paths.specs.Containment.{contained}
 use Rattle.register.specs.Limits.{resourceLimit, pathLimit}
@@ -48,19 +48,19 @@ module _ (cs : List Claim) (spots : List ℕ) (k : Resources) (sized : All (λ o
       rw (le-ltb (getD spots j 0) resourceLimit past, and-false (ltb j (length spots))) (and-false (hasRight (getD (map rightsOf cs) j 0) right))
 
 -- ---- the first place of a list that passes a test
-abbrev pub firstOf : (ℕ → Bool) → List ℕ → Place
-firstOf p [] = Nowhere
-firstOf p (j ∷ l) = let more = firstOf p l in cond (p j) (At j) more
+abbrev pub firstPlaceOf : (ℕ → Bool) → List ℕ → Place
+firstPlaceOf p [] = Nowhere
+firstPlaceOf p (j ∷ l) = let more = firstPlaceOf p l in cond (p j) (At j) more
 
 module _ (p : ℕ → Bool) where
-  first-hit : (j : ℕ) (l : List ℕ) → p j ≡ true → firstOf p (j ∷ l) ≡ At j
+  first-hit : (j : ℕ) (l : List ℕ) → p j ≡ true → firstPlaceOf p (j ∷ l) ≡ At j
   first-hit j l e = rw e
 
-  first-miss : (j : ℕ) (l : List ℕ) → p j ≡ false → firstOf p (j ∷ l) ≡ firstOf p l
+  first-miss : (j : ℕ) (l : List ℕ) → p j ≡ false → firstPlaceOf p (j ∷ l) ≡ firstPlaceOf p l
   first-miss j l e = rw e
 
   -- the first that passes is in the list, passes, and none before it does
-  pub first-at : (l : List ℕ) (j : ℕ) → firstOf p l ≡ At j
+  pub first-at : (l : List ℕ) (j : ℕ) → firstPlaceOf p l ≡ At j
       → (before : List ℕ) × (after : List ℕ) × (l ≡ before ++ (j ∷ after)) × (p j ≡ true) × All (λ i. p i ≡ false) before
   first-at [] j q = let never : _≡_ {A = ℕ} 0 1 = cc in absurd (omega arith)
   first-at (i ∷ l) j q =
@@ -68,30 +68,30 @@ module _ (p : ℕ → Bool) where
       (λ e. let found = first-at l j (sym (first-miss i l e) ∙ q) in
       (i ∷ found .0, found .1, ap (λ m. i ∷ m) (found .2), found .3, (e, found .4)))
 
-  pub first-nowhere : (l : List ℕ) → firstOf p l ≡ Nowhere → All (λ i. p i ≡ false) l
+  pub first-nowhere : (l : List ℕ) → firstPlaceOf p l ≡ Nowhere → All (λ i. p i ≡ false) l
   first-nowhere [] q = tt
   first-nowhere (i ∷ l) q =
       cases (p i) (λ e. let never : _≡_ {A = ℕ} 0 1 = cc (first-hit i l e) in absurd (omega arith))
       (λ e. (e, first-nowhere l (sym (first-miss i l e) ∙ q)))
 
   -- and back
-  pub at-first : (before : List ℕ) (j : ℕ) (after : List ℕ) → All (λ i. p i ≡ false) before → p j ≡ true → firstOf p (before ++ (j ∷ after)) ≡ At j
+  pub at-first : (before : List ℕ) (j : ℕ) (after : List ℕ) → All (λ i. p i ≡ false) before → p j ≡ true → firstPlaceOf p (before ++ (j ∷ after)) ≡ At j
   at-first [] j after h e = first-hit j after e
   at-first (i ∷ before) j after h e = first-miss i (before ++ (j ∷ after)) (h .0) ∙ at-first before j after (h .1) e
 
-  pub nowhere-first : (l : List ℕ) → All (λ i. p i ≡ false) l → firstOf p l ≡ Nowhere
+  pub nowhere-first : (l : List ℕ) → All (λ i. p i ≡ false) l → firstPlaceOf p l ≡ Nowhere
   nowhere-first [] h = refl
   nowhere-first (i ∷ l) h = first-miss i l (h .0) ∙ nowhere-first l (h .1)
 
-  -- of what a sieve leaves, the first that passes is the first that the sieve does not take and that passes
-  pub first-sifted : (s : ℕ → Bool) (l : List ℕ) → firstOf p (sift s l) ≡ firstOf (λ j. not (s j) && p j) l
-  first-sifted s [] = rw (trim-nil (λ m j. s j))
-  first-sifted s (i ∷ l) =
-      cases (s i) (λ e. rw (trim-hit (λ m j. s j) i l e, e) (first-sifted s l))
-      (λ e. rw (trim-miss (λ m j. s j) i l e, e, first-sifted s l))
+  -- of what passes one test, the first that passes another is the first that passes both
+  pub first-filtered : (s : ℕ → Bool) (l : List ℕ) → firstPlaceOf p (filter s l) ≡ firstPlaceOf (λ j. s j && p j) l
+  first-filtered s [] = rw (filter-nil s)
+  first-filtered s (i ∷ l) =
+      cases (s i) (λ e. rw (filter-hit s i l e, e, first-filtered s l))
+      (λ e. rw (filter-miss s i l e, e) (first-filtered s l))
 
 -- tests that agree on a list find the same
-pub first-same : (p q : ℕ → Bool) (l : List ℕ) → All (λ j. p j ≡ q j) l → firstOf p l ≡ firstOf q l
+pub first-same : (p q : ℕ → Bool) (l : List ℕ) → All (λ j. p j ≡ q j) l → firstPlaceOf p l ≡ firstPlaceOf q l
 first-same p q [] h = refl
 first-same p q (i ∷ l) h = rw (h .0, first-same p q l (h .1))
 
@@ -111,7 +111,7 @@ module _ (rights spots bytes lens : List ℕ) (right spot : ℕ) where
   covering-miss j l e = rw e
 
   -- it is the first place that reaches
-  pub covering-first : (l : List ℕ) → firstCovering l rights spots bytes lens right spot ≡ firstOf (reaching rights spots bytes lens right spot) l
+  pub covering-first : (l : List ℕ) → firstCovering l rights spots bytes lens right spot ≡ firstPlaceOf (reaching rights spots bytes lens right spot) l
   unfolding firstCovering
   covering-first [] = refl
   covering-first (j ∷ l) = rw (covering-first l)
@@ -125,6 +125,6 @@ module _ (rights spots bytes lens : List ℕ) (right spot : ℕ) where
       → All (λ i. reaching rights spots bytes lens right spot i ≡ false) l
   covering-nowhere l q = first-nowhere (reaching rights spots bytes lens right spot) l (sym (covering-first l) ∙ q)
 
-  pub covering-sifted : (s : ℕ → Bool) (l : List ℕ)
-      → firstCovering (sift s l) rights spots bytes lens right spot ≡ firstOf (λ j. not (s j) && reaching rights spots bytes lens right spot j) l
-  covering-sifted s l = covering-first (sift s l) ∙ first-sifted (reaching rights spots bytes lens right spot) s l
+  pub covering-filtered : (s : ℕ → Bool) (l : List ℕ)
+      → firstCovering (filter s l) rights spots bytes lens right spot ≡ firstPlaceOf (λ j. s j && reaching rights spots bytes lens right spot j) l
+  covering-filtered s l = covering-first (filter s l) ∙ first-filtered (reaching rights spots bytes lens right spot) s l

@@ -22,9 +22,9 @@ unfoldable pub digits : ℕ → List ℕ
 digits n = digitsWith (suc n) n
 
 -- the longest run of digits at the front, and what follows it
-unfoldable pub run : List ℕ → List ℕ
-run [] = []
-run (b ∷ s) = cond (isDigit b) (b ∷ run s) []
+unfoldable pub digitRun : List ℕ → List ℕ
+digitRun [] = []
+digitRun (b ∷ s) = cond (isDigit b) (b ∷ digitRun s) []
 
 unfoldable pub after : List ℕ → List ℕ
 after [] = []
@@ -56,7 +56,7 @@ abbrev pub judge : ℕ → ℕ → List ℕ → Parsed
 judge greatest n rest = cond (leb n greatest) (got n rest) (large rest)
 
 unfoldable pub parse : ℕ → List ℕ → Parsed
-parse greatest t = cond (canonical (run t)) (judge greatest (value 0 (run t)) (after t)) bad
+parse greatest t = cond (canonical (digitRun t)) (judge greatest (value 0 (digitRun t)) (after t)) bad
 
 -- an answer of the code, over the whole input, says what was parsed
 abbrev pub Says : List ℕ → Number → Parsed → Type 0

@@ -7,7 +7,7 @@ use native.Mathlib.Omega.{arith}
 use native.Mathlib.Decide.{decLt}
 use lib.Dec.{ltb, leb, eqb}
 use borrow.Author.Tests.{lt-ltb, le-ltb, ne-eqb, ltb-true, ltb-false, leb-true, eqb-false, not-true}
-use Rattle.decimals.specs.Decimals.{isDigit, digitsWith, digits, run, after, starts, value, canonical, got, large, bad, judge, parse}
+use Rattle.decimals.specs.Decimals.{isDigit, digitsWith, digits, digitRun, after, starts, value, canonical, got, large, bad, judge, parse}
 
 digits-with-small : (f n : ℕ) → n < 10 → digitsWith (suc f) n ≡ (48 + n) ∷ []
 unfolding digitsWith
@@ -88,8 +88,8 @@ all-digits-with (suc f) n h = elim (decLt n 10) [
   | no ge ↦ rw (digits-with-step f n (omega arith)) (all-snoc (digitsWith f (n / 10)) (48 + n % 10) (all-digits-with f (n / 10) (omega arith)) (digit-of (n % 10) (omega arith)))
 ]
 
-run-append : (s t : List ℕ) → All s → starts t ≡ false → run (s ++ t) ≡ s
-unfolding All run starts
+run-append : (s t : List ℕ) → All s → starts t ≡ false → digitRun (s ++ t) ≡ s
+unfolding All digitRun starts
 run-append [] [] a h = refl
 run-append [] (b ∷ t) a h = rw h
 run-append (c ∷ s) t a h = rw (a .0) (ap (λ (l : List ℕ). c ∷ l) (run-append s t (a .1) h))
@@ -137,21 +137,21 @@ parse-digits greatest n rest h =
     rw (run-append (digits n) rest a h, after-append (digits n) rest a h, canonical-digits n, value-digits n)
 
 -- Whatever reads as a number is the number's text, and what follows it.
-run-after : (s : List ℕ) → s ≡ run s ++ after s
-unfolding run after
+run-after : (s : List ℕ) → s ≡ digitRun s ++ after s
+unfolding digitRun after
 run-after [] = refl
 run-after (b ∷ s) = go (isDigit b) (run-after s)
   where
-    go : (x : Bool) → s ≡ run s ++ after s → b ∷ s ≡ cond x (b ∷ run s) [] ++ cond x (after s) (b ∷ s)
+    go : (x : Bool) → s ≡ digitRun s ++ after s → b ∷ s ≡ cond x (b ∷ digitRun s) [] ++ cond x (after s) (b ∷ s)
     go true ih = ap (λ (l : List ℕ). b ∷ l) ih
     go false ih = refl
 
-all-run : (s : List ℕ) → All (run s)
-unfolding All run
+all-run : (s : List ℕ) → All (digitRun s)
+unfolding All digitRun
 all-run [] = tt
 all-run (b ∷ s) = go (isDigit b) refl (all-run s)
   where
-    go : (x : Bool) → isDigit b ≡ x → All (run s) → All (cond x (b ∷ run s) [])
+    go : (x : Bool) → isDigit b ≡ x → All (digitRun s) → All (cond x (b ∷ digitRun s) [])
     go true e ih = (e, ih)
     go false e ih = tt
 
@@ -198,17 +198,17 @@ pub record IsText (greatest n : ℕ) (rest s : List ℕ) : Type 0 where
 
 pub digits-parse : (greatest n : ℕ) (rest s : List ℕ) → parse greatest s ≡ got n rest → IsText greatest n rest s
 unfolding parse
-digits-parse greatest n rest s h = go (canonical (run s)) (leb (value 0 (run s)) greatest) refl refl h
+digits-parse greatest n rest s h = go (canonical (digitRun s)) (leb (value 0 (digitRun s)) greatest) refl refl h
   where
-    go : (x y : Bool) → canonical (run s) ≡ x → leb (value 0 (run s)) greatest ≡ y →
-        cond x (cond y (got (value 0 (run s)) (after s)) (large (after s))) bad ≡ got n rest → IsText greatest n rest s
+    go : (x y : Bool) → canonical (digitRun s) ≡ x → leb (value 0 (digitRun s)) greatest ≡ y →
+        cond x (cond y (got (value 0 (digitRun s)) (after s)) (large (after s))) bad ≡ got n rest → IsText greatest n rest s
     go true true e f k =
-        let v : value 0 (run s) ≡ n = cc in
+        let v : value 0 (digitRun s) ≡ n = cc in
         let r : after s ≡ rest = cc in
-        let d = digits-canonical (run s) (all-run s) e in
+        let d = digits-canonical (digitRun s) (all-run s) e in
         record {
           text = run-after s ∙ ap (λ (l : List ℕ). l ++ after s) (sym d) ∙ rw (v, r);
-          within = rw v at (leb-true (value 0 (run s)) greatest f);
+          within = rw v at (leb-true (value 0 (digitRun s)) greatest f);
           ends = rw r at (starts-after s);
         }
     go true false e f k = absurd (let z : _≡_ {A = ℕ} 0 1 = cc in omega arith)

@@ -10,7 +10,7 @@ use native.Mathlib.Numerals.{add-one}
 use lib.ListN.{length, getD, drop, drop-of-length-le, length-append}
 use lib.Seq.{drop-cons}
 use borrow.Author.Tests.{le-leb, lt-leb, eq-eqb, ne-eqb}
-use Rattle.decimals.specs.Decimals.{isDigit, digits, run, after, value, canonical, judge, bad, parse, Says}
+use Rattle.decimals.specs.Decimals.{isDigit, digits, digitRun, after, value, canonical, judge, bad, parse, Says}
 use Rattle.decimals.specs.Laws.{digits-small, digits-step}
 use Rattle.decimals.specs.declared.Number.the-variants.{Value, Large}
 
@@ -31,16 +31,16 @@ module _ (s : List ℕ) (i : ℕ) where
   after-end h = rw (drop-of-length-le s h)
 
   pub worth-digit : (a : ℕ) → i < length s → isDigit (getD s i 0) ≡ true →
-      value a (run (drop i s)) ≡ value (a * 10 + (getD s i 0 - 48)) (run (drop (i + 1) s))
-  unfolding value run
+      value a (digitRun (drop i s)) ≡ value (a * 10 + (getD s i 0 - 48)) (digitRun (drop (i + 1) s))
+  unfolding value digitRun
   worth-digit a h d = rw (drop-byte s i h, d)
 
-  pub worth-stop : (a : ℕ) → i < length s → isDigit (getD s i 0) ≡ false → value a (run (drop i s)) ≡ a
-  unfolding value run
+  pub worth-stop : (a : ℕ) → i < length s → isDigit (getD s i 0) ≡ false → value a (digitRun (drop i s)) ≡ a
+  unfolding value digitRun
   worth-stop a h d = rw (drop-byte s i h, d)
 
-  pub worth-end : (a : ℕ) → length s ≤ i → value a (run (drop i s)) ≡ a
-  unfolding value run
+  pub worth-end : (a : ℕ) → length s ≤ i → value a (digitRun (drop i s)) ≡ a
+  unfolding value digitRun
   worth-end a h = rw (drop-of-length-le s h)
 
 -- digits only add
@@ -63,16 +63,16 @@ pub says-large : (s : List ℕ) (greatest v i : ℕ) (rest : List ℕ) → great
 says-large s greatest v i rest h f k = (rw (f, lt-leb v greatest h), k)
 
 module _ (s : List ℕ) (i : ℕ) where
-  pub run-digit : i < length s → isDigit (getD s i 0) ≡ true → run (drop i s) ≡ getD s i 0 ∷ run (drop (i + 1) s)
-  unfolding run
+  pub run-digit : i < length s → isDigit (getD s i 0) ≡ true → digitRun (drop i s) ≡ getD s i 0 ∷ digitRun (drop (i + 1) s)
+  unfolding digitRun
   run-digit h d = rw (drop-byte s i h, d)
 
-  pub run-stop : i < length s → isDigit (getD s i 0) ≡ false → run (drop i s) ≡ []
-  unfolding run
+  pub run-stop : i < length s → isDigit (getD s i 0) ≡ false → digitRun (drop i s) ≡ []
+  unfolding digitRun
   run-stop h d = rw (drop-byte s i h, d)
 
-  pub run-end : length s ≤ i → run (drop i s) ≡ []
-  unfolding run
+  pub run-end : length s ≤ i → digitRun (drop i s) ≡ []
+  unfolding digitRun
   run-end h = rw (drop-of-length-le s h)
 
 canonical-lead : (b : ℕ) (x : List ℕ) → (b ≡ 48 → ⊥) → canonical (b ∷ x) ≡ true
@@ -82,7 +82,7 @@ canonical-lead b (c ∷ x) h = rw (ne-eqb b 48 h)
 
 -- what the first bytes say of the number
 module _ (greatest : ℕ) (s : List ℕ) (at : ℕ) where
-  pub parse-empty : run (drop at s) ≡ [] → parse greatest (drop at s) ≡ bad
+  pub parse-empty : digitRun (drop at s) ≡ [] → parse greatest (drop at s) ≡ bad
   unfolding parse canonical
   parse-empty e = rw e
 
@@ -92,15 +92,15 @@ module _ (greatest : ℕ) (s : List ℕ) (at : ℕ) where
   parse-zero h d z k f = rw (run-digit s at h d, run-digit s (at + 1) k f, eq-eqb _ _ z)
 
   pub parse-lead : at < length s → isDigit (getD s at 0) ≡ true → (getD s at 0 ≡ 48 → ⊥) →
-      parse greatest (drop at s) ≡ judge greatest (value 0 (run (drop at s))) (after (drop at s))
+      parse greatest (drop at s) ≡ judge greatest (value 0 (digitRun (drop at s))) (after (drop at s))
   unfolding parse
-  parse-lead h d ne = rw (ap canonical (run-digit s at h d) ∙ canonical-lead (getD s at 0) (run (drop (at + 1) s)) ne)
+  parse-lead h d ne = rw (ap canonical (run-digit s at h d) ∙ canonical-lead (getD s at 0) (digitRun (drop (at + 1) s)) ne)
 
-  pub parse-single : at < length s → isDigit (getD s at 0) ≡ true → run (drop (at + 1) s) ≡ [] →
-      parse greatest (drop at s) ≡ judge greatest (value 0 (run (drop at s))) (after (drop at s))
+  pub parse-single : at < length s → isDigit (getD s at 0) ≡ true → digitRun (drop (at + 1) s) ≡ [] →
+      parse greatest (drop at s) ≡ judge greatest (value 0 (digitRun (drop at s))) (after (drop at s))
   unfolding parse canonical
   parse-single h d e =
-      let one : canonical (run (drop at s)) ≡ true = rw (run-digit s at h d, e) in
+      let one : canonical (digitRun (drop at s)) ≡ true = rw (run-digit s at h d, e) in
       rw one
 
 -- a 64-bit number has at most 20 digits

@@ -2,7 +2,7 @@
 ghost use mathlib.Core.Path.{_≡_};
 ghost use Prim.Native.Nat.{_-_, _≤_};
 ghost use lib.ListN.{length, drop};
-ghost use Rattle.decimals.specs.Decimals.{isDigit, run, after, value, judge, parse, Says};
+ghost use Rattle.decimals.specs.Decimals.{isDigit, digitRun, after, value, judge, parse, Says};
 
 // What reading a number finds, with the position behind its digits.
 pub enum Number {
@@ -46,7 +46,7 @@ fn digits_end(s: &[u8], at: usize) -> usize
 // The worth of the digits that begin at `at`, leading zeros or not.
 fn scan(s: &[u8], at: usize, greatest: u64) -> Number
     requires { ⌜ at ≤ length (now s) ⌝ }
-    ensures { λ r. ⌜ Says (now (s .entry)) r (judge greatest (value 0 (run (drop at (now (s .entry))))) (after (drop at (now (s .entry))))) ⌝ }
+    ensures { λ r. ⌜ Says (now (s .entry)) r (judge greatest (value 0 (digitRun (drop at (now (s .entry))))) (after (drop at (now (s .entry))))) ⌝ }
 {
     let mut i = at;
     let mut n: u64 = 0;

@@ -10,9 +10,9 @@ use Rattle.columns.specs.declared.Place.the-variants.{At, Nowhere}
 use Rattle.finding.specs.declared.Both.{Both}
 
 -- a place as a number
-abbrev pub numberOf : ℕ → Place → ℕ
-numberOf none (At j) = j
-numberOf none Nowhere = none
+abbrev pub placeNumber : ℕ → Place → ℕ
+placeNumber none (At j) = j
+placeNumber none Nowhere = none
 
 -- an array whose first places hold f of the place, and those behind them `none`
 abbrev pub tabled : (ℕ → ℕ) → ℕ → ℕ → List ℕ
@@ -24,11 +24,11 @@ asked m wanted = min m (min claimLimit (length wanted))
 
 -- the latest place of each of the first m wanted numbers among the first n of a column
 unfoldable pub placesOf : List ℕ → ℕ → List ℕ → ℕ → ℕ → List ℕ
-placesOf column n wanted m none = tabled (λ i. numberOf none (latestPlace column (min n claimLimit) (getD wanted i 0))) (asked m wanted) none
+placesOf column n wanted m none = tabled (λ i. placeNumber none (latestPlace column (min n claimLimit) (getD wanted i 0))) (asked m wanted) none
 
 -- the latest place before i of the number wanted at i, for each of the first m
 unfoldable pub earlierPlaces : List ℕ → List ℕ → ℕ → ℕ → List ℕ
-earlierPlaces column wanted m none = tabled (λ i. numberOf none (latestPlace column i (getD wanted i 0))) (asked m wanted) none
+earlierPlaces column wanted m none = tabled (λ i. placeNumber none (latestPlace column i (getD wanted i 0))) (asked m wanted) none
 
 -- as many places as are asked for, where two lists have so many
 abbrev pub shared : ℕ → List ℕ → List ℕ → ℕ

@@ -8,7 +8,7 @@ use lib.ListN.{length, getD, replicate, length-map, length-append, length-replic
 use Rattle.lists.specs.Counts.{counted, counted-length}
 use Rattle.register.specs.Limits.{claimLimit}
 use Rattle.columns.specs.Columns.{latestPlace}
-use Rattle.finding.specs.Finding.{numberOf, tabled, asked, shared, placesOf, earlierPlaces, bothPlaces, bothEarlier}
+use Rattle.finding.specs.Finding.{placeNumber, tabled, asked, shared, placesOf, earlierPlaces, bothPlaces, bothEarlier}
 
 counted-read : (n i j d : ℕ) → j < n → getD (counted i n) j d ≡ i + j
 counted-read zero i j d h = absurd (omega arith)
@@ -36,14 +36,14 @@ module _ (f : ℕ → ℕ) (top none : ℕ) where
       ∙ ap f (counted-read top 0 i 0 h ∙ zero-add i)
 
 pub places-at : (column : List ℕ) (n : ℕ) (wanted : List ℕ) (m none i d : ℕ) → i < asked m wanted →
-    getD (placesOf column n wanted m none) i d ≡ numberOf none (latestPlace column (min n claimLimit) (getD wanted i 0))
+    getD (placesOf column n wanted m none) i d ≡ placeNumber none (latestPlace column (min n claimLimit) (getD wanted i 0))
 unfolding placesOf
-places-at column n wanted m none i d h = tabled-at (λ i. numberOf none (latestPlace column (min n claimLimit) (getD wanted i 0))) (asked m wanted) none i d h
+places-at column n wanted m none i d h = tabled-at (λ i. placeNumber none (latestPlace column (min n claimLimit) (getD wanted i 0))) (asked m wanted) none i d h
 
 pub earlier-at : (column wanted : List ℕ) (m none i d : ℕ) → i < asked m wanted →
-    getD (earlierPlaces column wanted m none) i d ≡ numberOf none (latestPlace column i (getD wanted i 0))
+    getD (earlierPlaces column wanted m none) i d ≡ placeNumber none (latestPlace column i (getD wanted i 0))
 unfolding earlierPlaces
-earlier-at column wanted m none i d h = tabled-at (λ i. numberOf none (latestPlace column i (getD wanted i 0))) (asked m wanted) none i d h
+earlier-at column wanted m none i d h = tabled-at (λ i. placeNumber none (latestPlace column i (getD wanted i 0))) (asked m wanted) none i d h
 
 -- where both lists have as many as are asked for, each is looked up as it is alone
 module _ (column wanted other : List ℕ) (m none : ℕ) (few : m ≤ length wanted) (fewer : m ≤ length other) where

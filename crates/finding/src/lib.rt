@@ -4,7 +4,7 @@ ghost use Prim.Native.Nat.{min};
 ghost use lib.ListN.{length};
 ghost use Rattle.register.specs.Limits.{claimLimit};
 ghost use Rattle.columns.specs.Columns.{latestPlace};
-ghost use Rattle.finding.specs.Finding.{numberOf, placesOf, earlierPlaces, bothPlaces, bothEarlier};
+ghost use Rattle.finding.specs.Finding.{placeNumber, placesOf, earlierPlaces, bothPlaces, bothEarlier};
 ghost use Rattle.finding.specs.Tables.{bucketOf, Indexing, Sought};
 use register::Register;
 
@@ -58,7 +58,7 @@ fn seek<'a>(
     none: usize,
 ) -> usize
     requires { ⌜ Sought (now column) below (now heads) (now nexts) ⌝ }
-    ensures { λ r. ⌜ r ≡ numberOf none (latestPlace (now (column .entry)) below x) ⌝ }
+    ensures { λ r. ⌜ r ≡ placeNumber none (latestPlace (now (column .entry)) below x) ⌝ }
 {
     let mut link = heads[bucket_of(x)];
     while link != 0 {

@@ -4,21 +4,21 @@ use mathlib.Core.Bool.{true, false, cond}
 use mathlib.Core.List.{List, [], _∷_}
 use lib.Dec.{eqb, eqb·suc-zero}
 use lib.ListN.{length}
+use Rattle.register.specs.Register.{Shaped}
 use Rattle.register.specs.declared.Register.{Register}
 use Rattle.rules.specs.Sound.{sound}
 use Rattle.actions.specs.declared.Action.{Action}
 use Rattle.actions.specs.declared.Violation.{Violation}
 use Rattle.actions.specs.declared.Decision.the-variants.{Permitted, Refused, Stopped}
 use Rattle.actions.specs.declared.Verdict.{Verdict}
-use Rattle.changes.specs.Refusals.{outcomeOf}
-use Rattle.changes.specs.Laws.{outcome-pass, outcome-fail, outcome-accepted}
-use Rattle.changes.specs.declared.Outcome.{Outcome}
-use Rattle.changes.specs.declared.Outcome.the-variants.{Accepted, Refused as RefusedFor}
-use Rattle.changes.specs.declared.Refusal.{Refusal}
-use Rattle.changes.specs.declared.Refusal.the-variants.{Unsound}
+use Rattle.refusals.specs.Refusals.{outcomeOf}
+use Rattle.refusals.specs.Laws.{outcome-pass, outcome-fail, outcome-accepted}
+use Rattle.refusals.specs.declared.Outcome.{Outcome}
+use Rattle.refusals.specs.declared.Outcome.the-variants.{Accepted, Refused as RefusedFor}
+use Rattle.refusals.specs.declared.Refusal.{Refusal}
+use Rattle.refusals.specs.declared.Refusal.the-variants.{Unsound}
 use Rattle.verdicts.specs.Gate.{violationsOf, listed, padded, decided, actionTests, gateTests, gated}
 use Rattle.verdicts.specs.Laws.{gated-stopped, gated-judged}
-use Rattle.sights.specs.Sights.{Typed}
 use Rattle.uses_judging.specs.declared.UsesJudged.{UsesJudged}
 use Rattle.gate.specs.Judged.{actionJudged, viewOf, lentOf, lentTests, judgedBy}
 use Rattle.gate.specs.Laws.{judged-natural, tests-natural, view-natural}
@@ -29,8 +29,8 @@ module _ (r : Register) (a : Action) {v : View} (viewed : v ≡ viewOf r) where
   pub outcome-seen : {outcome : Outcome} → outcome ≡ outcomeOf (lentTests (v .actors .ids) (v .counts .actors) a) → outcome ≡ outcomeOf (actionTests r a)
   outcome-seen e = e ∙ ap (λ w. outcomeOf (lentTests (w .actors .ids) (w .counts .actors) a)) viewed ∙ ap outcomeOf (tests-natural r a)
 
-  pub judged-seen : Typed r → {judged : UsesJudged} → judged ≡ judgedBy (lentOf v) a → judged ≡ actionJudged r a
-  judged-seen typed e = e ∙ ap (λ w. judgedBy (lentOf w) a) viewed ∙ view-natural r typed a
+  pub judged-seen : Shaped r → {judged : UsesJudged} → judged ≡ judgedBy (lentOf v) a → judged ≡ actionJudged r a
+  judged-seen shaped e = e ∙ ap (λ w. judgedBy (lentOf w) a) viewed ∙ view-natural r shaped a
 
 -- permitted means an empty list
 decided-natural : (vs : List Violation) → cond (eqb (length vs) 0) Permitted Refused ≡ decided vs
@@ -38,12 +38,12 @@ decided-natural [] = refl
 decided-natural (v ∷ vs) = rw (eqb·suc-zero (length vs))
 
 -- the answer of the gate, where the tests are passed
-pub gate-judged : (r : Register) (typed : Typed r) (h : sound r ≡ true) (a : Action) (judged : UsesJudged) → outcomeOf (actionTests r a) ≡ Accepted →
+pub gate-judged : (r : Register) (shaped : Shaped r) (h : sound r ≡ true) (a : Action) (judged : UsesJudged) → outcomeOf (actionTests r a) ≡ Accepted →
     judged ≡ actionJudged r a →
     _≡_ {A = Verdict} (record { decision = cond (eqb (judged .violations .count) 0) Permitted Refused; violations = judged .violations; hops = judged .hops }) (gated r a)
 unfolding actionTests gateTests
-gate-judged r typed h a judged passed e =
-    rw (e ∙ judged-natural r typed h a (outcome-accepted _ _ passed), decided-natural (violationsOf r a))
+gate-judged r shaped h a judged passed e =
+    rw (e ∙ judged-natural r shaped h a (outcome-accepted _ _ passed), decided-natural (violationsOf r a))
     (sym (gated-judged r a (outcome-pass _ _ h ∙ passed)))
 
 -- the answer of the gate, where a test is not passed

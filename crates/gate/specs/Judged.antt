@@ -6,15 +6,17 @@ use lib.Dec.{eqb}
 use lib.ListN.{take}
 use Rattle.lists.specs.Lists.{any}
 use Rattle.register.specs.Limits.{machineKind}
+use Rattle.register.specs.Register.{actorsOf}
 use Rattle.register.specs.declared.Register.{Register}
+use Rattle.rules.specs.Sound.{isMachine}
 use Rattle.columns.specs.Columns.{resourceId, actorColumns, resourceColumns, claimColumns, latestPlace, beside}
-use Rattle.changes.specs.Refusals.{Test}
-use Rattle.changes.specs.declared.Refusal.the-variants.{OutOfRange, Unknown}
+use Rattle.refusals.specs.Refusals.{Test}
+use Rattle.refusals.specs.declared.Refusal.the-variants.{OutOfRange, Unknown}
 use Rattle.actions.specs.Actions.{governsOf, actionFits}
 use Rattle.actions.specs.declared.Action.{Action}
 use Rattle.actions.specs.declared.Violation.{Violation}
 use Rattle.actions.specs.declared.Violation.the-variants.{NoOwner}
-use Rattle.verdicts.specs.Gate.{isMachine, flagsSet, governed, listed}
+use Rattle.verdicts.specs.Gate.{flagsSet, governed, listed}
 use Rattle.violations.specs.Pushed.{pushedAll}
 use Rattle.flat_paths.specs.Laid.{laid}
 use Rattle.gathering.specs.Gathering.{heldPlaces}
@@ -33,7 +35,7 @@ besides machine owner a =
 abbrev pub actionJudged : Register → Action → UsesJudged
 actionJudged r a =
     usesJudged (sightOf r (a .now) (a .actor)) (map resourceId (r .resources .list)) (r .resources .count) a
-    (pushedAll (listed []) (besides (isMachine r (a .actor)) (ownerIn r (a .actor)) a))
+    (pushedAll (listed []) (besides (isMachine (actorsOf (r .actors)) (a .actor)) (ownerIn r (a .actor)) a))
 
 -- what is looked at of a register, taken out of it
 abbrev pub viewOf : Register → View

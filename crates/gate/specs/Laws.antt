@@ -1,76 +1,72 @@
 -- What an action judged by lent columns is in 01's words, and what tests 2 and 3 by them are. Assumes nothing.
-use mathlib.Core.Path.{_≡_, refl, sym, ap, _∙_, fun-ext}
+use mathlib.Core.Path.{_≡_, refl, sym, ap, _∙_}
 use mathlib.Core.Bool.{Bool, true, false, _&&_, cond}
 use mathlib.Core.List.{List, [], _∷_, _++_, map, append-assoc}
 use Prim.Native.Nat.{ℕ, suc}
 use native.Mathlib.Omega.{arith}
-use borrow.Author.Tests.{eq-eqb, eqb-true}
 use lib.Dec.{eqb}
 use lib.ListN.{getD, List·getD-map}
-use Rattle.lists.specs.Tests.{iff-same}
-use Rattle.lists.specs.Lists.{any}
 use Rattle.register.specs.Limits.{machineKind}
-use Rattle.register.specs.Register.{actorsOf, noActor}
-use Rattle.register.specs.declared.Actor.{Actor}
+use Rattle.register.specs.Register.{actorsOf, noActor, Shaped}
 use Rattle.register.specs.declared.Register.{Register}
-use Rattle.rules.specs.Sound.{sound}
-use Rattle.columns.specs.Columns.{actorId, kindOf, ownerOf, resourceId, holderOf, weightOf, expiryOf, latestPlace}
+use Rattle.rules.specs.Sound.{sound, isMachine}
+use Rattle.columns.specs.Columns.{actorId, ownerOf, resourceId, holderOf, weightOf, expiryOf, latestPlace, actorKind}
 use Rattle.columns.specs.Laws.{among-natural, beside-natural}
 use Rattle.columns.specs.declared.Place.{Place}
 use Rattle.columns.specs.declared.Place.the-variants.{At, Nowhere}
+use Rattle.finding.specs.Asked.{askedAt}
 use Rattle.actions.specs.Actions.{usesOf, actionFits}
 use Rattle.actions.specs.declared.Action.{Action}
 use Rattle.actions.specs.declared.Usage.{Usage}
-use Rattle.verdicts.specs.Gate.{isMachine, isOwnerless, useViolations, hopsFor, hopCounts, violationsOf, listed, padded, actionTests}
+use Rattle.verdicts.specs.Gate.{isOwnerless, useViolations, hopsFor, hopCounts, violationsOf, listed, padded, actionTests}
 use Rattle.verdicts.specs.Laws.{use-violations-nil, use-violations-cons}
 use Rattle.verdicts.specs.Bounds.{violations-most}
 use Rattle.violations.specs.Pushed.{pushedAll}
 use Rattle.violations.specs.Laws.{pushed-all-natural, pushed-all-append}
 use Rattle.gathering.specs.Gathering.{coverPlaces, heldPlaces}
 use Rattle.gathering.specs.Laws.{held-natural, held-none}
-use Rattle.sights.specs.Sights.{Typed, ownerAt, ownerIn, ownedIn, sightOf}
-use Rattle.rules.specs.Distinct.{askedAt}
+use Rattle.sights.specs.Sights.{ownerAt, ownerIn, ownedIn, sightOf}
 use Rattle.sights.specs.Laws.{use-natural, asked-actor}
 use Rattle.uses_judging.specs.Judging.{judgedIn, faultsFrom, usesJudged}
 use Rattle.gate.specs.Judged.{besides, actionJudged, viewOf, lentOf, lentTests, machineBy, sightBy, judgedBy}
 
 -- a machine without owner: by its place, since ids are distinct
-ownerless-natural : (r : Register) → sound r ≡ true → (x : ℕ) → isOwnerless r x ≡ isMachine r x && eqb (ownerIn r x) 0
-unfolding isOwnerless isMachine
+ownerless-natural : (r : Register) → sound r ≡ true → (x : ℕ) → isOwnerless r x ≡ isMachine (actorsOf (r .actors)) x && eqb (ownerIn r x) 0
+unfolding isOwnerless
 ownerless-natural r h x =
-    asked-actor r h x (λ a. eqb (a .kind) machineKind && eqb (a .owner) 0)
+    asked-actor r h x (λ a. eqb machineKind (a .kind) && eqb (a .owner) 0)
     ∙ there (latestPlace (map actorId (r .actors .list)) (r .actors .count) x)
-    ∙ sym (ap (λ b. b && eqb (ownerIn r x) 0) (asked-actor r h x (λ a. eqb (a .kind) machineKind)))
+    ∙ sym (ap (λ b. b && eqb (ownerIn r x) 0) (asked-actor r h x (λ a. eqb machineKind (a .kind))))
   where
-    there : (p : Place) → askedAt noActor (r .actors .list) (λ a. eqb (a .kind) machineKind && eqb (a .owner) 0) p
-        ≡ askedAt noActor (r .actors .list) (λ a. eqb (a .kind) machineKind) p && eqb (ownerAt (map ownerOf (r .actors .list)) p) 0
+    there : (p : Place) → askedAt noActor (r .actors .list) (λ a. eqb machineKind (a .kind) && eqb (a .owner) 0) p
+        ≡ askedAt noActor (r .actors .list) (λ a. eqb machineKind (a .kind)) p && eqb (ownerAt (map ownerOf (r .actors .list)) p) 0
     there (At j) =
-        ap (λ o. eqb (getD (r .actors .list) j noActor .kind) machineKind && eqb o 0) (sym (List·getD-map ownerOf (r .actors .list) j noActor))
+        ap (λ o. eqb machineKind (getD (r .actors .list) j noActor .kind) && eqb o 0) (sym (List·getD-map ownerOf (r .actors .list) j noActor))
     there Nowhere = refl
 
-module _ (r : Register) (typed : Typed r) (h : sound r ≡ true) where
+module _ (r : Register) (shaped : Shaped r) (h : sound r ≡ true) where
   faults-natural : (now x n : ℕ) (us : List Usage) →
       faultsFrom (sightOf r now x) (map resourceId (r .resources .list)) (r .resources .count) n us ≡ useViolations r now x n us
   unfolding faultsFrom
   faults-natural now x n [] = sym (use-violations-nil r now x n)
   faults-natural now x n (u ∷ us) =
-      rw (use-violations-cons r now x n u us, use-natural r typed h now x n u .0, faults-natural now x (suc n) us)
+      rw (use-violations-cons r now x n u us, use-natural r shaped h now x n u .0, faults-natural now x (suc n) us)
 
   hops-natural : (now x : ℕ) (us : List Usage) →
       map (λ u. judgedIn (sightOf r now x) (map resourceId (r .resources .list)) (r .resources .count) u .hops) us ≡ map (λ u. hopsFor r now x u) us
   hops-natural now x [] = refl
-  hops-natural now x (u ∷ us) = rw (use-natural r typed h now x 0 u .1, hops-natural now x us)
+  hops-natural now x (u ∷ us) = rw (use-natural r shaped h now x 0 u .1, hops-natural now x us)
 
-  all-violations : (a : Action) → besides (isMachine r (a .actor)) (ownerIn r (a .actor)) a ++ useViolations r (a .now) (a .actor) 0 (usesOf a) ≡ violationsOf r a
+  all-violations : (a : Action) → besides (isMachine (actorsOf (r .actors)) (a .actor)) (ownerIn r (a .actor)) a ++ useViolations r (a .now) (a .actor) 0 (usesOf a) ≡ violationsOf r a
   unfolding violationsOf
   all-violations a = rw (ownerless-natural r h (a .actor)) (simp append-assoc)
 
   judged-violations : (a : Action) → actionFits a ≡ true →
-      pushedAll (pushedAll (listed []) (besides (isMachine r (a .actor)) (ownerIn r (a .actor)) a)) (faultsFrom (sightOf r (a .now) (a .actor)) (map resourceId (r .resources .list)) (r .resources .count) 0 (usesOf a))
+      pushedAll (pushedAll (listed []) (besides (isMachine (actorsOf (r .actors)) (a .actor)) (ownerIn r (a .actor)) a)) (faultsFrom (sightOf r (a .now) (a .actor)) (map resourceId (r .resources .list)) (r .resources .count) 0 (usesOf a))
       ≡ listed (violationsOf r a)
   judged-violations a fits =
-      ap (pushedAll (pushedAll (listed []) (besides (isMachine r (a .actor)) (ownerIn r (a .actor)) a))) (faults-natural (a .now) (a .actor) 0 (usesOf a))
-      ∙ sym (pushed-all-append (listed []) (besides (isMachine r (a .actor)) (ownerIn r (a .actor)) a) (useViolations r (a .now) (a .actor) 0 (usesOf a)))
+      ap (pushedAll (pushedAll (listed []) (besides (isMachine (actorsOf (r .actors)) (a .actor)) (ownerIn r (a .actor)) a))) (faults-natural (a .now) (a .actor) 0 (usesOf a))
+      ∙ sym (pushed-all-append (listed []) (besides (isMachine (actorsOf (r .actors)) (a .actor)) (ownerIn r (a .actor)) a) (useViolations r (a .now) (a .actor) 0 (usesOf a)))
       ∙ ap (pushedAll (listed [])) (all-violations a)
       ∙ pushed-all-natural [] (violationsOf r a) (omega (arith, violations-most r a fits))
 
@@ -82,9 +78,6 @@ module _ (r : Register) (typed : Typed r) (h : sound r ≡ true) where
 
 -- ---- what is lent of a register's view
 
-turned : (a b : ℕ) → eqb a b ≡ eqb b a
-turned a b = iff-same (eqb a b) (eqb b a) (λ t. eq-eqb b a (sym (eqb-true a b t))) (λ t. eq-eqb a b (sym (eqb-true b a t)))
-
 module _ (r : Register) where
   -- tests 2 and 3 by the ids of the actors
   pub tests-natural : (a : Action) → lentTests (viewOf r .actors .ids) (viewOf r .counts .actors) a ≡ actionTests r a
@@ -92,18 +85,15 @@ module _ (r : Register) where
   tests-natural a = rw (among-natural actorId (a .actor) (r .actors .count) (r .actors .list))
 
   -- a machine, by the columns of ids and kinds
-  machine-natural : (x : ℕ) → machineBy (lentOf (viewOf r)) x ≡ isMachine r x
-  unfolding isMachine
-  machine-natural x =
-      beside-natural actorId kindOf x machineKind (r .actors .count) (r .actors .list)
-      ∙ ap (λ p. any p (actorsOf (r .actors))) (fun-ext (λ (a : Actor). ap (λ b. eqb x (a .id) && b) (turned machineKind (a .kind))))
+  machine-natural : (x : ℕ) → machineBy (lentOf (viewOf r)) x ≡ isMachine (actorsOf (r .actors)) x
+  machine-natural x = beside-natural actorId actorKind x machineKind (r .actors .count) (r .actors .list)
 
-  module _ (typed : Typed r) where
+  module _ (shaped : Shaped r) where
     -- the claims gathered for an owner that is asked or not
     theirs-natural : (owned : Bool) (x now : ℕ)
         → heldPlaces (map holderOf (r .claims .list)) (map weightOf (r .claims .list)) (map expiryOf (r .claims .list)) (cond owned (r .claims .count) 0) x now
         ≡ cond owned (coverPlaces (r .claims) x now) []
-    theirs-natural true x now = held-natural (r .claims) x now (typed .claimsLong)
+    theirs-natural true x now = held-natural (r .claims) x now (shaped .claims)
     theirs-natural false x now =
         held-none (map holderOf (r .claims .list)) (map weightOf (r .claims .list)) (map expiryOf (r .claims .list)) x now
 
@@ -111,7 +101,7 @@ module _ (r : Register) where
     sight-natural now x =
         rw (
           machine-natural x,
-          held-natural (r .claims) x now (typed .claimsLong),
+          held-natural (r .claims) x now (shaped .claims),
           theirs-natural (ownedIn r x) (ownerIn r x) now,
         )
 

@@ -11,7 +11,7 @@ use lib.Seq.{take-append-seam}
 use Rattle.lists.specs.Lists.{any}
 use Rattle.lists.specs.Each.{All}
 use Rattle.lists.specs.Counts.{counted, counted-below, counted-first}
-use Rattle.lists.specs.Trims.{sift, trim-nil, trim-map, all-trim}
+use Rattle.lists.specs.Trims.{filter, filter-nil, trim-map, all-trim}
 use Rattle.register.specs.Limits.{resourceLimit, claimLimit}
 use Rattle.register.specs.Register.{claimsOf, noClaim, noResource}
 use Rattle.register.specs.declared.Claims.{Claims}
@@ -41,11 +41,11 @@ module _ (holders weights expiries : List ℕ) (n : ℕ) where
 
 module _ (k : Claims) (x now : ℕ) where
   -- the claims at the gathered places are the register's claims that can cover, in register order
-  pub gathered-natural : map (λ j. getD (k .list) j noClaim) (coverPlaces k x now) ≡ sift (λ c. not (canCover x now c)) (claimsOf k)
+  pub gathered-natural : map (λ j. getD (k .list) j noClaim) (coverPlaces k x now) ≡ filter (canCover x now) (claimsOf k)
   gathered-natural =
       sym (trim-map (λ j. getD (k .list) j noClaim) (λ M c. not (canCover x now c)) (λ M j. not (canCover x now (getD (k .list) j noClaim)))
       (λ M j. refl) (counted 0 (length (claimsOf k))))
-      ∙ ap (sift (λ c. not (canCover x now c))) (counted-first noClaim (k .list) (k .count))
+      ∙ ap (filter (canCover x now)) (counted-first noClaim (k .list) (k .count))
 
   -- each gathered place is that of a claim of the register
   pub gathered-within : All (λ j. j < length (claimsOf k)) (coverPlaces k x now)
@@ -62,11 +62,11 @@ module _ (k : Claims) (x now : ℕ) where
       looked-long (map holderOf (k .list)) (map weightOf (k .list)) (map expiryOf (k .list)) (k .count) (length (k .list))
       (length-map (k .list) holderOf) (length-map (k .list) weightOf) (length-map (k .list) expiryOf) (omega arith)
       ∙ sym (length-take (k .count) (k .list)) in
-      let same : _≡_ {A = ℕ → Bool} (λ j. not (canCover x now (heldAt (map holderOf (k .list)) (map weightOf (k .list)) (map expiryOf (k .list)) j)))
-      (λ j. not (canCover x now (getD (k .list) j noClaim))) =
+      let same : _≡_ {A = ℕ → Bool} (λ j. canCover x now (heldAt (map holderOf (k .list)) (map weightOf (k .list)) (map expiryOf (k .list)) j))
+      (λ j. canCover x now (getD (k .list) j noClaim)) =
       fun-ext (λ j. rw (List·getD-map holderOf (k .list) j noClaim, List·getD-map weightOf (k .list) j noClaim, List·getD-map expiryOf (k .list) j noClaim)) in
-      ap (λ n. sift (λ j. not (canCover x now (heldAt (map holderOf (k .list)) (map weightOf (k .list)) (map expiryOf (k .list)) j))) (counted 0 n)) looked
-      ∙ ap (λ p. sift p (counted 0 (length (claimsOf k)))) same
+      ap (λ n. filter (λ j. canCover x now (heldAt (map holderOf (k .list)) (map weightOf (k .list)) (map expiryOf (k .list)) j)) (counted 0 n)) looked
+      ∙ ap (λ p. filter p (counted 0 (length (claimsOf k)))) same
 
 module _ (holders weights expiries : List ℕ) where
   -- the first places, as many as are counted, are the gathered ones
@@ -84,7 +84,7 @@ module _ (holders weights expiries : List ℕ) where
   -- of no claims none are gathered
   pub held-none : (x now : ℕ) → heldPlaces holders weights expiries 0 x now ≡ []
   held-none x now =
-      rw looked-none (trim-nil (λ l j. not (canCover x now (heldAt holders weights expiries j))))
+      rw looked-none (filter-nil (λ j. canCover x now (heldAt holders weights expiries j)))
 
 -- the spot of x among the first m of a list of resources
 module _ (os : List Resource) (m x : ℕ) where

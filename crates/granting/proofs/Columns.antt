@@ -13,7 +13,7 @@ use Rattle.register.specs.declared.Actors.{Actors}
 use Rattle.register.specs.declared.Resources.{Resources}
 use Rattle.register.specs.declared.Claims.{Claims}
 use Rattle.register.specs.declared.Claim.{Claim}
-use Rattle.columns.specs.Columns.{actorId, kindOf, ownerOf, resourceId, keeperOf, claimId, beside, latestPlace, chainPlaces}
+use Rattle.columns.specs.Columns.{actorId, actorKind, ownerOf, resourceId, keeperOf, claimId, beside, latestPlace, chainPlaces}
 use Rattle.columns.specs.Columns.{actorColumns, resourceColumns, claimColumns}
 use Rattle.columns.specs.declared.ActorColumns.{ActorColumns}
 use Rattle.columns.specs.declared.ResourceColumns.{ResourceColumns}
@@ -21,13 +21,13 @@ use Rattle.columns.specs.declared.ClaimColumns.{ClaimColumns}
 use Rattle.columns.specs.declared.Place.the-variants.{At, Nowhere}
 use Rattle.columns.specs.Laws.{among-natural, beside-natural, chain-natural, circling-natural, latest-place-found, chain-found, chain-nowhere}
 use Rattle.rules.specs.Sound.{worldOf, namesStand, rootKept}
-use Rattle.alone.specs.Judged.{worldIn}
+use Rattle.alone.specs.Judged.{worldBy}
 use Rattle.granting.specs.Drawn.{chainTests}
 
 -- the actors and the resources
 module _ (a : Actors) (o : Resources) (c : Claim) {people : ActorColumns} {things : ResourceColumns} {b : Bool}
     (actors : people ≡ actorColumns (a .list)) (resources : things ≡ resourceColumns (o .list)) where
-  pub names-asked : b ≡ namesStand (worldIn (people .ids) [] [] (a .count) (things .ids) [] (o .count)) c
+  pub names-asked : b ≡ namesStand (worldBy (people .ids) [] [] (a .count) (things .ids) [] (o .count)) c
       → b ≡ namesStand (worldOf (actorsOf a) (resourcesOf o)) c
   unfolding namesStand
   names-asked e =
@@ -40,14 +40,14 @@ module _ (a : Actors) (o : Resources) (c : Claim) {people : ActorColumns} {thing
         among-natural resourceId (c .resource) (o .count) (o .list),
       )
 
-  pub root-asked : b ≡ rootKept (worldIn [] [] [] 0 (things .ids) (things .keepers) (o .count)) c
+  pub root-asked : b ≡ rootKept (worldBy [] [] [] 0 (things .ids) (things .keepers) (o .count)) c
       → b ≡ rootKept (worldOf (actorsOf a) (resourcesOf o)) c
   unfolding rootKept
   root-asked e = e ∙ rw (resources, beside-natural resourceId keeperOf (c .resource) (c .grantor) (o .count) (o .list))
 
   pub machine-asked : b ≡ beside (take (a .count) (people .ids)) (take (a .count) (people .kinds)) (c .grantor) machineKind
       → b ≡ worldOf (actorsOf a) (resourcesOf o) .machine (c .grantor)
-  machine-asked e = e ∙ rw actors (beside-natural actorId kindOf (c .grantor) machineKind (a .count) (a .list))
+  machine-asked e = e ∙ rw actors (beside-natural actorId actorKind (c .grantor) machineKind (a .count) (a .list))
 
   pub ownerless-asked : b ≡ beside (take (a .count) (people .ids)) (take (a .count) (people .owners)) (c .grantor) 0
       → b ≡ worldOf (actorsOf a) (resourcesOf o) .ownerless (c .grantor)

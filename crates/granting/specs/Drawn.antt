@@ -13,10 +13,10 @@ use Rattle.register.specs.Limits.{claimLimit, hopLimit}
 use Rattle.register.specs.Chain.{circling, live}
 use Rattle.register.specs.declared.Claim.{Claim}
 use Rattle.rules.specs.Sound.{World, namesStand, fresh, rootKept}
-use Rattle.changes.specs.Refusals.{Test}
+use Rattle.refusals.specs.Refusals.{Test}
 use Rattle.changes.specs.Changes.{sourceLive, worldTests, parentTests}
-use Rattle.changes.specs.declared.Refusal.the-variants.{Unknown, IdStands, Full, NotKeeper, Ownerless, MachineBarred}
-use Rattle.changes.specs.declared.Refusal.the-variants.{ParentNotHeld, ParentDead, NoDelegate, RightLacking, WeightAbove, TooManyHops, Circle}
+use Rattle.refusals.specs.declared.Refusal.the-variants.{Unknown, IdStands, Full, NotKeeper, Ownerless, MachineBarred}
+use Rattle.refusals.specs.declared.Refusal.the-variants.{ParentNotHeld, ParentDead, NoDelegate, RightLacking, WeightAbove, TooManyHops, Circle}
 
 -- tests 3 to 8 in a world, where it is told whether the id of the claim c stands, and that n claims do
 unfoldable pub toldTests : World → Bool → ℕ → Claim → List Test

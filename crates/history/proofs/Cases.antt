@@ -4,20 +4,22 @@ use mathlib.Core.Path.{_≡_, refl}
 use mathlib.Core.Bool.{Bool, true, false}
 use mathlib.Core.List.{List, [], _∷_, _++_, map}
 use Prim.Native.Nat.{ℕ, _+_}
-use lib.ListN.{replicate}
+use lib.ListN.{replicate, length}
+use Rattle.lists.specs.Fills.{all-replicate}
 use Rattle.lists.specs.Trims.{trim}
 use Rattle.rights.specs.Rights.{hasRight, hasRights, barsMachine}
-use Rattle.register.specs.Register.{claimsOf, noActor, noResource, noClaim}
+use Rattle.register.specs.Register.{claimsOf, noActor, noResource, noClaim, Shaped}
 use Rattle.register.specs.Chain.{chain, rootGranted, circling}
 use Rattle.register.specs.declared.Claim.{Claim}
 use Rattle.register.specs.declared.Register.{Register}
-use Rattle.rules.specs.Sound.{distinct, actorFits, resourceFits, claimFits, namesStand, rootKept, drawnFrom, machineMay, overChain, drawn, fresh, alone, over, acceptable, soundClaims, soundActors, soundResources, withinLimits, sound}
-use Rattle.changes.specs.Refusals.{outcomeOf, numberOf}
+use Rattle.rules.specs.Sound.{distinct, actorFits, resourceFits, claimFits, namesStand, rootKept, drawnFrom, machineMay, overChain, drawn, fresh, alone, over, acceptable}
+use Rattle.rules.specs.Sound.{soundClaims, soundActors, soundResources, withinLimits, sound}
+use Rattle.refusals.specs.Refusals.{outcomeOf, numberOf}
 use Rattle.changes.specs.Changes.{sourceLive, parentTests, worldTests, grantTests, granted, revokeTests, holding, revoked}
 use Rattle.changes.specs.declared.Revoked.{Revoked}
-use Rattle.changes.specs.declared.Outcome.{Outcome}
-use Rattle.changes.specs.declared.Outcome.the-variants.{Accepted, Refused}
-use Rattle.history.specs.History.{Call, grant, revoke, step, took, run, accepts, started, kept, left, olds, grants, Shaped, History}
+use Rattle.refusals.specs.declared.Outcome.{Outcome}
+use Rattle.refusals.specs.declared.Outcome.the-variants.{Accepted, Refused}
+use Rattle.history.specs.History.{Call, grant, revoke, step, took, run, accepts, started, kept, left, olds, grants, History}
 use Rattle.history.specs.Replay.{history}
 
 -- on the one resource, with READ, WRITE and DELEGATE, until the moment 2,000
@@ -56,7 +58,7 @@ calls =
 
 desk-shaped : Shaped desk
 unfolding desk
-desk-shaped = refl
+desk-shaped = record { actors = refl; resources = refl; paths = (refl, all-replicate (λ o. length (o .path) ≡ 64) 63 noResource refl); claims = refl }
 
 desk-sound : sound desk ≡ true
 unfolding desk sound withinLimits soundActors soundResources soundClaims acceptable alone over fresh drawn overChain machineMay drawnFrom rootKept namesStand claimFits resourceFits actorFits distinct chain circling rootGranted hasRight hasRights barsMachine

@@ -16,11 +16,11 @@ use Rattle.register.specs.declared.Register.{Register}
 use Rattle.rules.specs.Sound.{sound}
 use Rattle.rules.specs.Registers.{sound-out}
 use Rattle.rules.specs.Striking.{Distinct, strike-sound, chain-strike, chain-gone, sound-distinct}
-use Rattle.changes.specs.Refusals.{outcomeOf, isAccepted}
+use Rattle.refusals.specs.Refusals.{outcomeOf, isAccepted}
 use Rattle.changes.specs.Changes.{worldIn, standing, revokeTests, revoked}
-use Rattle.changes.specs.declared.Refusal.the-variants.{Unsound, Unknown, ClaimAbsent, NoGrantor}
-use Rattle.changes.specs.declared.Outcome.{Outcome}
-use Rattle.changes.specs.declared.Outcome.the-variants.{Accepted, Refused}
+use Rattle.refusals.specs.declared.Refusal.the-variants.{Unsound, Unknown, ClaimAbsent, NoGrantor}
+use Rattle.refusals.specs.declared.Outcome.{Outcome}
+use Rattle.refusals.specs.declared.Outcome.the-variants.{Accepted, Refused}
 use Rattle.history.specs.History.{revoke, took}
 use Rattle.history.specs.Calls.{revokeAsks, revoke-accepted, revoked-register, refused-register}
 use Rattle.history.specs.Holds.{standing-holding, revoked-sound}

@@ -1,23 +1,23 @@
 -- What is proved of any calls of grant and revocation, over the definitions that their contracts cite. Where a grant's claim has to come
--- into its place, the array of claims has 256 places (`Shaped`), as that of every register of the program has by its type.
+-- into its place, the array of claims has the 256 places of its type: every register of the program has its shape (`Shaped`).
 -- Assumes nothing.
 use mathlib.Core.Path.{_≡_}
-use mathlib.Core.Bool.{true, false, _&&_, _||_}
+use mathlib.Core.Bool.{true, false, not, _&&_, _||_}
 use mathlib.Core.List.{List, [], _∷_, _++_}
 use Prim.Native.Nat.{ℕ, _+_}
 use lib.Dec.{eqb, ltb}
 use lib.ListN.{length}
 use Rattle.lists.specs.Tests.{ands}
 use Rattle.lists.specs.Lists.{any}
-use Rattle.lists.specs.Trims.{sift}
+use Rattle.lists.specs.Trims.{filter}
 use Rattle.register.specs.Limits.{claimLimit, momentEnd}
-use Rattle.register.specs.Register.{claimsOf}
+use Rattle.register.specs.Register.{claimsOf, Shaped}
 use Rattle.register.specs.Chain.{chain, above}
 use Rattle.register.specs.declared.Claim.{Claim}
 use Rattle.register.specs.declared.Register.{Register}
 use Rattle.rules.specs.Sound.{sound, fresh}
 use Rattle.changes.specs.Changes.{worldIn, standing, sourceLive, appended, granted, revoked}
-use Rattle.history.specs.History.{Call, grant, revoke, step, took, run, Shaped, History}
+use Rattle.history.specs.History.{Call, grant, revoke, step, took, run, History}
 use Rattle.history.specs.Order.{SameOrAbsent, AcceptedOrBarred, turnsAbsent, takes}
 use Rattle.history.specs.Calls as calls
 use Rattle.history.specs.Holds as holds
@@ -36,6 +36,14 @@ step-sound = holds.step-sound
 -- 2b. So does every run of calls.
 pub run-sound : (r : Register) (ks : List Call) → sound r ≡ true → sound (run r ks) ≡ true
 run-sound = replay.run-sound
+
+-- 2c. Every call leaves a register its shape.
+pub step-shaped : (r : Register) (k : Call) → Shaped r → Shaped (step r k)
+step-shaped = holds.step-shaped
+
+-- 2d. So does every run of calls.
+pub run-shaped : (r : Register) (ks : List Call) → Shaped r → Shaped (run r ks)
+run-shaped = replay.run-shaped
 
 -- 3a. A grant is accepted exactly where the register is sound, the moment is in range, the register with the claim is sound, and the source of a claim that is no root lives.
 pub grant-exact : (r : Register) (c : Claim) (now : ℕ) → Shaped r
@@ -61,7 +69,7 @@ revoke-exact = calls.revoke-accepted
 
 -- 4b. An accepted revocation removes exactly the claims with the named one on their chain, itself included, and the others keep their order.
 pub revoke-removes : (r : Register) (who x : ℕ) → sound r ≡ true → took r (revoke who x) ≡ true
-    → claimsOf (step r (revoke who x) .claims) ≡ sift (λ c. any (λ d. eqb (d .id) x) (chain (λ d. d .id) (λ d. d .parent) (standing r) (c .id))) (claimsOf (r .claims))
+    → claimsOf (step r (revoke who x) .claims) ≡ filter (λ c. not (any (λ d. eqb (d .id) x) (chain (λ d. d .id) (λ d. d .parent) (standing r) (c .id)))) (claimsOf (r .claims))
 revoke-removes = laws.revoke-removes
 
 -- 4c. It tells how many went.

@@ -15,9 +15,9 @@ use Rattle.register.specs.declared.Claim.{Claim}
 use Rattle.register.specs.declared.Register.{Register}
 use Rattle.rules.specs.Sound.{sound}
 use Rattle.rules.specs.Striking.{strike, strike-none, strike-same, strike-strike}
-use Rattle.changes.specs.Refusals.{isAccepted}
+use Rattle.refusals.specs.Refusals.{isAccepted}
 use Rattle.changes.specs.Changes.{standing, leftOf, holding}
-use Rattle.changes.specs.declared.Outcome.{Outcome}
+use Rattle.refusals.specs.declared.Outcome.{Outcome}
 use Rattle.history.specs.Holds.{claims-holding, standing-holding}
 use Rattle.history.specs.Laws.{left-counts}
 

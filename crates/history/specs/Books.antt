@@ -5,13 +5,13 @@ use mathlib.Core.Bool.{Bool, true, false, not, _||_, or-true, or-false, false≢
 use mathlib.Core.List.{List, [], _∷_, _++_}
 use Prim.Native.Nat.{ℕ, _<_}
 use native.Mathlib.Omega.{arith}
-use borrow.Author.Tests.{eq-eqb, ne-eqb}
+use borrow.Author.Tests.{eq-eqb, ne-eqb, not-true}
 use lib.Dec.{eqb, ltb}
 use lib.ListN.{length}
 use Rattle.lists.specs.Tests.{cases, or-left}
 use Rattle.lists.specs.Lists.{any, any-append}
 use Rattle.lists.specs.Each.{Each, All, each-all, each-imp, all-imp, all-both, all-append, all-none, any-either, any-map, all-map}
-use Rattle.lists.specs.Trims.{sift, trim-hit, trim-miss, trim-ind, all-trim, trim-none, trim-same, trim-trim, trim-map, sift-spared}
+use Rattle.lists.specs.Trims.{trim, filter, trim-ind, all-trim, trim-none, trim-same, trim-trim, trim-map, filter-not, filter-hit, filter-miss, filter-passed}
 use Rattle.register.specs.Limits.{momentEnd}
 use Rattle.register.specs.Chain.{chain}
 use Rattle.register.specs.Laws.{all-chain, chain-map}
@@ -52,11 +52,11 @@ abbrev pub After : Entry → Entry → Type 0
 After e d = (d .serial < e .serial) × (e .old ≡ true → d .old ≡ true)
 
 -- its line is that of its chain
-abbrev pub Over : List Entry → Entry → Type 0
-Over H e = (e .old ≡ false → Timely e H) × (e .line ≡ serials H)
+abbrev pub Lined : List Entry → Entry → Type 0
+Lined H e = (e .old ≡ false → Timely e H) × (e .line ≡ serials H)
 
 abbrev pub Fine : List Entry → Type 0
-Fine L = Each (λ M e. All (After e) M × Over (chain idIn parentIn M (parentIn e)) e) L
+Fine L = Each (λ M e. All (After e) M × Lined (chain idIn parentIn M (parentIn e)) e) L
 
 abbrev Below : ℕ → Entry → Type 0
 Below n e = e .serial < n
@@ -73,12 +73,19 @@ has named e = among named (e .serial)
 above-named : (n : ℕ) (named : List ℕ) → All (λ t. t < n) named → among named n ≡ false
 above-named n named h = all-none (eqb n) named (all-imp (λ t. t < n) (λ t. eqb n t ≡ false) (λ t k. ne-eqb n t (omega arith)) named h)
 
+-- what remains is what is not struck
+remains-trim : (b : Book) → remains b ≡ trim (λ M. gone (b .named)) (b .all)
+remains-trim b = filter-not (gone (b .named)) (b .all)
+
 -- an accepted grant: the new entry remains
 pub remains-grant : (b : Book) (c : Claim) (now : ℕ) → Kept b → remains (wrote b (grant c now)) ≡ entered false now (remains b) (length (b .all)) c ∷ remains b
-remains-grant b c now v = trim-miss (λ M. gone (b .named)) _ _ (rw (above-named (length (b .all)) (b .named) (v .spent))
+remains-grant b c now v =
+    let spared : gone (b .named) (entered false now (remains b) (length (b .all)) c) ≡ false = rw (above-named (length (b .all)) (b .named) (v .spent))
     (any-map (λ (e : Entry). e .serial) (among (b .named)) (chain idIn parentIn (remains b) (c .parent))
     ∙ all-none (has (b .named)) (chain idIn parentIn (remains b) (c .parent)) (all-chain idIn parentIn _ (remains b) (c .parent)
-    (all-imp _ _ (λ e h. or-left (among (b .named) (e .serial)) (any (among (b .named)) (e .line)) h) (remains b) (sift-spared (gone (b .named)) (b .all))))))
+    (all-imp _ _ (λ e h. or-left (among (b .named) (e .serial)) (any (among (b .named)) (e .line)) (not-true (gone (b .named) e) h)) (remains b)
+    (filter-passed (λ e. not (gone (b .named) e)) (b .all))))) in
+    filter-hit (λ e. not (gone (b .named) e)) (entered false now (remains b) (length (b .all)) c) (b .all) (ap not spared)
 
 pub kept-grant : (b : Book) (c : Claim) (now : ℕ) → Kept b → ltb now momentEnd ≡ true
     → eqb (c .parent) 0 || sourceLive now (chain (λ d. d .id) (λ d. d .parent) (claims (remains b)) (c .parent)) ≡ true → Kept (wrote b (grant c now))
@@ -96,7 +103,7 @@ kept-grant b c now v moment lives = record {
 
 -- the entries that have the id x
 abbrev withId : ℕ → List Entry → List Entry
-withId x L = sift (λ e. not (eqb (e .claim .id) x)) L
+withId x L = filter (λ e. eqb (e .claim .id) x) L
 
 -- among those that stand, their serial numbers are those of the claims with that id
 abbrev Agrees : ℕ → List ℕ → Entry → Type 0
@@ -106,19 +113,19 @@ agree : (x : ℕ) (L : List Entry) → Fine L → All (Agrees x (serials (withId
 agree x [] h = tt
 agree x (e ∷ L) h = let low = all-imp (After e) (Below (e .serial)) (λ d a. a .0) L (h .0 .0) in
     cases (eqb (e .claim .id) x)
-    (λ q. rw (trim-miss (λ M e. not (eqb (e .claim .id) x)) e L (ap not q)) (
+    (λ q. rw (filter-hit (λ e. eqb (e .claim .id) x) e L q) (
       rw (eq-eqb (e .serial) (e .serial) refl) (sym q),
       all-both (Below (e .serial)) (Agrees x (serials (withId x L))) (Agrees x (e .serial ∷ serials (withId x L)))
           (λ d l a. rw (ne-eqb (d .serial) (e .serial) (omega arith)) a) L low (agree x L (h .1)),
     ))
-    (λ q. rw (trim-hit (λ M e. not (eqb (e .claim .id) x)) e L (ap not q)) (
+    (λ q. rw (filter-miss (λ e. eqb (e .claim .id) x) e L q) (
       above-named (e .serial) (serials (withId x L))
           (all-map (λ (d : Entry). d .serial) (λ t. t < e .serial) (withId x L) (all-trim (λ M e. not (eqb (e .claim .id) x)) (Below (e .serial)) L low)) ∙ sym q,
       agree x L (h .1),
     ))
 
 -- an accepted revocation: striking by lines is striking by chains
-gone-strike : (named : List ℕ) (L : List Entry) → Fine L → sift (gone named) L ≡ strike idIn parentIn (has named) L
+gone-strike : (named : List ℕ) (L : List Entry) → Fine L → trim (λ M. gone named) L ≡ strike idIn parentIn (has named) L
 gone-strike named L h = trim-same (λ M e. gone named e) (struck idIn parentIn (has named)) L (each-imp _ _
     (λ M e k. rw (k .1 .1, any-map (λ (e : Entry). e .serial) (among named) (chain idIn parentIn M (parentIn e)))) L h)
 
@@ -130,15 +137,15 @@ pub remains-revoke : (b : Book) (who x : ℕ) → Fine (remains b)
     → remains (wrote b (revoke who x)) ≡ strike idIn parentIn (λ e. eqb (e .claim .id) x) (remains b)
 remains-revoke b who x h =
     let more : List ℕ = serials (withId x (remains b)) in
-    sym (trim-trim (λ M. gone (more ++ b .named)) (λ M. gone more) (λ M. gone (b .named)) (b .all) (each-all _ (λ M e. (
+    remains-trim (wrote b (revoke who x)) ∙ sym (trim-trim (λ M. gone (more ++ b .named)) (λ M. gone more) (λ M. gone (b .named)) (b .all) (each-all _ (λ M e. (
       (λ k. gone-either (b .named) more e ∙ rw k (or-true (gone more e))),
       λ k. sym (gone-either (b .named) more e ∙ rw k (or-false (gone more e))),
     )) (b .all)))
-    ∙ gone-strike more (remains b) h ∙ strike-same idIn parentIn (has more) (λ e. eqb (e .claim .id) x) (remains b) (agree x (remains b) h)
+    ∙ ap (trim (λ M. gone more)) (sym (remains-trim b)) ∙ gone-strike more (remains b) h ∙ strike-same idIn parentIn (has more) (λ e. eqb (e .claim .id) x) (remains b) (agree x (remains b) h)
 
 pub kept-revoke : (b : Book) (who x : ℕ) → Kept b → Kept (wrote b (revoke who x))
 kept-revoke b who x v = record {
-  fine = rw (remains-revoke b who x (v .fine)) (strike-each idIn parentIn After Over (λ e. eqb (e .claim .id) x) (remains b) (v .fine));
+  fine = rw (remains-revoke b who x (v .fine)) (strike-each idIn parentIn After Lined (λ e. eqb (e .claim .id) x) (remains b) (v .fine));
   used = rw (remains-revoke b who x (v .fine)) (all-trim (struck idIn parentIn (λ e. eqb (e .claim .id) x)) (Below (length (b .all))) (remains b) (v .used));
   spent = all-append (λ t. t < length (b .all)) (serials (withId x (remains b))) (b .named)
       (all-map (λ (e : Entry). e .serial) (λ t. t < length (b .all)) (withId x (remains b))
@@ -179,7 +186,7 @@ none-among : (l : List ℕ) → any (among []) l ≡ false
 none-among l = all-none (among []) l (each-all _ (λ M s. refl) l)
 
 pub remains-started : (L : List Claim) → remains (record { all = started L; named = [] }) ≡ started L
-remains-started L = trim-none (λ M. gone []) (started L) (each-all _ (λ M e. none-among (e .serial ∷ e .line)) (started L))
+remains-started L = remains-trim (record { all = started L; named = [] }) ∙ trim-none (λ M. gone []) (started L) (each-all _ (λ M e. none-among (e .serial ∷ e .line)) (started L))
 
 pub kept-started : (L : List Claim) → Kept (record { all = started L; named = [] })
 kept-started L = record {

@@ -9,13 +9,13 @@ use Rattle.lists.specs.Tests.{cases, ands}
 use Rattle.lists.specs.Lists.{any, every}
 use Rattle.lists.specs.Each.{ands-out}
 use Rattle.rights.specs.Rights.{delegating, hasRight, hasRights, barsMachine}
-use Rattle.register.specs.Limits.{claimLimit, hopLimit, momentEnd}
+use Rattle.register.specs.Limits.{claimLimit, momentEnd}
 use Rattle.register.specs.Chain.{chain, above, circling}
 use Rattle.register.specs.declared.Claim.{Claim}
 use Rattle.register.specs.declared.Register.{Register}
-use Rattle.rules.specs.Sound.{sound, claimFits, namesStand, rootKept, machineMay, drawnFrom, overChain, drawn, fresh, acceptable}
+use Rattle.rules.specs.Sound.{sound, claimFits, namesStand, rootKept, machineMay, drawnFrom, withinHops, overChain, drawn, fresh, acceptable}
 use Rattle.rules.specs.Laws.{acceptable-out, acceptable-in}
-use Rattle.changes.specs.Refusals.{Test, outcomeOf, isAccepted}
+use Rattle.refusals.specs.Refusals.{Test, outcomeOf, isAccepted}
 use Rattle.changes.specs.Changes.{worldIn, standing, sourceLive, parentTests, worldTests, grantTests, appended, granted, revokeTests, leftOf, holding, revoked}
 use Rattle.history.specs.History.{Call, grant, revoke, step, took}
 
@@ -55,7 +55,7 @@ unfolding parentTests overChain drawnFrom
 parent-tests now [] c = refl
 parent-tests now (p ∷ higher) c =
     set-apart (eqb (p .holder) (c .grantor)) (eqb (p .resource) (c .resource)) (sourceLive now (p ∷ higher)) (hasRight (p .rights) delegating)
-    (hasRights (p .rights) (c .rights)) (leb (c .weight) (p .weight)) (leb (length (p ∷ higher)) hopLimit)
+    (hasRights (p .rights) (c .rights)) (leb (c .weight) (p .weight)) (withinHops (p ∷ higher))
     (not (circling (λ d. d .grantor) (λ d. d .holder) (p ∷ higher) (c .holder)))
 
 -- what tests 1 to 16 of a grant ask; whether a source lives is not looked into

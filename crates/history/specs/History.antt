@@ -1,8 +1,7 @@
 -- What any calls of grant and revocation come to: the record of all that ever stood, what is left of it, and the statement.
 -- To read it: `Call`, `step` and `took` run the calls by the very definitions that the contracts of grant and revocation cite. `book` is
 -- kept beside the run and asks it one thing only, whether a call was accepted. `left` says what should stand at the end. `History` says
--- that just this stands. `sift` leaves out what its test takes. `Shaped`, which the theorem asks, holds of every register of the program
--- by its type: its array of claims has 256 places.
+-- that just this stands. `wrote` looks at `remains`, which begs no question: by `holds`, for the calls so far, it is what the register holds.
 use mathlib.Core.Path.{_≡_}
 use mathlib.Core.Bool.{Bool, true, false, not, _&&_, cond}
 use mathlib.Core.List.{List, [], _∷_, _++_, map}
@@ -10,13 +9,12 @@ use Prim.Native.Nat.{ℕ}
 use lib.Dec.{eqb}
 use lib.ListN.{length}
 use Rattle.lists.specs.Lists.{any}
-use Rattle.lists.specs.Trims.{sift}
-use Rattle.register.specs.Limits.{claimLimit}
+use Rattle.lists.specs.Trims.{filter}
 use Rattle.register.specs.Register.{Same, claimsOf}
 use Rattle.register.specs.Chain.{latest, chain}
 use Rattle.register.specs.declared.Claim.{Claim}
 use Rattle.register.specs.declared.Register.{Register}
-use Rattle.changes.specs.Refusals.{isAccepted}
+use Rattle.refusals.specs.Refusals.{isAccepted}
 use Rattle.changes.specs.Changes.{standing, granted, revoked, holding}
 
 -- a call: the claim to grant and the clock reading; who revokes and the id of the claim to revoke
@@ -71,7 +69,7 @@ gone named e = any (among named) (e .serial ∷ e .line)
 
 -- what is not struck, latest first
 abbrev pub remains : Book → List Entry
-remains b = sift (gone (b .named)) (b .all)
+remains b = filter (λ e. not (gone (b .named) e)) (b .all)
 
 -- a claim that comes, with the entries that stand then, latest first
 abbrev pub entered : Bool → ℕ → List Entry → ℕ → Claim → Entry
@@ -91,7 +89,7 @@ started (c ∷ earlier) = let es = started earlier in entered true 0 es (length 
 -- what an accepted call writes: a grant a new entry, a revocation the serial number of what stands with the id
 abbrev pub wrote : Book → Call → Book
 wrote b (grant c now) = record { all = entered false now (remains b) (length (b .all)) c ∷ b .all; named = b .named }
-wrote b (revoke who x) = record { all = b .all; named = serials (sift (λ e. not (eqb (e .claim .id) x)) (remains b)) ++ b .named }
+wrote b (revoke who x) = record { all = b .all; named = serials (filter (λ e. eqb (e .claim .id) x) (remains b)) ++ b .named }
 
 -- the book b, kept on through calls from the register r
 unfoldable pub kept : Register → Book → List Call → Book
@@ -106,14 +104,10 @@ abbrev pub left : Register → List Call → List Entry
 left r ks = latest (remains (book r ks))
 
 abbrev pub olds : List Entry → List Claim
-olds es = claims (sift (λ e. not (e .old)) es)
+olds es = claims (filter (λ e. e .old) es)
 
 abbrev pub grants : List Entry → List Call
-grants es = map (λ e. grant (e .claim) (e .clock)) (sift (λ e. e .old) es)
-
--- the array of claims has a place for each claim that may stand
-abbrev pub Shaped : Register → Type 0
-Shaped r = length (r .claims .list) ≡ claimLimit
+grants es = map (λ e. grant (e .claim) (e .clock)) (filter (λ e. not (e .old)) es)
 
 -- Make any calls from a register. Strike every claim that an accepted revocation named while it stood, with all drawn from it. The register
 -- at the end holds exactly what is left, in the order in which it came, over the same actors and resources. From the claims of the start

@@ -2,34 +2,35 @@
 -- hold, and when they are sound. Assumes nothing.
 use mathlib.Core.Path.{_≡_, refl, ap, sym, _∙_}
 use mathlib.Core.Bool.{Bool, true}
-use mathlib.Core.List.{List, [], _∷_, _++_, reverse-append, reverse-reverse, map}
+use mathlib.Core.List.{List, [], _∷_, reverse-append, reverse-reverse, map}
 use Prim.Native.Nat.{ℕ, suc, _+_, _-_, _≤_, _<_}
 use native.Mathlib.Numerals.{add-one}
 use native.Mathlib.Omega.{arith}
 use borrow.Author.Tests.{ltb-true, ltb-false}
 use lib.Dec.{eqb, ltb}
-use lib.ListN.{length, take, set, replicate, length-append, length-set, length-replicate, length-reverse, length-take}
+use lib.ListN.{length, take, set, replicate, length-set, length-reverse, length-take}
 use lib.Seq.{take-all, take-suc-set, take-append-seam, set-out, length-take-le}
 use Rattle.lists.specs.Tests.{cases}
+use Rattle.lists.specs.Fills.{full-length}
 use Rattle.register.specs.Limits.{claimLimit}
-use Rattle.register.specs.Register.{Same, claimsOf, actorsOf, resourcesOf, noClaim}
-use Rattle.register.specs.Register as registers
+use Rattle.register.specs.Register.{Same, claimsOf, actorsOf, resourcesOf, noClaim, resourceStanding, Shaped}
 use Rattle.register.specs.Chain.{latest}
 use Rattle.register.specs.declared.Claim.{Claim}
+use Rattle.register.specs.declared.Claims.{Claims}
 use Rattle.register.specs.declared.Register.{Register}
 use Rattle.rules.specs.Sound.{soundClaims, sound}
 use Rattle.rules.specs.Registers.{SoundRegister, sound-out, sound-in}
 use Rattle.rules.specs.Places.{sound-claims-in}
 use Rattle.rules.specs.Striking.{strike, strike-sound, strike-length}
 use Rattle.changes.specs.Changes.{worldIn, standing, appended, leftOf, holding}
-use Rattle.history.specs.History.{Call, grant, revoke, step, took, Shaped}
+use Rattle.history.specs.History.{Call, grant, revoke, step, took}
 use Rattle.history.specs.Calls.{GrantPassed, grant-out, granted-register, revoked-register, refused-register}
 
 -- s holds the claims L, latest first, over the actors and resources of r
 pub record Holds (r s : Register) (L : List Claim) : Type 0 where
   pub actors : s .actors ≡ r .actors
   pub resources : s .resources ≡ r .resources
-  pub shaped : Shaped s
+  pub places : length (s .claims .list) ≡ claimLimit
   pub count : s .claims .count ≡ length L
   pub claims : standing s ≡ L
 
@@ -43,29 +44,25 @@ take-short l n c h = rw (set-out l n c h, take-all (n + 1) l (omega (arith, h)),
 pub holds-self : (r : Register) → Shaped r → sound r ≡ true → Holds r r (standing r)
 holds-self r shaped h =
     let within : r .claims .count ≤ claimLimit = sound-out r h .limits .claimCount in
-    let fits : r .claims .count ≤ length (r .claims .list) = omega (arith, shaped, within) in
+    let fits : r .claims .count ≤ length (r .claims .list) = omega (arith, shaped .claims, within) in
     record {
       actors = refl;
       resources = refl;
-      shaped = shaped;
+      places = shaped .claims;
       count = sym (length-reverse (claimsOf (r .claims)) ∙ length-take-le (r .claims .count) (r .claims .list) fits);
       claims = refl;
     }
 
 pub holds-appended : (r s : Register) (L : List Claim) (c : Claim) → Holds r s L → length L < claimLimit → Holds r (appended s c) (c ∷ L)
 holds-appended r s L c h room =
-    let fits : s .claims .count < length (s .claims .list) = omega (arith, h .shaped, h .count, room) in
+    let fits : s .claims .count < length (s .claims .list) = omega (arith, h .places, h .count, room) in
     record {
       actors = h .actors;
       resources = h .resources;
-      shaped = length-set (s .claims .list) (s .claims .count) c ∙ h .shaped;
+      places = length-set (s .claims .list) (s .claims .count) c ∙ h .places;
       count = add-one (s .claims .count) ∙ ap suc (h .count);
       claims = take-appended (s .claims .list) (s .claims .count) c fits ∙ ap (λ K. c ∷ K) (h .claims);
     }
-
-length-padded : (cs : List Claim) → length cs ≤ claimLimit → length (cs ++ replicate (claimLimit - length cs) noClaim) ≡ claimLimit
-length-padded cs h = length-append cs (replicate (claimLimit - length cs) noClaim)
-    ∙ ap (λ n. length cs + n) (length-replicate (claimLimit - length cs) noClaim) ∙ omega arith
 
 pub claims-holding : (s : Register) (cs : List Claim) → claimsOf (holding s cs .claims) ≡ cs
 claims-holding s cs = take-append-seam cs (replicate (claimLimit - length cs) noClaim)
@@ -78,7 +75,7 @@ pub holds-holding : (r s : Register) (L : List Claim) → s .actors ≡ r .actor
 holds-holding r s L actors resources room = record {
   actors = actors;
   resources = resources;
-  shaped = length-padded (latest L) (rw (length-reverse L) room);
+  places = full-length (latest L) claimLimit noClaim (rw (length-reverse L) room);
   count = length-reverse L;
   claims = standing-holding s L;
 }
@@ -92,7 +89,7 @@ holds-same r s t L h k =
       actorCount = ap (λ a. a .count) actors;
       actors = ap actorsOf actors;
       resourceCount = ap (λ o. o .count) resources;
-      resources = ap (λ o. map registers.standing (resourcesOf o)) resources;
+      resources = ap (λ o. map resourceStanding (resourcesOf o)) resources;
       claimCount = h .count ∙ sym (k .count);
       claims = sym (reverse-reverse (claimsOf (s .claims))) ∙ ap latest (h .claims ∙ sym (k .claims)) ∙ reverse-reverse (claimsOf (t .claims));
     }
@@ -141,3 +138,19 @@ step-sound r k h = cases (took r k) (taken k) (λ e. rw (refused-register r k e)
     taken : (k : Call) → took r k ≡ true → sound (step r k) ≡ true
     taken (grant c now) e = rw (granted-register r c now e) (appended-sound r c now (grant-out r c now e))
     taken (revoke who x) e = rw (revoked-register r who x e) (revoked-sound r (λ c. eqb (c .id) x) h)
+
+-- every call leaves a register its shape
+pub step-shaped : (r : Register) (k : Call) → Shaped r → Shaped (step r k)
+step-shaped r k h = cases (took r k) (taken k) (λ e. rw (refused-register r k e) h)
+  where
+    with-claims : (cs : Claims) → length (cs .list) ≡ claimLimit → Shaped (record { actors = r .actors; resources = r .resources; claims = cs })
+    with-claims cs long = record { actors = h .actors; resources = h .resources; paths = h .paths; claims = long }
+
+    taken : (k : Call) → took r k ≡ true → Shaped (step r k)
+    taken (grant c now) e = rw (granted-register r c now e) (with-claims _ (length-set (r .claims .list) (r .claims .count) c ∙ h .claims))
+    taken (revoke who x) e =
+        let K : List Claim = strike (λ c. c .id) (λ c. c .parent) (λ c. eqb (c .id) x) (standing r) in
+        let fewer : length K ≤ length (standing r) = strike-length (λ c. c .id) (λ c. c .parent) (λ c. eqb (c .id) x) (standing r) in
+        let room : length (latest K) ≤ claimLimit =
+        omega (arith, length-reverse K, fewer, length-reverse (claimsOf (r .claims)), length-take (r .claims .count) (r .claims .list), h .claims) in
+        rw (revoked-register r who x e) (with-claims _ (full-length (latest K) claimLimit noClaim room))

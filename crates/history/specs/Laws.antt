@@ -1,6 +1,6 @@
 -- What is accepted, what a grant looks at, and what a revocation removes. Assumes nothing.
 use mathlib.Core.Path.{_≡_, ap, _∙_}
-use mathlib.Core.Bool.{Bool, true, _&&_, _||_}
+use mathlib.Core.Bool.{Bool, true, _&&_, _||_, not}
 use mathlib.Core.List.{List, [], _∷_, _++_}
 use Prim.Native.Nat.{ℕ, _+_, _-_, _≤_, _<_}
 use native.Mathlib.Numerals.{add-one}
@@ -11,9 +11,9 @@ use lib.ListN.{length, length-reverse}
 use lib.Seq.{take-suc-set}
 use Rattle.lists.specs.Tests.{iff-same, and-left, and-right, and-both}
 use Rattle.lists.specs.Lists.{any}
-use Rattle.lists.specs.Trims.{sift}
+use Rattle.lists.specs.Trims.{filter}
 use Rattle.register.specs.Limits.{claimLimit, momentEnd}
-use Rattle.register.specs.Register.{claimsOf}
+use Rattle.register.specs.Register.{claimsOf, Shaped}
 use Rattle.register.specs.Chain.{chain, above}
 use Rattle.register.specs.declared.Claim.{Claim}
 use Rattle.register.specs.declared.Register.{Register}
@@ -21,9 +21,9 @@ use Rattle.rules.specs.Sound.{World, soundClaims, sound, fresh}
 use Rattle.rules.specs.Registers.{sound-out}
 use Rattle.rules.specs.Places.{latest-acceptable}
 use Rattle.rules.specs.Striking.{strike, strike-latest, strike-length, sound-distinct}
-use Rattle.changes.specs.Refusals.{isAccepted}
+use Rattle.refusals.specs.Refusals.{isAccepted}
 use Rattle.changes.specs.Changes.{worldIn, standing, sourceLive, worldTests, grantTests, appended, granted, leftOf, revoked}
-use Rattle.history.specs.History.{grant, revoke, step, took, Shaped}
+use Rattle.history.specs.History.{grant, revoke, step, took}
 use Rattle.history.specs.Calls.{GrantPassed, grant-out, grant-in, granted-register, revoked-register, revoked-removed}
 use Rattle.history.specs.Holds.{holds-self, holds-appended, appended-sound, claims-holding}
 
@@ -71,7 +71,7 @@ pub granted-claims : (r : Register) (c : Claim) (now : ℕ) → Shaped r → too
     → claimsOf (step r (grant c now) .claims) ≡ claimsOf (r .claims) ++ (c ∷ [])
 granted-claims r c now shaped e =
     let told = grant-out r c now e in
-    let below : r .claims .count < length (r .claims .list) = omega (arith, shaped, ltb-true (r .claims .count) claimLimit (told .room)) in
+    let below : r .claims .count < length (r .claims .list) = omega (arith, shaped .claims, ltb-true (r .claims .count) claimLimit (told .room)) in
     ap (λ s. claimsOf (s .claims)) (granted-register r c now e) ∙ rw (add-one, take-suc-set (r .claims .list) (r .claims .count) c below)
 
 world-tests-same : (w v : World) (L K : List Claim) (n m : ℕ) (c : Claim) → w ≡ v → fresh L c ≡ fresh K c → ltb n claimLimit ≡ ltb m claimLimit
@@ -92,7 +92,7 @@ grant-looks r s c now judged world chained free room = rw (
 
 -- an accepted revocation removes exactly what has the claim on its chain, itself included, and the rest keep their order
 pub revoke-removes : (r : Register) (who x : ℕ) → sound r ≡ true → took r (revoke who x) ≡ true
-    → claimsOf (step r (revoke who x) .claims) ≡ sift (λ c. any (λ d. eqb (d .id) x) (chain (λ d. d .id) (λ d. d .parent) (standing r) (c .id))) (claimsOf (r .claims))
+    → claimsOf (step r (revoke who x) .claims) ≡ filter (λ c. not (any (λ d. eqb (d .id) x) (chain (λ d. d .id) (λ d. d .parent) (standing r) (c .id)))) (claimsOf (r .claims))
 revoke-removes r who x h e =
     ap (λ s. claimsOf (s .claims)) (revoked-register r who x e) ∙ claims-holding r (leftOf (λ c. eqb (c .id) x) r)
     ∙ strike-latest (λ c. c .id) (λ c. c .parent) (λ d. eqb (d .id) x) (claimsOf (r .claims)) (sound-distinct (worldIn r) (standing r) (sound-out r h .claims))

@@ -7,11 +7,11 @@ use lib.Dec.{eqb}
 use Rattle.lists.specs.Lists.{any}
 use Rattle.register.specs.Chain.{chain}
 use Rattle.register.specs.declared.Register.{Register}
-use Rattle.changes.specs.Refusals.{numberOf}
+use Rattle.refusals.specs.Refusals.{numberOf}
 use Rattle.changes.specs.Changes.{worldIn, standing}
-use Rattle.changes.specs.declared.Refusal.the-variants.{ClaimAbsent, NoGrantor}
-use Rattle.changes.specs.declared.Outcome.{Outcome}
-use Rattle.changes.specs.declared.Outcome.the-variants.{Accepted, Refused}
+use Rattle.refusals.specs.declared.Refusal.the-variants.{ClaimAbsent, NoGrantor}
+use Rattle.refusals.specs.declared.Outcome.{Outcome}
+use Rattle.refusals.specs.declared.Outcome.the-variants.{Accepted, Refused}
 use Rattle.history.specs.History.{revoke, took}
 
 -- told the same, or 17

@@ -9,9 +9,9 @@ use lib.Dec.{eqb}
 use lib.ListN.{length, length-map}
 use Rattle.lists.specs.Tests.{cases, and-both}
 use Rattle.lists.specs.Each.{All, all-imp}
-use Rattle.lists.specs.Trims.{sift, trim-hit, trim-miss, trim-none, trim-length, sift-every, sift-reverse}
+use Rattle.lists.specs.Trims.{filter, trim-none, trim-length, filter-hit, filter-miss, filter-none, filter-reverse}
 use Rattle.register.specs.Limits.{claimLimit}
-use Rattle.register.specs.Register.{claimsOf}
+use Rattle.register.specs.Register.{claimsOf, Shaped}
 use Rattle.register.specs.Chain.{latest, chain}
 use Rattle.register.specs.declared.Claim.{Claim}
 use Rattle.register.specs.declared.Register.{Register}
@@ -20,9 +20,9 @@ use Rattle.rules.specs.Registers.{SoundRegister, sound-out}
 use Rattle.rules.specs.Places.{latest-acceptable, earlier-sound}
 use Rattle.rules.specs.Striking.{strike, strike-length}
 use Rattle.changes.specs.Changes.{worldIn, standing, holding}
-use Rattle.history.specs.History.{Call, grant, revoke, step, took, run, accepts, Entry, Book, claims, remains, started, wrote, kept, book, olds, grants, Shaped, History}
+use Rattle.history.specs.History.{Call, grant, revoke, step, took, run, accepts, Entry, Book, claims, remains, started, wrote, kept, book, olds, grants, History}
 use Rattle.history.specs.Calls.{grant-out, grant-in, granted-register, revoked-register, refused-register}
-use Rattle.history.specs.Holds.{Holds, holds-self, holds-appended, holds-holding, holds-same, holds-sound, step-sound}
+use Rattle.history.specs.Holds.{Holds, holds-self, holds-appended, holds-holding, holds-same, holds-sound, step-sound, step-shaped}
 use Rattle.history.specs.Books.{Fine, Kept, After, Timely, chain-claims, strike-claims, remains-grant, kept-grant, remains-revoke, kept-revoke, started-claims, remains-started, kept-started}
 
 run-nil : (r : Register) → run r [] ≡ r
@@ -48,6 +48,12 @@ pub run-sound : (r : Register) (ks : List Call) → sound r ≡ true → sound (
 unfolding run
 run-sound r [] h = h
 run-sound r (k ∷ ks) h = run-sound (step r k) ks (step-sound r k h)
+
+-- and its shape
+pub run-shaped : (r : Register) (ks : List Call) → Shaped r → Shaped (run r ks)
+unfolding run
+run-shaped r [] h = h
+run-shaped r (k ∷ ks) h = run-shaped (step r k) ks (step-shaped r k h)
 
 -- in a run from r the register s holds what remains in the book b
 record State (r s : Register) (b : Book) : Type 0 where
@@ -107,20 +113,20 @@ abbrev again : Entry → Call
 again e = grant (e .claim) (e .clock)
 
 abbrev oldest : List Entry → List Entry
-oldest L = sift (λ e. not (e .old)) L
+oldest L = filter (λ e. e .old) L
 
 abbrev newest : List Entry → List Entry
-newest L = sift (λ e. e .old) L
+newest L = filter (λ e. not (e .old)) L
 
 map-latest : {A B : Type 0} (f : A → B) (L : List A) → map f (latest L) ≡ latest (map f L)
 map-latest f [] = refl
 map-latest f (a ∷ L) = ap (map f) (reverse-cons a L) ∙ map-append f (latest L) (a ∷ []) ∙ ap (λ K. K ++ (f a ∷ [])) (map-latest f L) ∙ sym (reverse-cons (f a) (map f L))
 
 olds-latest : (L : List Entry) → olds (latest L) ≡ latest (claims (oldest L))
-olds-latest L = ap claims (sift-reverse (λ e. not (e .old)) L) ∙ map-latest (λ e. e .claim) (oldest L)
+olds-latest L = ap claims (filter-reverse (λ e. e .old) L) ∙ map-latest (λ e. e .claim) (oldest L)
 
 grants-latest : (L : List Entry) → grants (latest L) ≡ latest (map again (newest L))
-grants-latest L = ap (map again) (sift-reverse (λ e. e .old) L) ∙ map-latest again (newest L)
+grants-latest L = ap (map again) (filter-reverse (λ e. not (e .old)) L) ∙ map-latest again (newest L)
 
 -- the next of the remaining grants is accepted, where s holds those before it
 module _ (r s : Register) (sr : SoundRegister r) (e : Entry) (L : List Entry) (held : Holds r s (claims L)) where
@@ -160,13 +166,14 @@ oldest-all : (L : List Entry) → All (λ (d : Entry). d .old ≡ true) L → ol
 oldest-all L h = trim-none (λ M (d : Entry). not (d .old)) L (all-imp (λ d. d .old ≡ true) (λ d. not (d .old) ≡ false) (λ d q. ap not q) L h)
 
 newest-none : (L : List Entry) → All (λ (d : Entry). d .old ≡ true) L → latest (map again (newest L)) ≡ []
-newest-none L h = ap (λ K. latest (map again K)) (sift-every (λ (d : Entry). d .old) L h)
+newest-none L h = ap (λ K. latest (map again K)) (filter-none (λ (d : Entry). not (d .old)) L
+    (all-imp (λ d. d .old ≡ true) (λ d. not (d .old) ≡ false) (λ d q. ap not q) L h))
 
 oldest-past : (e : Entry) (L : List Entry) → e .old ≡ false → oldest (e ∷ L) ≡ oldest L
-oldest-past e L o = trim-hit (λ M (d : Entry). not (d .old)) e L (ap not o)
+oldest-past e L o = filter-miss (λ (d : Entry). d .old) e L o
 
 newest-next : (e : Entry) (L : List Entry) → e .old ≡ false → latest (map again (newest (e ∷ L))) ≡ latest (map again (newest L)) ++ (again e ∷ [])
-newest-next e L o = ap (λ K. latest (map again K)) (trim-miss (λ M (d : Entry). d .old) e L o) ∙ reverse-cons (again e) (map again (newest L))
+newest-next e L o = ap (λ K. latest (map again K)) (filter-hit (λ (d : Entry). not (d .old)) e L (ap not o)) ∙ reverse-cons (again e) (map again (newest L))
 
 remade-old : (r s : Register) (L : List Entry) → All (λ (d : Entry). d .old ≡ true) L → Holds r s (claims (oldest L)) → Remade r s L (latest (map again (newest L)))
 remade-old r s L olds from = rw (newest-none L olds) (remade-none r s L (rw (oldest-all L olds) at from))

@@ -9,13 +9,13 @@ use lib.Dec.{ltb}
 use Rattle.lists.specs.Tests.{cases}
 use Rattle.lists.specs.Each.{All}
 use Rattle.register.specs.Limits.{momentEnd}
-use Rattle.changes.specs.declared.Outcome.the-variants.{Accepted, Refused}
-use Rattle.changes.specs.declared.Refusal.{Refusal}
-use Rattle.changes.specs.declared.Refusal.the-variants.{OutOfRange, BadJson}
+use Rattle.refusals.specs.declared.Outcome.the-variants.{Accepted, Refused}
+use Rattle.refusals.specs.declared.Refusal.{Refusal}
+use Rattle.refusals.specs.declared.Refusal.the-variants.{OutOfRange, BadJson}
 use Rattle.json_tokens.specs.Tokens.{Token, tokens}
 use Rattle.json_tokens.specs.Spelling.{Spelt, blanks, spelledAll, spaced}
 use Rattle.json_tokens.specs.SpellingLaws.{tokens-spelled, tokens-spaced}
-use Rattle.json_actions.specs.Members.{Member, Taken, took, missed, membersOf}
+use Rattle.json_actions.specs.Members.{Member, Taken, missed, membersOf, taking}
 use Rattle.json_actions.specs.Actions.{isFull, readWhole, readMembers, unread, jsonRead}
 use Rattle.json_actions.specs.declared.JsonRead.{JsonRead}
 
@@ -31,7 +31,7 @@ blanks-read ws ts moment h k = read-tokens (spaced ws ts) (spelledAll ts) moment
 -- members are read whole, or refused
 members-refused : (moment : ℕ) (x : Taken (List Member)) (why : Refusal) → readMembers moment x .outcome ≡ Refused why
     → (why ≡ BadJson) × (readMembers moment x ≡ unread BadJson)
-members-refused moment (took ms ts) why h =
+members-refused moment (taking ms ts) why h =
     cases (isFull ms)
     (λ full. let read : Accepted ≡ Refused why = ap (λ b. cond b (readWhole moment ms) (unread BadJson) .outcome) (sym full) ∙ h in
     let never : _≡_ {A = ℕ} 0 1 = cc in absurd (omega arith))

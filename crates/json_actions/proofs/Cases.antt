@@ -8,21 +8,20 @@ use Rattle.lists.specs.Bytes.{bytes}
 use Rattle.lists.specs.Trims.{trim}
 use Rattle.paths.specs.Containment.{same}
 use Rattle.rules.specs.Sound.{distinct}
-use Rattle.decimals.specs.Decimals.{digits, digitsWith, run, after, value, canonical, parse}
+use Rattle.decimals.specs.Decimals.{digits, digitsWith, after, value, canonical, parse, digitRun}
 use Rattle.actions.specs.Actions.{governLimit}
 use Rattle.actions.specs.declared.Usage.{Usage}
 use Rattle.actions.specs.declared.Action.{Action}
-use Rattle.changes.specs.declared.Outcome.the-variants.{Accepted}
-use Rattle.changes.specs.declared.Refusal.the-variants.{OutOfRange, BadJson}
+use Rattle.refusals.specs.declared.Outcome.the-variants.{Accepted}
+use Rattle.refusals.specs.declared.Refusal.the-variants.{OutOfRange, BadJson}
 use Rattle.texts.specs.Actions.{noUse}
 use Rattle.json_tokens.specs.Tokens.{unblanked, quoted, closing, leading, tokensWith, tokens}
 use Rattle.json_tokens.specs.Spelling.{spelled, spelledAll}
 use Rattle.json_actions.specs.Names.{keyNames, kindNames, flagNames, placeOf}
-use Rattle.json_actions.specs.Members.{takeNumber, itemsWith, items, takeNumbers, takeSetting, isFullSet, takeSettings, isIdText, idLength, takeValue}
-use Rattle.json_actions.specs.Members.{takeMember, membersOf}
-use Rattle.json_actions.specs.Actions.{heldAt, flagsBelow, usesIn, isFull, actionIn, unread, jsonRead, resourcesWith, membersFrom, commaed, numberTokens}
-use Rattle.json_actions.specs.Actions.{valueTokens}
-use Rattle.json_actions.specs.Actions.{memberTokens, objectTokens, jsonText}
+use Rattle.json_actions.specs.Members.{takeNumber, itemsWith, items, takeNumbers, takeSetting, isFullSet, takeSettings, isIdText, idLength, takeValue, takeMember}
+use Rattle.json_actions.specs.Members.{membersOf}
+use Rattle.json_actions.specs.Actions.{flagsBelow, usesIn, isFull, actionIn, unread, jsonRead, resourcesWith, membersFrom, commaed, numberTokens, valueTokens}
+use Rattle.json_actions.specs.Actions.{memberTokens, objectTokens, jsonText, memberValue}
 use Rattle.json_actions.specs.Orders.{ordered}
 use Rattle.json_actions.specs.declared.JsonRead.{JsonRead}
 use Rattle.json_actions.proofs.Naming as naming
@@ -117,7 +116,7 @@ readings :
     × (jsonRead (pageWith tenFlags (bytes ",}")) 1999 ≡ unread BadJson)
     × (jsonRead [] 1999 ≡ unread BadJson)
 unfolding jsonRead tokens tokensWith leading unblanked quoted closing same membersOf items itemsWith takeMember takeValue takeNumber takeNumbers
-    takeSetting takeSettings isFullSet distinct isIdText parse run after value canonical placeOf heldAt usesIn isFull actionIn flagsBelow
+    takeSetting takeSettings isFullSet distinct isIdText parse digitRun after value canonical placeOf memberValue usesIn isFull actionIn flagsBelow
 readings = (refl, refl, refl, refl, refl, refl, refl, refl, refl, refl, refl, refl, refl, refl, refl, refl)
 
 -- the last flag alone is 512
@@ -126,7 +125,7 @@ lastFlag = nineFlags ++ bytes ",\"machine_coalition_reduces_freedom\":true"
 
 last-flag : jsonRead (pageWith lastFlag (bytes "}")) 1999 .action .flags ≡ 512
 unfolding jsonRead tokens tokensWith leading unblanked quoted closing same membersOf items itemsWith takeMember takeValue takeNumber takeNumbers
-    takeSetting takeSettings isFullSet distinct isIdText parse run after value canonical placeOf heldAt usesIn isFull actionIn flagsBelow
+    takeSetting takeSettings isFullSet distinct isIdText parse digitRun after value canonical placeOf memberValue usesIn isFull actionIn flagsBelow
 last-flag = refl
 
 -- uses of right 1, 0, 2 and 0: reads, then writes, then executes, each in their order

@@ -12,7 +12,7 @@ use Rattle.lists.specs.Lists.{every}
 use Rattle.lists.specs.Trims.{trim-nil, trim-hit, trim-miss}
 use Rattle.actions.specs.declared.Usage.{Usage}
 use Rattle.json_actions.specs.Actions.{resourcesWith, usedWith}
-use Rattle.json_actions.specs.Orders.{usesWith, ordered, Shuffled, none, kept, swapped, twice}
+use Rattle.json_actions.specs.Orders.{usesWith, ordered, Shuffled, none, sameFirst, swapped, twice}
 
 -- no use, and one use more
 with-none : (b : ℕ) → usesWith b [] ≡ []
@@ -120,11 +120,11 @@ ordered-kept us (suc (suc (suc b))) h = absurd (omega arith)
 -- nothing is lost and nothing comes in
 shuffled-same : {A : Type 0} (l : List A) → Shuffled l l
 shuffled-same [] = none
-shuffled-same (a ∷ l) = kept (shuffled-same l)
+shuffled-same (a ∷ l) = sameFirst (shuffled-same l)
 
 moved : {A : Type 0} (a : A) (l m : List A) → Shuffled (a ∷ (l ++ m)) (l ++ (a ∷ m))
 moved a [] m = shuffled-same (a ∷ m)
-moved a (b ∷ l) m = twice swapped (kept (moved a l m))
+moved a (b ∷ l) m = twice swapped (sameFirst (moved a l m))
 
 moved-past : {A : Type 0} (a : A) (l m n : List A) → Shuffled (a ∷ (l ++ (m ++ n))) (l ++ (m ++ (a ∷ n)))
 moved-past a l m n = rw (← append-assoc l m n, ← append-assoc l m (a ∷ n)) (moved a (l ++ m) n)
@@ -141,7 +141,7 @@ unfolding ordered
 ordered-shuffled [] h = rw (with-none 0, with-none 1, with-none 2) none
 ordered-shuffled (u ∷ us) h =
     let low = and-left (leb (u .right) 2) (every (λ u. leb (u .right) 2) us) h in
-    let more = kept {a = u} (ordered-shuffled us (and-right (leb (u .right) 2) (every (λ u. leb (u .right) 2) us) h)) in
+    let more = sameFirst {a = u} (ordered-shuffled us (and-right (leb (u .right) 2) (every (λ u. leb (u .right) 2) us) h)) in
     let r = usesWith 0 us in
     let w = usesWith 1 us in
     let x = usesWith 2 us in

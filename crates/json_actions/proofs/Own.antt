@@ -14,25 +14,25 @@ use Rattle.decimals.specs.Decimals.{Parsed, got, large, bad, digits, parse}
 use Rattle.decimals.specs.Laws.{digits-parse}
 use Rattle.json_tokens.specs.Tokens.{Token, mark, text, noToken, comma, colon, trueMark, falseMark}
 use Rattle.json_actions.specs.Names.{flagNames, placeOf}
-use Rattle.json_actions.specs.Members.{Setting, Taken, took, missed, past, made, ledBy, separated}
+use Rattle.json_actions.specs.Members.{Setting, Taken, taking, missed, past, made, ledBy, separated}
 use Rattle.json_actions.specs.Members.{itemsWith, items, anyItems, takeText, isExact, exactOf, takeNumber, takeWord, takeSet, takeSetting}
 use Rattle.json_actions.specs.Members.{named}
 use Rattle.json_actions.specs.Actions.{commaed, settingTokens}
 use Rattle.json_actions.specs.Items.{taken-cases, missed-took}
 use Rattle.json_actions.proofs.Naming.{placed-name}
 
-pub text-own : (ts : List Token) (x : List ℕ) (rest : List Token) → takeText ts ≡ took x rest → ts ≡ text x ∷ rest
+pub text-own : (ts : List Token) (x : List ℕ) (rest : List Token) → takeText ts ≡ taking x rest → ts ≡ text x ∷ rest
 text-own [] x rest e = missed-took e
 text-own (mark b ∷ ts) x rest e = missed-took e
 text-own (text y ∷ ts) x rest e = cc
 text-own (noToken ∷ ts) x rest e = missed-took e
 
-word-own : (ts : List Token) (on : Bool) (rest : List Token) → takeWord ts ≡ took on rest → ts ≡ mark (cond on trueMark falseMark) ∷ rest
+word-own : (ts : List Token) (on : Bool) (rest : List Token) → takeWord ts ≡ taking on rest → ts ≡ mark (cond on trueMark falseMark) ∷ rest
 word-own [] on rest e = missed-took e
 word-own (mark b ∷ ts) on rest e =
-    cases (eqb b trueMark) (λ t. let what : took true ts ≡ took on rest = rw t at e in
+    cases (eqb b trueMark) (λ t. let what : taking true ts ≡ taking on rest = rw t at e in
     let on-is : true ≡ on = cc in let rests : ts ≡ rest = cc in rw (eqb-true b trueMark t, rests, ← on-is))
-    (λ n. cases (eqb b falseMark) (λ t. let what : took false ts ≡ took on rest = rw (n, t) at e in
+    (λ n. cases (eqb b falseMark) (λ t. let what : taking false ts ≡ taking on rest = rw (n, t) at e in
     let on-is : false ≡ on = cc in let rests : ts ≡ rest = cc in rw (eqb-true b falseMark t, rests, ← on-is))
     (λ m. missed-took (rw (n, m) at e)))
 word-own (text x ∷ ts) on rest e = missed-took e
@@ -41,22 +41,22 @@ word-own (noToken ∷ ts) on rest e = missed-took e
 -- what was made, of what
 pub record Made {A B : Type 0} (fits : A → Bool) (make : A → B) (x : Taken A) (b : B) (rest : List Token) : Type 0 where
   pub of : A
-  pub taken : x ≡ took of rest
+  pub taken : x ≡ taking of rest
   pub fit : fits of ≡ true
   pub whole : make of ≡ b
 
-pub made-own : {A B : Type 0} (fits : A → Bool) (make : A → B) (x : Taken A) (b : B) (rest : List Token) → made fits make x ≡ took b rest
+pub made-own : {A B : Type 0} (fits : A → Bool) (make : A → B) (x : Taken A) (b : B) (rest : List Token) → made fits make x ≡ taking b rest
     → Made fits make x b rest
-made-own fits make (took a ts) b rest e =
+made-own fits make (taking a ts) b rest e =
     cases (fits a)
-    (λ t. let what : took (make a) ts ≡ took b rest = rw t at e in
+    (λ t. let what : taking (make a) ts ≡ taking b rest = rw t at e in
     let rests : ts ≡ rest = cc in let whole : make a ≡ b = cc in record { of = a; taken = rw rests; fit = t; whole = whole })
     (λ n. missed-took (rw n at e))
 made-own fits make missed b rest e = missed-took e
 
 -- what stands behind a mark
-pub past-own : {A : Type 0} (b : ℕ) (more : List Token → Taken A) (ts : List Token) (a : A) (rest : List Token) → past b more ts ≡ took a rest
-    → (us : List Token) × (ts ≡ mark b ∷ us) × (more us ≡ took a rest)
+pub past-own : {A : Type 0} (b : ℕ) (more : List Token → Taken A) (ts : List Token) (a : A) (rest : List Token) → past b more ts ≡ taking a rest
+    → (us : List Token) × (ts ≡ mark b ∷ us) × (more us ≡ taking a rest)
 past-own b more [] a rest e = missed-took e
 past-own b more (mark c ∷ ts) a rest e = cases (eqb c b) (λ t. (ts, rw (eqb-true c b t), rw t at e)) (λ n. missed-took (rw n at e))
 past-own b more (text x ∷ ts) a rest e = missed-took e
@@ -64,8 +64,8 @@ past-own b more (noToken ∷ ts) a rest e = missed-took e
 
 -- what stands behind a name and a colon
 pub named-own : {A : Type 0} (names : List (List ℕ)) (more : ℕ → List Token → Taken A) (ts : List Token) (a : A) (rest : List Token)
-    → named names more (takeText ts) ≡ took a rest
-    → (x : List ℕ) × (us : List Token) × (ts ≡ text x ∷ mark colon ∷ us) × (more (placeOf names x) us ≡ took a rest)
+    → named names more (takeText ts) ≡ taking a rest
+    → (x : List ℕ) × (us : List Token) × (ts ≡ text x ∷ mark colon ∷ us) × (more (placeOf names x) us ≡ taking a rest)
 named-own names more ts a rest e =
     taken-cases (takeText ts)
     (λ x us t. let inside = past-own colon (more (placeOf names x)) us a rest (rw t at e) in
@@ -78,14 +78,14 @@ exact-own (got n (b ∷ rest)) t = cc
 exact-own (large rest) t = cc
 exact-own bad t = cc
 
-pub number-own : (ts : List Token) (n : ℕ) (rest : List Token) → takeNumber ts ≡ took n rest → (ts ≡ text (digits n) ∷ rest) × (leb n idLimit ≡ true)
+pub number-own : (ts : List Token) (n : ℕ) (rest : List Token) → takeNumber ts ≡ taking n rest → (ts ≡ text (digits n) ∷ rest) × (leb n idLimit ≡ true)
 unfolding takeNumber
 number-own ts n rest e =
     let read = made-own (λ x. isExact (parse idLimit x)) (λ x. exactOf (parse idLimit x)) (takeText ts) n rest e in
     let whole = digits-parse idLimit n [] (read .of) (exact-own (parse idLimit (read .of)) (read .fit) ∙ ap (λ m. got m []) (read .whole)) in
     (text-own ts (read .of) rest (read .taken) ∙ rw (whole .text ∙ append-nil (digits n)), le-leb n idLimit (whole .within))
 
-set-own : (x : List ℕ) (us : List Token) (s : Setting) (rest : List Token) → takeSet (placeOf flagNames x) us ≡ took s rest
+set-own : (x : List ℕ) (us : List Token) (s : Setting) (rest : List Token) → takeSet (placeOf flagNames x) us ≡ taking s rest
     → (text x ∷ mark colon ∷ us ≡ settingTokens s ++ rest) × (ltb (s .flag) flagCount ≡ true)
 set-own x us s rest e =
     let i = placeOf flagNames x in
@@ -97,7 +97,7 @@ set-own x us s rest e =
       ap (λ (s : Setting). ltb (s .flag) flagCount) (sym (set .whole)) ∙ set .fit,
     )
 
-pub setting-own : (ts : List Token) (s : Setting) (rest : List Token) → takeSetting ts ≡ took s rest
+pub setting-own : (ts : List Token) (s : Setting) (rest : List Token) → takeSetting ts ≡ taking s rest
     → (ts ≡ settingTokens s ++ rest) × (ltb (s .flag) flagCount ≡ true)
 unfolding takeSetting
 setting-own ts s rest e =
@@ -105,14 +105,14 @@ setting-own ts s rest e =
     let set = set-own (read .0) (read .1) s rest (read .3) in
     (read .2 ∙ set .0, set .1)
 
-led-own : {A : Type 0} (a : A) (x : Taken (List A)) (l : List A) (rest : List Token) → ledBy a x ≡ took l rest
-    → (more : List A) × (x ≡ took more rest) × (l ≡ a ∷ more)
-led-own a (took more ts) l rest e = let rests : ts ≡ rest = cc in (more, rw rests, cc)
+led-own : {A : Type 0} (a : A) (x : Taken (List A)) (l : List A) (rest : List Token) → ledBy a x ≡ taking l rest
+    → (more : List A) × (x ≡ taking more rest) × (l ≡ a ∷ more)
+led-own a (taking more ts) l rest e = let rests : ts ≡ rest = cc in (more, rw rests, cc)
 led-own a missed l rest e = missed-took e
 
 -- things that are taken one by one, with commas between them
 module _ {A : Type 0} (item : List Token → Taken A) (close : ℕ) (shown : A → List Token) (P : A → Type 0)
-    (own : (ts : List Token) (a : A) (rest : List Token) → item ts ≡ took a rest → (ts ≡ shown a ++ rest) × P a) where
+    (own : (ts : List Token) (a : A) (rest : List Token) → item ts ≡ taking a rest → (ts ≡ shown a ++ rest) × P a) where
   -- at least one
   record Some (ts : List Token) (l : List A) (rest : List Token) : Type 0 where
     first : A
@@ -121,8 +121,8 @@ module _ {A : Type 0} (item : List Token → Taken A) (close : ℕ) (shown : A �
     whole : ts ≡ commaed (map shown (first ∷ more)) ++ (mark close ∷ rest)
     fits : All P (first ∷ more)
 
-  separated-own : (next : List Token → Taken (List A)) → ((ts : List Token) (l : List A) (rest : List Token) → next ts ≡ took l rest → Some ts l rest)
-      → (a : A) → P a → (ts : List Token) (l : List A) (rest : List Token) → separated close next a ts ≡ took l rest → Some (shown a ++ ts) l rest
+  separated-own : (next : List Token → Taken (List A)) → ((ts : List Token) (l : List A) (rest : List Token) → next ts ≡ taking l rest → Some ts l rest)
+      → (a : A) → P a → (ts : List Token) (l : List A) (rest : List Token) → separated close next a ts ≡ taking l rest → Some (shown a ++ ts) l rest
   unfolding commaed
   separated-own next more a fit [] l rest e = missed-took e
   separated-own next more a fit (mark b ∷ ts) l rest e =
@@ -138,14 +138,14 @@ module _ {A : Type 0} (item : List Token → Taken A) (close : ℕ) (shown : A �
         fits = (fit, inside .fits);
       })
       (λ n. cases (eqb b close)
-      (λ t. let what : took (a ∷ []) ts ≡ took l rest = rw (n, t) at e in
+      (λ t. let what : taking (a ∷ []) ts ≡ taking l rest = rw (n, t) at e in
       let rests : ts ≡ rest = cc in
       record { first = a; more = []; list = cc; whole = rw (eqb-true b close t, rests); fits = (fit, tt) })
       (λ m. missed-took (rw (n, m) at e)))
   separated-own next more a fit (text x ∷ ts) l rest e = missed-took e
   separated-own next more a fit (noToken ∷ ts) l rest e = missed-took e
 
-  items-with-own : (f : ℕ) (ts : List Token) (l : List A) (rest : List Token) → itemsWith item close f ts ≡ took l rest → Some ts l rest
+  items-with-own : (f : ℕ) (ts : List Token) (l : List A) (rest : List Token) → itemsWith item close f ts ≡ taking l rest → Some ts l rest
   unfolding itemsWith
   items-with-own zero ts l rest e = missed-took e
   items-with-own (suc f) ts l rest e =
@@ -154,20 +154,20 @@ module _ {A : Type 0} (item : List Token → Taken A) (close : ℕ) (shown : A �
       rw (first .0) (separated-own (itemsWith item close f) (items-with-own f) a (first .1) us l rest (rw t at e)))
       (λ n. missed-took (rw n at e))
 
-  items-own : (ts : List Token) (l : List A) (rest : List Token) → items item close ts ≡ took l rest
+  items-own : (ts : List Token) (l : List A) (rest : List Token) → items item close ts ≡ taking l rest
       → (ts ≡ commaed (map shown l) ++ (mark close ∷ rest)) × All P l
   unfolding items
   items-own ts l rest e =
       let some = items-with-own (length ts) ts l rest e in
       (rw (some .list) (some .whole), rw (some .list) (some .fits))
 
-  pub any-items-own : (ts : List Token) (l : List A) (rest : List Token) → anyItems item close ts ≡ took l rest
+  pub any-items-own : (ts : List Token) (l : List A) (rest : List Token) → anyItems item close ts ≡ taking l rest
       → (ts ≡ commaed (map shown l) ++ (mark close ∷ rest)) × All P l
   unfolding commaed
   any-items-own [] l rest e = missed-took e
   any-items-own (mark b ∷ ts) l rest e =
       cases (eqb b close)
-      (λ t. let what : took [] ts ≡ took l rest = rw t at e in
+      (λ t. let what : taking [] ts ≡ taking l rest = rw t at e in
       let rests : ts ≡ rest = cc in
       let empty : l ≡ [] = cc in
       (rw (eqb-true b close t, rests, empty), rw empty tt))

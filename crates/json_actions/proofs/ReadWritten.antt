@@ -18,14 +18,13 @@ use Rattle.rules.specs.Sound.{distinct}
 use Rattle.actions.specs.Actions.{useLimit, governLimit, flagCount, usesOf, governsOf, actionFits}
 use Rattle.actions.specs.declared.Usage.{Usage}
 use Rattle.actions.specs.declared.Action.{Action}
-use Rattle.changes.specs.declared.Outcome.the-variants.{Accepted}
+use Rattle.refusals.specs.declared.Outcome.the-variants.{Accepted}
 use Rattle.json_tokens.specs.Tokens.{tokens}
 use Rattle.json_tokens.specs.SpellingLaws.{tokens-spelled}
 use Rattle.json_actions.specs.Members.{Member, isIdText, isFullSet}
-use Rattle.json_actions.specs.Actions.{heldAt, usesIn, isFull, actionIn, heldId, readWhole, jsonRead, resourcesWith, settingsFrom, membersFrom}
-use Rattle.json_actions.specs.Actions.{objectTokens}
-use Rattle.json_actions.specs.Actions.{jsonText, jsonFits}
-use Rattle.json_actions.specs.Fitting.{valueFits, Fits}
+use Rattle.json_actions.specs.Actions.{usesIn, isFull, actionIn, heldId, readWhole, jsonRead, resourcesWith, settingsFrom, membersFrom, objectTokens, jsonText}
+use Rattle.json_actions.specs.Actions.{jsonFits, memberValue}
+use Rattle.json_actions.specs.Fitting.{valueFits, MemberFits}
 use Rattle.json_actions.specs.Orders.{usesWith, ordered, orderedAt}
 use Rattle.json_actions.proofs.Taking.{members-taken}
 use Rattle.json_actions.proofs.Spelling.{object-spelt}
@@ -33,7 +32,7 @@ use Rattle.json_actions.proofs.Bits.{flags-written}
 use Rattle.json_actions.proofs.Ordering.{used-resources, ordered-laid, ordered-length}
 
 -- a text whose tokens are those of full members is read as these members
-pub read-complete : (t : List ℕ) (moment : ℕ) (ms : List Member) → tokens t ≡ objectTokens ms → All Fits ms → isFull ms ≡ true
+pub read-complete : (t : List ℕ) (moment : ℕ) (ms : List Member) → tokens t ≡ objectTokens ms → All MemberFits ms → isFull ms ≡ true
     → moment < momentEnd → jsonRead t moment ≡ readWhole moment ms
 unfolding jsonRead
 read-complete t moment ms e fits full before = rw (lt-ltb moment momentEnd before, e, members-taken ms fits, full)
@@ -94,7 +93,7 @@ full-set-written : (flags : ℕ) → isFullSet (settingsFrom flags) ≡ true
 unfolding isFullSet distinct
 full-set-written flags = refl
 
-members-fit : (a : Action) (id : List ℕ) (kind : ℕ) → Fine a id kind → All Fits (membersFrom a id kind)
+members-fit : (a : Action) (id : List ℕ) (kind : ℕ) → Fine a id kind → All MemberFits (membersFrom a id kind)
 unfolding membersFrom valueFits same
 members-fit a id kind fine =
     let few = uses-few a (fine .used) in
@@ -104,7 +103,7 @@ members-fit a id kind fine =
     (rw (fine .named), (rw (fine .actor), (rw (fine .right), (lists 0, (lists 1, (lists 2, (rw (full-set-written (a .flags)), (refl, (refl, tt)))))))))
 
 uses-in-written : (a : Action) (id : List ℕ) (kind : ℕ) → usesIn (membersFrom a id kind) ≡ ordered (usesOf a)
-unfolding usesIn membersFrom heldAt
+unfolding usesIn membersFrom memberValue
 uses-in-written a id kind = sym (ordered-laid (usesOf a))
 
 full-written : (a : Action) (id : List ℕ) (kind : ℕ) → Fine a id kind → isFull (membersFrom a id kind) ≡ true
@@ -114,7 +113,7 @@ full-written a id kind fine =
 
 whole-written : (a : Action) (id : List ℕ) (kind moment : ℕ) → Fine a id kind
     → readWhole moment (membersFrom a id kind) ≡ record { action = orderedAt moment a; outcome = Accepted; kind = kind; len = length id; id = heldId id }
-unfolding actionIn orderedAt membersFrom heldAt
+unfolding actionIn orderedAt membersFrom memberValue
 whole-written a id kind moment fine = rw (uses-in-written a id kind, flags-written (a .flags) (fine .flags))
 
 -- what was written is read at every moment as the action with its uses ordered

@@ -6,21 +6,20 @@ use mathlib.Core.List.{List, [], _∷_, map}
 use borrow.Author.Tests.{eq-eqb, eqb-true, not-true}
 use lib.Dec.{eqb, leb, ltb}
 use lib.ListN.{length}
-use Rattle.lists.specs.Tests.{cases, clash, iff-same, and-left, and-right, or-left}
+use Rattle.lists.specs.Tests.{cases, clash, and-left, and-right, or-left, eqb-turned}
 use Rattle.lists.specs.Lists.{any}
 use Rattle.lists.specs.Each.{All}
 use Rattle.lists.specs.Counts.{counted}
 use Rattle.rules.specs.Sound.{distinct}
 use Rattle.actions.specs.Actions.{useLimit, flagCount}
 use Rattle.register.specs.Limits.{momentEnd}
-use Rattle.changes.specs.declared.Refusal.the-variants.{OutOfRange}
+use Rattle.refusals.specs.declared.Refusal.the-variants.{OutOfRange}
 use Rattle.json_tokens.specs.Tokens.{tokens}
 use Rattle.json_actions.specs.Names.{domainPlace, readPlace, writePlace, executePlace, actorPlace, flagsPlace, kindPlace, idPlace}
-use Rattle.json_actions.specs.Members.{Setting, Member, took, amongAll, isFullSet}
-use Rattle.json_actions.specs.Actions.{heldAt, setAmong, flagsBelow, flagsOf, usesIn, isFull, actionIn, readMembers, readWhole, unread, jsonRead}
-use Rattle.json_actions.specs.Actions.{objectTokens}
-use Rattle.json_actions.specs.Fitting.{Fits}
-use Rattle.json_actions.specs.Orders.{Shuffled, none, kept, swapped, twice}
+use Rattle.json_actions.specs.Members.{Setting, Member, amongAll, isFullSet, taking}
+use Rattle.json_actions.specs.Actions.{setAmong, flagsBelow, flagsOf, usesIn, isFull, actionIn, readMembers, readWhole, unread, jsonRead, objectTokens, memberValue}
+use Rattle.json_actions.specs.Fitting.{MemberFits}
+use Rattle.json_actions.specs.Orders.{Shuffled, none, swapped, twice, sameFirst}
 use Rattle.json_actions.proofs.Taking.{members-taken}
 
 or-swap : (a b c : Bool) → a || (b || c) ≡ b || (a || c)
@@ -31,24 +30,21 @@ or-swap false b c = refl
 module _ {A : Type 0} where
   pub any-shuffled : (p : A → Bool) {l m : List A} → Shuffled l m → any p l ≡ any p m
   any-shuffled p none = refl
-  any-shuffled p (kept {a} s) = ap (λ b. p a || b) (any-shuffled p s)
+  any-shuffled p (sameFirst {a} s) = ap (λ b. p a || b) (any-shuffled p s)
   any-shuffled p (swapped {a} {b} {l}) = or-swap (p a) (p b) (any p l)
   any-shuffled p (twice s t) = any-shuffled p s ∙ any-shuffled p t
 
   pub all-shuffled : (Q : A → Type 0) {l m : List A} → Shuffled l m → All Q l → All Q m
   all-shuffled Q none h = h
-  all-shuffled Q (kept s) h = (h .0, all-shuffled Q s (h .1))
+  all-shuffled Q (sameFirst s) h = (h .0, all-shuffled Q s (h .1))
   all-shuffled Q swapped h = (h .1 .0, (h .0, h .1 .1))
   all-shuffled Q (twice s t) h = all-shuffled Q t (all-shuffled Q s h)
 
 pub map-shuffled : {A B : Type 0} (f : A → B) {l m : List A} → Shuffled l m → Shuffled (map f l) (map f m)
 map-shuffled f none = none
-map-shuffled f (kept s) = kept (map-shuffled f s)
+map-shuffled f (sameFirst s) = sameFirst (map-shuffled f s)
 map-shuffled f swapped = swapped
 map-shuffled f (twice s t) = twice (map-shuffled f s) (map-shuffled f t)
-
-eqb-swap : (a b : ℕ) → eqb a b ≡ eqb b a
-eqb-swap a b = iff-same (eqb a b) (eqb b a) (λ e. eq-eqb b a (sym (eqb-true a b e))) (λ e. eq-eqb a b (sym (eqb-true b a e)))
 
 apart-swap : (e x y d : Bool) → not (e || x) && (not y && d) ≡ not (e || y) && (not x && d)
 apart-swap true x y d = refl
@@ -60,8 +56,8 @@ apart-swap false false false d = refl
 distinct-shuffled : {l m : List ℕ} → Shuffled l m → distinct l ≡ distinct m
 unfolding distinct
 distinct-shuffled none = refl
-distinct-shuffled (kept {a} {l} {m} s) = rw (any-shuffled (eqb a) s, distinct-shuffled s)
-distinct-shuffled (swapped {a} {b} {l}) = apart-swap (eqb a b) (any (eqb a) l) (any (eqb b) l) (distinct l) ∙ rw (eqb-swap a b)
+distinct-shuffled (sameFirst {a} {l} {m} s) = rw (any-shuffled (eqb a) s, distinct-shuffled s)
+distinct-shuffled (swapped {a} {b} {l}) = apart-swap (eqb a b) (any (eqb a) l) (any (eqb b) l) (distinct l) ∙ rw (eqb-turned a b)
 distinct-shuffled (twice s t) = distinct-shuffled s ∙ distinct-shuffled t
 
 among-shuffled : (wanted : List ℕ) {l m : List ℕ} → Shuffled l m → amongAll wanted l ≡ amongAll wanted m
@@ -69,8 +65,8 @@ among-shuffled [] s = refl
 among-shuffled (k ∷ wanted) s = rw (any-shuffled (eqb k) s, among-shuffled wanted s)
 
 -- what a key holds, where each is there once
-held-swapped : (k : ℕ) (m n : Member) (ms : List Member) → eqb (m .key) (n .key) ≡ false → heldAt k (m ∷ n ∷ ms) ≡ heldAt k (n ∷ m ∷ ms)
-unfolding heldAt
+held-swapped : (k : ℕ) (m n : Member) (ms : List Member) → eqb (m .key) (n .key) ≡ false → memberValue k (m ∷ n ∷ ms) ≡ memberValue k (n ∷ m ∷ ms)
+unfolding memberValue
 held-swapped k m n ms apart =
     cases (eqb k (m .key))
     (λ e. cases (eqb k (n .key))
@@ -80,10 +76,10 @@ held-swapped k m n ms apart =
 abbrev keysOf : List Member → List ℕ
 keysOf ms = map (λ m. m .key) ms
 
-held-shuffled : {ms ns : List Member} → Shuffled ms ns → distinct (keysOf ms) ≡ true → (k : ℕ) → heldAt k ms ≡ heldAt k ns
-unfolding heldAt distinct
+held-shuffled : {ms ns : List Member} → Shuffled ms ns → distinct (keysOf ms) ≡ true → (k : ℕ) → memberValue k ms ≡ memberValue k ns
+unfolding memberValue distinct
 held-shuffled none h k = refl
-held-shuffled (kept {a = m} {l = ms} s) h k = rw (held-shuffled s (and-right (not (any (eqb (m .key)) (keysOf ms))) (distinct (keysOf ms)) h) k)
+held-shuffled (sameFirst {a = m} {l = ms} s) h k = rw (held-shuffled s (and-right (not (any (eqb (m .key)) (keysOf ms))) (distinct (keysOf ms)) h) k)
 held-shuffled (swapped {a = m} {b = n} {l = ms}) h k =
     let first = and-left (not (eqb (m .key) (n .key) || any (eqb (m .key)) (keysOf ms))) (not (any (eqb (n .key)) (keysOf ms)) && distinct (keysOf ms)) h in
     held-swapped k m n ms (or-left (eqb (m .key) (n .key)) (any (eqb (m .key)) (keysOf ms))
@@ -113,18 +109,18 @@ unfolding isFull
 full-distinct ms h = and-left (distinct (keysOf ms)) (amongAll (counted 0 domainPlace) (keysOf ms) && (leb (length (usesIn ms)) useLimit && true)) h
 
 -- members in another order are read the same
-pub members-shuffled : (moment : ℕ) (ms ns : List Member) → Shuffled ms ns → readMembers moment (took ms []) ≡ readMembers moment (took ns [])
+pub members-shuffled : (moment : ℕ) (ms ns : List Member) → Shuffled ms ns → readMembers moment (taking ms []) ≡ readMembers moment (taking ns [])
 members-shuffled moment ms ns s =
     cases (isFull ms)
     (λ t. rw (t, sym (full-shuffled s) ∙ t) (whole-shuffled moment s (full-distinct ms t)))
     (λ f. rw (f, sym (full-shuffled s) ∙ f))
 
 -- and so are texts
-pub texts-shuffled : (t u : List ℕ) (moment : ℕ) (ms ns : List Member) → tokens t ≡ objectTokens ms → tokens u ≡ objectTokens ns → All Fits ms
+pub texts-shuffled : (t u : List ℕ) (moment : ℕ) (ms ns : List Member) → tokens t ≡ objectTokens ms → tokens u ≡ objectTokens ns → All MemberFits ms
     → Shuffled ms ns → jsonRead t moment ≡ jsonRead u moment
 unfolding jsonRead
 texts-shuffled t u moment ms ns e f fits s =
-    rw (e, f, members-taken ms fits, members-taken ns (all-shuffled Fits s fits)) (ap (λ r. cond (ltb moment momentEnd) r (unread OutOfRange))
+    rw (e, f, members-taken ms fits, members-taken ns (all-shuffled MemberFits s fits)) (ap (λ r. cond (ltb moment momentEnd) r (unread OutOfRange))
     (members-shuffled moment ms ns s))
 
 -- and so are flags

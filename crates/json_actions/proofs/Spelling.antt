@@ -22,7 +22,7 @@ use Rattle.json_tokens.specs.Spelling.{Spelt, unquoted}
 use Rattle.json_actions.specs.Names.{keyNames, kindNames, flagNames, keyCount, defaultDomain}
 use Rattle.json_actions.specs.Members.{Value, Member, isIdText, isIdByte, idLength}
 use Rattle.json_actions.specs.Actions.{commaed, settingTokens, numberTokens, valueTokens, memberTokens, objectTokens}
-use Rattle.json_actions.specs.Fitting.{valueFits, Fits}
+use Rattle.json_actions.specs.Fitting.{valueFits, MemberFits}
 use Rattle.json_actions.proofs.Holding.{value-cases, key-below}
 
 -- no name has a quote
@@ -100,10 +100,10 @@ value-spelt =
           (every-all (λ s. ltb (s .flag) flagCount) ss fit)),
     ))
 
-member-spelt : (m : Member) → Fits m → All Spelt (memberTokens m)
+member-spelt : (m : Member) → MemberFits m → All Spelt (memberTokens m)
 unfolding memberTokens
 member-spelt m h = (keys-unquoted (m .key) (key-below (m .key) (m .value) h), (refl, value-spelt (m .key) (m .value) h))
 
-pub object-spelt : (ms : List Member) → All Fits ms → All Spelt (objectTokens ms)
+pub object-spelt : (ms : List Member) → All MemberFits ms → All Spelt (objectTokens ms)
 unfolding objectTokens
-object-spelt ms h = (refl, closed-spelt memberTokens closesObject ms refl (all-imp Fits (λ m. All Spelt (memberTokens m)) member-spelt ms h))
+object-spelt ms h = (refl, closed-spelt memberTokens closesObject ms refl (all-imp MemberFits (λ m. All Spelt (memberTokens m)) member-spelt ms h))

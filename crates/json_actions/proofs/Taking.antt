@@ -18,21 +18,21 @@ use Rattle.decimals.specs.Laws.{parse-digits}
 use Rattle.json_tokens.specs.Tokens.{Token, mark, text, comma, colon, opensList, closesList, opensObject, closesObject, trueMark, falseMark}
 use Rattle.json_actions.specs.Names.{keyNames, flagNames, defaultDomain}
 use Rattle.json_actions.specs.Names.{idPlace, actorPlace, kindPlace, flagsPlace, domainPlace, depthPlace}
-use Rattle.json_actions.specs.Members.{Setting, Value, letters, figure, figures, settings, Member, Taken, took}
+use Rattle.json_actions.specs.Members.{Setting, Value, letters, figure, figures, settings, Member, Taken, taking}
 use Rattle.json_actions.specs.Members.{items, anyItems, takeNumber, takeNumbers, takeSetting, takeSettings, takeValue, takeMember, membersOf, isIdText}
 use Rattle.json_actions.specs.Members.{isFullSet}
 use Rattle.json_actions.specs.Actions.{commaed, settingTokens, numberTokens, valueTokens, memberTokens, objectTokens}
 use Rattle.json_actions.specs.Items.{Shrinks, items-step, number-shrinks, setting-shrinks, member-shrinks}
-use Rattle.json_actions.specs.Fitting.{valueFits, Fits}
+use Rattle.json_actions.specs.Fitting.{valueFits, MemberFits}
 use Rattle.json_actions.proofs.Naming.{key-place, kind-place, flag-place}
 use Rattle.json_actions.proofs.Holding.{isListed, listed-cases, value-cases, key-below}
 
 -- things that begin with a text and are taken one by one are taken as items
 module _ {A : Type 0} (item : List Token → Taken A) (close : ℕ) (shrinks : Shrinks item) (other : eqb close comma ≡ false)
     (name : A → List ℕ) (behind : A → List Token) (P : A → Type 0)
-    (taken : (a : A) (rest : List Token) → P a → item (text (name a) ∷ (behind a ++ rest)) ≡ took a rest) where
+    (taken : (a : A) (rest : List Token) → P a → item (text (name a) ∷ (behind a ++ rest)) ≡ taking a rest) where
   items-written : (a : A) (l : List A) (rest : List Token) → P a → All P l
-      → items item close (commaed (map (λ a. text (name a) ∷ behind a) (a ∷ l)) ++ (mark close ∷ rest)) ≡ took (a ∷ l) rest
+      → items item close (commaed (map (λ a. text (name a) ∷ behind a) (a ∷ l)) ++ (mark close ∷ rest)) ≡ taking (a ∷ l) rest
   unfolding commaed
   items-written a [] rest h k =
       items-step item close shrinks (text (name a) ∷ (behind a ++ (mark close ∷ rest))) ∙ rw (taken a (mark close ∷ rest) h, other, eq-eqb close close refl)
@@ -43,7 +43,7 @@ module _ {A : Type 0} (item : List Token → Taken A) (close : ℕ) (shrinks : S
       ∙ rw (taken a (mark comma ∷ (more ++ (mark close ∷ rest))) h, items-written b l rest (k .0) (k .1))
 
   any-items-written : (l : List A) (rest : List Token) → All P l
-      → anyItems item close (commaed (map (λ a. text (name a) ∷ behind a) l) ++ (mark close ∷ rest)) ≡ took l rest
+      → anyItems item close (commaed (map (λ a. text (name a) ∷ behind a) l) ++ (mark close ∷ rest)) ≡ taking l rest
   unfolding commaed
   any-items-written [] rest h = rw (eq-eqb close close refl)
   any-items-written (a ∷ []) rest h = items-written a [] rest (h .0) (h .1)
@@ -53,24 +53,24 @@ parsed-digits : (n : ℕ) → n ≤ idLimit → parse idLimit (digits n) ≡ got
 unfolding starts
 parsed-digits n h = ap (parse idLimit) (sym (append-nil (digits n))) ∙ parse-digits idLimit n [] refl ∙ rw (le-leb n idLimit h)
 
-number-taken : (n : ℕ) (rest : List Token) → leb n idLimit ≡ true → takeNumber (text (digits n) ∷ rest) ≡ took n rest
+number-taken : (n : ℕ) (rest : List Token) → leb n idLimit ≡ true → takeNumber (text (digits n) ∷ rest) ≡ taking n rest
 unfolding takeNumber
 number-taken n rest h = rw (parsed-digits n (leb-true n idLimit h))
 
-setting-taken : (s : Setting) (rest : List Token) → ltb (s .flag) flagCount ≡ true → takeSetting (settingTokens s ++ rest) ≡ took s rest
+setting-taken : (s : Setting) (rest : List Token) → ltb (s .flag) flagCount ≡ true → takeSetting (settingTokens s ++ rest) ≡ taking s rest
 unfolding takeSetting
 setting-taken s rest h =
     rw (flag-place (s .flag) (ltb-true (s .flag) flagCount h), h) (cases (s .set) (λ on. rw on (cc)) (λ off. rw off (cc)))
 
 numbers-taken : (ns : List ℕ) (rest : List Token) → every (λ n. leb n idLimit) ns ≡ true
-    → takeNumbers (mark opensList ∷ (commaed (map (λ n. text (digits n) ∷ []) ns) ++ (mark closesList ∷ rest))) ≡ took ns rest
+    → takeNumbers (mark opensList ∷ (commaed (map (λ n. text (digits n) ∷ []) ns) ++ (mark closesList ∷ rest))) ≡ taking ns rest
 unfolding takeNumbers
 numbers-taken ns rest h =
     any-items-written takeNumber closesList number-shrinks refl digits (λ n. []) (λ n. leb n idLimit ≡ true) number-taken ns rest
     (every-all (λ n. leb n idLimit) ns h)
 
 settings-taken : (ss : List Setting) (rest : List Token) → isFullSet ss ≡ true → every (λ s. ltb (s .flag) flagCount) ss ≡ true
-    → takeSettings (mark opensObject ∷ (commaed (map settingTokens ss) ++ (mark closesObject ∷ rest))) ≡ took ss rest
+    → takeSettings (mark opensObject ∷ (commaed (map settingTokens ss) ++ (mark closesObject ∷ rest))) ≡ taking ss rest
 unfolding takeSettings
 settings-taken ss rest full h =
     let inside = any-items-written takeSetting closesObject setting-shrinks refl (λ s. getD flagNames (s .flag) [])
@@ -79,54 +79,54 @@ settings-taken ss rest full h =
     rw (inside, full)
 
 -- each key takes its own values
-id-taken : (x : List ℕ) (rest : List Token) → isIdText x ≡ true → takeValue idPlace (text x ∷ rest) ≡ took (letters x) rest
+id-taken : (x : List ℕ) (rest : List Token) → isIdText x ≡ true → takeValue idPlace (text x ∷ rest) ≡ taking (letters x) rest
 unfolding takeValue
 id-taken x rest h = rw h
 
-domain-taken : (x : List ℕ) (rest : List Token) → same defaultDomain x ≡ true → takeValue domainPlace (text x ∷ rest) ≡ took (letters x) rest
+domain-taken : (x : List ℕ) (rest : List Token) → same defaultDomain x ≡ true → takeValue domainPlace (text x ∷ rest) ≡ taking (letters x) rest
 unfolding takeValue
 domain-taken x rest h = rw h
 
-actor-taken : (n : ℕ) (rest : List Token) → leb n idLimit ≡ true → takeValue actorPlace (numberTokens actorPlace n ++ rest) ≡ took (figure n) rest
+actor-taken : (n : ℕ) (rest : List Token) → leb n idLimit ≡ true → takeValue actorPlace (numberTokens actorPlace n ++ rest) ≡ taking (figure n) rest
 unfolding takeValue numberTokens
 actor-taken n rest h = rw (number-taken n rest h)
 
-kind-taken : (n : ℕ) (rest : List Token) → isRight n ≡ true → takeValue kindPlace (numberTokens kindPlace n ++ rest) ≡ took (figure n) rest
+kind-taken : (n : ℕ) (rest : List Token) → isRight n ≡ true → takeValue kindPlace (numberTokens kindPlace n ++ rest) ≡ taking (figure n) rest
 unfolding takeValue numberTokens
 kind-taken n rest h = rw (kind-place n (ltb-true n rightCount h), h)
 
-depth-taken : (n : ℕ) (rest : List Token) → eqb n 0 ≡ true → takeValue depthPlace (numberTokens depthPlace n ++ rest) ≡ took (figure n) rest
+depth-taken : (n : ℕ) (rest : List Token) → eqb n 0 ≡ true → takeValue depthPlace (numberTokens depthPlace n ++ rest) ≡ taking (figure n) rest
 unfolding takeValue numberTokens
 depth-taken n rest h = rw (eqb-true n 0 h)
 
 resources-taken : (k : ℕ) (ns : List ℕ) (rest : List Token) → isListed k ≡ true → leb (length ns) useLimit ≡ true
-    → every (λ n. leb n idLimit) ns ≡ true → takeValue k (valueTokens k (figures ns) ++ rest) ≡ took (figures ns) rest
+    → every (λ n. leb n idLimit) ns ≡ true → takeValue k (valueTokens k (figures ns) ++ rest) ≡ taking (figures ns) rest
 unfolding takeValue valueTokens
 resources-taken k ns rest place few fit =
     let numbers = commaed (map (λ n. text (digits n) ∷ []) ns) in
     let whole : (numbers ++ (mark closesList ∷ [])) ++ rest ≡ numbers ++ (mark closesList ∷ rest) = append-assoc numbers (mark closesList ∷ []) rest in
-    let step : takeNumbers (mark opensList ∷ ((numbers ++ (mark closesList ∷ [])) ++ rest)) ≡ took ns rest = rw whole (numbers-taken ns rest fit) in
-    listed-cases (λ k. takeValue k (valueTokens k (figures ns) ++ rest) ≡ took (figures ns) rest) (rw (step, few)) (rw (step, few)) (rw (step, few)) k place
+    let step : takeNumbers (mark opensList ∷ ((numbers ++ (mark closesList ∷ [])) ++ rest)) ≡ taking ns rest = rw whole (numbers-taken ns rest fit) in
+    listed-cases (λ k. takeValue k (valueTokens k (figures ns) ++ rest) ≡ taking (figures ns) rest) (rw (step, few)) (rw (step, few)) (rw (step, few)) k place
 
 flags-taken : (ss : List Setting) (rest : List Token) → isFullSet ss ≡ true → every (λ s. ltb (s .flag) flagCount) ss ≡ true
-    → takeValue flagsPlace (valueTokens flagsPlace (settings ss) ++ rest) ≡ took (settings ss) rest
+    → takeValue flagsPlace (valueTokens flagsPlace (settings ss) ++ rest) ≡ taking (settings ss) rest
 unfolding takeValue valueTokens
 flags-taken ss rest full fit = rw (append-assoc (commaed (map settingTokens ss)) (mark closesObject ∷ []) rest, settings-taken ss rest full fit)
 
 -- what a key may hold is taken
-value-taken : (k : ℕ) (v : Value) (rest : List Token) → valueFits k v ≡ true → takeValue k (valueTokens k v ++ rest) ≡ took v rest
+value-taken : (k : ℕ) (v : Value) (rest : List Token) → valueFits k v ≡ true → takeValue k (valueTokens k v ++ rest) ≡ taking v rest
 unfolding valueTokens
 value-taken k v rest =
-    value-cases (λ k v. takeValue k (valueTokens k v ++ rest) ≡ took v rest) (λ x. id-taken x rest) (λ x. domain-taken x rest)
+    value-cases (λ k v. takeValue k (valueTokens k v ++ rest) ≡ taking v rest) (λ x. id-taken x rest) (λ x. domain-taken x rest)
     (λ n. actor-taken n rest) (λ n. kind-taken n rest) (λ n. depth-taken n rest) (λ k ns. resources-taken k ns rest) (λ ss. flags-taken ss rest) k v
 
-member-taken : (m : Member) (rest : List Token) → Fits m → takeMember (memberTokens m ++ rest) ≡ took m rest
+member-taken : (m : Member) (rest : List Token) → MemberFits m → takeMember (memberTokens m ++ rest) ≡ taking m rest
 unfolding takeMember memberTokens
 member-taken m rest h = rw (key-place (m .key) (key-below (m .key) (m .value) h), value-taken (m .key) (m .value) rest h)
 
 -- the members of an object are its own
-pub members-taken : (ms : List Member) → All Fits ms → membersOf (objectTokens ms) ≡ took ms []
+pub members-taken : (ms : List Member) → All MemberFits ms → membersOf (objectTokens ms) ≡ taking ms []
 unfolding membersOf objectTokens memberTokens
 members-taken ms h =
     rw (any-items-written takeMember closesObject member-shrinks refl (λ m. getD keyNames (m .key) []) (λ m. mark colon ∷ valueTokens (m .key) (m .value))
-    Fits member-taken ms [] h)
+    MemberFits member-taken ms [] h)

@@ -11,14 +11,14 @@ use Rattle.lists.specs.Each.{All}
 use Rattle.register.specs.Limits.{momentEnd}
 use Rattle.actions.specs.declared.Usage.{Usage}
 use Rattle.actions.specs.declared.Action.{Action}
-use Rattle.changes.specs.declared.Outcome.the-variants.{Accepted, Refused}
-use Rattle.changes.specs.declared.Refusal.{Refusal}
-use Rattle.changes.specs.declared.Refusal.the-variants.{OutOfRange, BadJson}
+use Rattle.refusals.specs.declared.Outcome.the-variants.{Accepted, Refused}
+use Rattle.refusals.specs.declared.Refusal.{Refusal}
+use Rattle.refusals.specs.declared.Refusal.the-variants.{OutOfRange, BadJson}
 use Rattle.json_tokens.specs.Tokens.{Token, tokens}
 use Rattle.json_tokens.specs.Spelling.{Spelt, blanks, spelledAll, spaced}
-use Rattle.json_actions.specs.Members.{Setting, Member, took, isFullSet}
+use Rattle.json_actions.specs.Members.{Setting, Member, isFullSet, taking}
 use Rattle.json_actions.specs.Actions.{flagsOf, isFull, heldId, readWhole, readMembers, unread, jsonRead, objectTokens, jsonText, jsonFits, jsonHolds}
-use Rattle.json_actions.specs.Fitting.{Fits}
+use Rattle.json_actions.specs.Fitting.{MemberFits}
 use Rattle.json_actions.specs.Orders.{usesWith, ordered, orderedAction, SameJson, Shuffled}
 use Rattle.json_actions.proofs.Ordering as ordering
 use Rattle.json_actions.proofs.ReadWritten as written
@@ -28,13 +28,13 @@ use Rattle.json_actions.proofs.Shuffling as shuffling
 use Rattle.json_actions.proofs.Answering as answering
 
 -- 1a. Members in any order, each once with a value that its key may hold, the optional ones there or not, are accepted.
-pub json-complete : (t : List ℕ) (moment : ℕ) (ms : List Member) → tokens t ≡ objectTokens ms → All Fits ms → isFull ms ≡ true
+pub json-complete : (t : List ℕ) (moment : ℕ) (ms : List Member) → tokens t ≡ objectTokens ms → All MemberFits ms → isFull ms ≡ true
     → moment < momentEnd → jsonRead t moment ≡ readWhole moment ms
 json-complete = written.read-complete
 
 -- 1b. Nothing else is.
 pub json-sound : (t : List ℕ) (moment : ℕ) → jsonRead t moment .outcome ≡ Accepted
-    → (ms : List Member) × (tokens t ≡ objectTokens ms) × All Fits ms × (isFull ms ≡ true) × (moment < momentEnd) × (jsonRead t moment ≡ readWhole moment ms)
+    → (ms : List Member) × (tokens t ≡ objectTokens ms) × All MemberFits ms × (isFull ms ≡ true) × (moment < momentEnd) × (jsonRead t moment ≡ readWhole moment ms)
 json-sound t moment h = let r = read.read-members t moment h in (r .members, r .whole, r .fits, r .full, r .before, r .answer)
 
 -- 2a. Reading what was written, at the action's clock, gives the same id, kind and action, with its uses ordered by right.
@@ -66,12 +66,12 @@ pub json-one-text : (a b : Action) (id other : List ℕ) (kind right : ℕ) → 
 json-one-text a b id other kind right fits fit = (one.text-same a b id other kind right fits fit, one.same-text a b id other kind right)
 
 -- 5a. Members in another order are read the same.
-pub json-any-order : (moment : ℕ) (ms ns : List Member) → Shuffled ms ns → readMembers moment (took ms []) ≡ readMembers moment (took ns [])
+pub json-any-order : (moment : ℕ) (ms ns : List Member) → Shuffled ms ns → readMembers moment (taking ms []) ≡ readMembers moment (taking ns [])
 json-any-order = shuffling.members-shuffled
 
 -- 5b. So are the texts of such members, full or not.
 pub json-texts-any-order : (t u : List ℕ) (moment : ℕ) (ms ns : List Member) → tokens t ≡ objectTokens ms → tokens u ≡ objectTokens ns
-    → All Fits ms → Shuffled ms ns → jsonRead t moment ≡ jsonRead u moment
+    → All MemberFits ms → Shuffled ms ns → jsonRead t moment ≡ jsonRead u moment
 json-texts-any-order = shuffling.texts-shuffled
 
 -- 5c. Flags in another order are the ten where these are, and come to the same number.

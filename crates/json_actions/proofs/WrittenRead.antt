@@ -17,19 +17,18 @@ use Rattle.rights.specs.Rights.{isRight}
 use Rattle.rules.specs.Sound.{distinct}
 use Rattle.actions.specs.Actions.{useLimit, flagCount, usesOf, actionFits}
 use Rattle.actions.specs.declared.Usage.{Usage}
-use Rattle.changes.specs.declared.Outcome.the-variants.{Accepted, Refused}
-use Rattle.changes.specs.declared.Refusal.{Refusal}
-use Rattle.changes.specs.declared.Refusal.the-variants.{OutOfRange, BadJson}
+use Rattle.refusals.specs.declared.Outcome.the-variants.{Accepted, Refused}
+use Rattle.refusals.specs.declared.Refusal.{Refusal}
+use Rattle.refusals.specs.declared.Refusal.the-variants.{OutOfRange, BadJson}
 use Rattle.texts.specs.Actions.{noUse}
 use Rattle.json_tokens.specs.Tokens.{tokens}
 use Rattle.json_actions.specs.Names.{idPlace, actorPlace, kindPlace, readPlace, writePlace, executePlace, flagsPlace, domainPlace}
-use Rattle.json_actions.specs.Members.{Setting, Value, letters, figure, figures, settings, Member, took, membersOf, amongAll, isIdText, idLength}
-use Rattle.json_actions.specs.Actions.{heldAt, asLetters, asFigure, asFigures, asSettings, setAmong, flagsBelow, flagsOf, usedWith, usesIn, isFull}
-use Rattle.json_actions.specs.Actions.{actionIn, heldId}
-use Rattle.json_actions.specs.Actions.{readWhole, readMembers, unread, jsonRead, objectTokens, jsonText, jsonFits, jsonHolds}
+use Rattle.json_actions.specs.Members.{Setting, Value, letters, figure, figures, settings, Member, membersOf, amongAll, isIdText, idLength, taking}
+use Rattle.json_actions.specs.Actions.{asLetters, asFigure, asFigures, asSettings, setAmong, flagsBelow, flagsOf, usedWith, usesIn, isFull, actionIn, heldId, readWhole}
+use Rattle.json_actions.specs.Actions.{readMembers, unread, jsonRead, objectTokens, jsonText, jsonFits, jsonHolds, memberValue}
 use Rattle.json_actions.specs.declared.JsonRead.{JsonRead}
 use Rattle.json_actions.specs.Items.{taken-cases}
-use Rattle.json_actions.specs.Fitting.{valueFits, Fits}
+use Rattle.json_actions.specs.Fitting.{valueFits, MemberFits}
 use Rattle.json_actions.specs.Orders.{ordered, orderedAt}
 use Rattle.json_actions.proofs.Holding.{isListed}
 use Rattle.json_actions.proofs.Ordering.{laid-ordered}
@@ -42,7 +41,7 @@ pub record Read (t : List ℕ) (moment : ℕ) : Type 0 where
   pub members : List Member
   pub before : moment < momentEnd
   pub whole : tokens t ≡ objectTokens members
-  pub fits : All Fits members
+  pub fits : All MemberFits members
   pub full : isFull members ≡ true
   pub answer : jsonRead t moment ≡ readWhole moment members
 
@@ -60,7 +59,7 @@ read-members t moment h =
     let read = in-time t moment before in
     taken-cases (membersOf (tokens t))
     (λ ms rest e. let own = members-own (tokens t) ms rest e in
-    let taken : jsonRead t moment ≡ readMembers moment (took ms rest) = read ∙ ap (readMembers moment) e in
+    let taken : jsonRead t moment ≡ readMembers moment (taking ms rest) = read ∙ ap (readMembers moment) e in
     cases (isFull ms)
     (λ full. record { members = ms; before = before; whole = own .0; fits = own .1; full = full; answer = taken ∙ rw full })
     (λ n. unread-clash (jsonRead t moment) BadJson (taken ∙ rw n) h))
@@ -68,13 +67,13 @@ read-members t moment h =
     (λ p. unread-clash (jsonRead t moment) OutOfRange (clock-refused t moment (ltb-false moment momentEnd p)) h)
 
 -- what a key holds, where it is there, is what it may hold
-held-fits : (k : ℕ) (ms : List Member) → All Fits ms → any (eqb k) (map (λ m. m .key) ms) ≡ true → valueFits k (heldAt k ms) ≡ true
-unfolding heldAt
+held-fits : (k : ℕ) (ms : List Member) → All MemberFits ms → any (eqb k) (map (λ m. m .key) ms) ≡ true → valueFits k (memberValue k ms) ≡ true
+unfolding memberValue
 held-fits k [] h there = clash false there refl
 held-fits k (m ∷ ms) h there =
     cases (eqb k (m .key)) (λ e. rw (e, eqb-true k (m .key) e) (h .0)) (λ n. rw n (held-fits k ms (h .1) (rw n at there)))
 
-module _ (ms : List Member) (fits : All Fits ms) (full : isFull ms ≡ true) where
+module _ (ms : List Member) (fits : All MemberFits ms) (full : isFull ms ≡ true) where
   abbrev tests : List Bool
   tests = distinct (map (λ m. m .key) ms) ∷ amongAll (counted 0 domainPlace) (map (λ m. m .key) ms) ∷ leb (length (usesIn ms)) useLimit ∷ []
 
@@ -83,7 +82,7 @@ module _ (ms : List Member) (fits : All Fits ms) (full : isFull ms ≡ true) whe
   full-tests = ands-out tests full
 
   -- each of the first seven keys is there
-  needed : (k : ℕ) → k < domainPlace → valueFits k (heldAt k ms) ≡ true
+  needed : (k : ℕ) → k < domainPlace → valueFits k (memberValue k ms) ≡ true
   needed k below =
       held-fits k ms fits (every-counted-sound (λ k. any (eqb k) (map (λ m. m .key) ms)) domainPlace 0 (full-tests .1 .0) k (omega arith) (omega arith))
 
@@ -131,14 +130,14 @@ used-every : (p : Usage → Bool) (b : ℕ) (ns : List ℕ) → every (λ n. p (
 used-every p b ns h = every-map (λ n. record { resource = n; right = b }) p ns ∙ h
 
 -- what holds of the uses of each right holds of the uses of some members
-in-every : (p : Usage → Bool) (ms : List Member) → every p (usedWith 0 (asFigures (heldAt readPlace ms))) ≡ true
-    → every p (usedWith 1 (asFigures (heldAt writePlace ms))) ≡ true → every p (usedWith 2 (asFigures (heldAt executePlace ms))) ≡ true
+in-every : (p : Usage → Bool) (ms : List Member) → every p (usedWith 0 (asFigures (memberValue readPlace ms))) ≡ true
+    → every p (usedWith 1 (asFigures (memberValue writePlace ms))) ≡ true → every p (usedWith 2 (asFigures (memberValue executePlace ms))) ≡ true
     → every p (usesIn ms) ≡ true
 unfolding usesIn
 in-every p ms r w x =
-    every-append p (usedWith 0 (asFigures (heldAt readPlace ms)))
-    (usedWith 1 (asFigures (heldAt writePlace ms)) ++ usedWith 2 (asFigures (heldAt executePlace ms)))
-    ∙ rw (every-append p (usedWith 1 (asFigures (heldAt writePlace ms))) (usedWith 2 (asFigures (heldAt executePlace ms))), r, w) x
+    every-append p (usedWith 0 (asFigures (memberValue readPlace ms)))
+    (usedWith 1 (asFigures (memberValue writePlace ms)) ++ usedWith 2 (asFigures (memberValue executePlace ms)))
+    ∙ rw (every-append p (usedWith 1 (asFigures (memberValue writePlace ms))) (usedWith 2 (asFigures (memberValue executePlace ms))), r, w) x
 
 low-right : (b : ℕ) (ns : List ℕ) → leb b 2 ≡ true → every (λ u. leb (u .right) 2) (usedWith b ns) ≡ true
 low-right b ns low = used-every (λ u. leb (u .right) 2) b ns (all-every (λ n. leb b 2) ns (each-all (λ l n. leb b 2 ≡ true) (λ l n. low) ns))
@@ -150,32 +149,32 @@ in-range b ns right h =
     (all-every (λ n. leb n idLimit && isRight b) ns (all-imp (λ n. leb n idLimit ≡ true) (λ n. leb n idLimit && isRight b ≡ true)
     (λ n t. rw (t, right)) ns (every-all (λ n. leb n idLimit) ns h)))
 
-module _ (moment : ℕ) (ms : List Member) (fits : All Fits ms) (full : isFull ms ≡ true) (before : moment < momentEnd) where
+module _ (moment : ℕ) (ms : List Member) (fits : All MemberFits ms) (full : isFull ms ≡ true) (before : moment < momentEnd) where
   read-uses : usesOf (actionIn moment ms) ≡ usesIn ms
   unfolding actionIn
   read-uses = take-append-seam (usesIn ms) (replicate (useLimit - length (usesIn ms)) noUse)
 
   read-range : every (λ u. leb (u .resource) idLimit && isRight (u .right)) (usesIn ms) ≡ true
   read-range =
-      let held : (k : ℕ) → (k < domainPlace → every (λ n. leb n idLimit) (asFigures (heldAt k ms)) ≡ true) =
-      λ k h. resources-held k (heldAt k ms) (needed ms fits full k h) in
+      let held : (k : ℕ) → (k < domainPlace → every (λ n. leb n idLimit) (asFigures (memberValue k ms)) ≡ true) =
+      λ k h. resources-held k (memberValue k ms) (needed ms fits full k h) in
       in-every (λ u. leb (u .resource) idLimit && isRight (u .right)) ms
-      (in-range 0 (asFigures (heldAt readPlace ms)) refl (held readPlace (omega arith)))
-      (in-range 1 (asFigures (heldAt writePlace ms)) refl (held writePlace (omega arith)))
-      (in-range 2 (asFigures (heldAt executePlace ms)) refl (held executePlace (omega arith)))
+      (in-range 0 (asFigures (memberValue readPlace ms)) refl (held readPlace (omega arith)))
+      (in-range 1 (asFigures (memberValue writePlace ms)) refl (held writePlace (omega arith)))
+      (in-range 2 (asFigures (memberValue executePlace ms)) refl (held executePlace (omega arith)))
 
   -- what was read is in range
-  read-fits : jsonFits (actionIn moment ms) (asLetters (heldAt idPlace ms)) (asFigure (heldAt kindPlace ms)) ≡ true
+  read-fits : jsonFits (actionIn moment ms) (asLetters (memberValue idPlace ms)) (asFigure (memberValue kindPlace ms)) ≡ true
   unfolding jsonFits actionFits actionIn
   read-fits = rw (
     read-uses,
-    actor-held (heldAt actorPlace ms) (needed ms fits full actorPlace (omega arith)),
+    actor-held (memberValue actorPlace ms) (needed ms fits full actorPlace (omega arith)),
     lt-ltb moment momentEnd before,
-    lt-ltb (flagsOf (asSettings (heldAt flagsPlace ms))) (2 ^ flagCount) (flags-within flagCount (asSettings (heldAt flagsPlace ms))),
+    lt-ltb (flagsOf (asSettings (memberValue flagsPlace ms))) (2 ^ flagCount) (flags-within flagCount (asSettings (memberValue flagsPlace ms))),
     few ms fits full,
     read-range,
-    id-held (heldAt idPlace ms) (needed ms fits full idPlace (omega arith)),
-    kind-held (heldAt kindPlace ms) (needed ms fits full kindPlace (omega arith)),
+    id-held (memberValue idPlace ms) (needed ms fits full idPlace (omega arith)),
+    kind-held (memberValue kindPlace ms) (needed ms fits full kindPlace (omega arith)),
   )
 
   -- and has its place in the form
@@ -183,24 +182,24 @@ module _ (moment : ℕ) (ms : List Member) (fits : All Fits ms) (full : isFull m
   unfolding jsonHolds actionIn
   read-holds =
       and-both (every (λ u. leb (u .right) 2) (usesOf (actionIn moment ms))) (eqb (actionIn moment ms .governed) 0)
-      (rw read-uses (in-every (λ u. leb (u .right) 2) ms (low-right 0 (asFigures (heldAt readPlace ms)) refl)
-      (low-right 1 (asFigures (heldAt writePlace ms)) refl) (low-right 2 (asFigures (heldAt executePlace ms)) refl))) refl
+      (rw read-uses (in-every (λ u. leb (u .right) 2) ms (low-right 0 (asFigures (memberValue readPlace ms)) refl)
+      (low-right 1 (asFigures (memberValue writePlace ms)) refl) (low-right 2 (asFigures (memberValue executePlace ms)) refl))) refl
 
   ordered-in : ordered (usesIn ms) ≡ usesIn ms
   unfolding usesIn
-  ordered-in = laid-ordered (asFigures (heldAt readPlace ms)) (asFigures (heldAt writePlace ms)) (asFigures (heldAt executePlace ms))
+  ordered-in = laid-ordered (asFigures (memberValue readPlace ms)) (asFigures (memberValue writePlace ms)) (asFigures (memberValue executePlace ms))
 
   -- its uses are ordered
   read-ordered : orderedAt moment (actionIn moment ms) ≡ actionIn moment ms
   unfolding orderedAt actionIn
   read-ordered = rw (read-uses, ordered-in)
 
-  read-id : take (length (asLetters (heldAt idPlace ms))) (heldId (asLetters (heldAt idPlace ms))) ≡ asLetters (heldAt idPlace ms)
-  read-id = take-append-seam (asLetters (heldAt idPlace ms)) (replicate (idLength - length (asLetters (heldAt idPlace ms))) 0)
+  read-id : take (length (asLetters (memberValue idPlace ms))) (heldId (asLetters (memberValue idPlace ms))) ≡ asLetters (memberValue idPlace ms)
+  read-id = take-append-seam (asLetters (memberValue idPlace ms)) (replicate (idLength - length (asLetters (memberValue idPlace ms))) 0)
 
-  read-again : jsonRead (jsonText (actionIn moment ms) (asLetters (heldAt idPlace ms)) (asFigure (heldAt kindPlace ms))) moment ≡ readWhole moment ms
+  read-again : jsonRead (jsonText (actionIn moment ms) (asLetters (memberValue idPlace ms)) (asFigure (memberValue kindPlace ms))) moment ≡ readWhole moment ms
   read-again =
-      read-written (actionIn moment ms) (asLetters (heldAt idPlace ms)) (asFigure (heldAt kindPlace ms)) moment read-fits before ∙ rw read-ordered
+      read-written (actionIn moment ms) (asLetters (memberValue idPlace ms)) (asFigure (memberValue kindPlace ms)) moment read-fits before ∙ rw read-ordered
 
 -- what is in range, has its place in the form, and is read again as the same
 pub record Back (moment : ℕ) (r : JsonRead) : Type 0 where

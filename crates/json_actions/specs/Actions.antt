@@ -14,26 +14,26 @@ use Rattle.decimals.specs.Decimals.{digits}
 use Rattle.actions.specs.Actions.{useLimit, governLimit, flagCount, usesOf, actionFits}
 use Rattle.actions.specs.declared.Usage.{Usage}
 use Rattle.actions.specs.declared.Action.{Action}
-use Rattle.changes.specs.declared.Outcome.the-variants.{Accepted, Refused}
-use Rattle.changes.specs.declared.Refusal.{Refusal}
-use Rattle.changes.specs.declared.Refusal.the-variants.{OutOfRange, BadJson, BeyondJson}
+use Rattle.refusals.specs.declared.Outcome.the-variants.{Accepted, Refused}
+use Rattle.refusals.specs.declared.Refusal.{Refusal}
+use Rattle.refusals.specs.declared.Refusal.the-variants.{OutOfRange, BadJson, BeyondJson}
 use Rattle.sheets.specs.Sheets.{put}
 use Rattle.texts.specs.Actions.{noUse, noAction}
 use Rattle.texts.specs.declared.Written.{Written}
 use Rattle.writing.specs.Writing.{delivered, unwritten}
 use Rattle.json_tokens.specs.Tokens.{Token, mark, text, tokens, opensObject, closesObject, opensList, closesList, colon, comma, zeroMark, trueMark, falseMark}
 use Rattle.json_tokens.specs.Spelling.{spelledAll}
-use Rattle.json_actions.specs.Names.{keyNames, kindNames, flagNames, defaultDomain}
-use Rattle.json_actions.specs.Names.{idPlace, actorPlace, kindPlace, readPlace, writePlace, executePlace, flagsPlace, domainPlace, depthPlace}
-use Rattle.json_actions.specs.Members.{Setting, Value, letters, figure, figures, settings, Member, Taken, took, missed, membersOf, amongAll, isIdText, idLength}
+use Rattle.json_actions.specs.Names.{keyNames, kindNames, flagNames, defaultDomain, idPlace, actorPlace, kindPlace, readPlace, writePlace, executePlace, flagsPlace}
+use Rattle.json_actions.specs.Names.{domainPlace, depthPlace}
+use Rattle.json_actions.specs.Members.{Setting, Value, letters, figure, figures, settings, Member, Taken, missed, membersOf, amongAll, isIdText, idLength, taking}
 use Rattle.json_actions.specs.declared.JsonRead.{JsonRead}
 
 -- Reading.
 
 -- what a key holds among some members, where it is one of them
-unfoldable pub heldAt : ℕ → List Member → Value
-heldAt k [] = figure 0
-heldAt k (m ∷ ms) = let more = heldAt k ms in cond (eqb k (m .key)) (m .value) more
+unfoldable pub memberValue : ℕ → List Member → Value
+memberValue k [] = figure 0
+memberValue k (m ∷ ms) = let more = memberValue k ms in cond (eqb k (m .key)) (m .value) more
 
 abbrev pub asLetters : Value → List ℕ
 asLetters (letters x) = x
@@ -78,8 +78,8 @@ usedWith b ns = map (λ n. record { resource = n; right = b }) ns
 -- reads, writes and executes become uses of rights 0, 1 and 2, in that order
 unfoldable pub usesIn : List Member → List Usage
 usesIn ms =
-    usedWith 0 (asFigures (heldAt readPlace ms))
-    ++ (usedWith 1 (asFigures (heldAt writePlace ms)) ++ usedWith 2 (asFigures (heldAt executePlace ms)))
+    usedWith 0 (asFigures (memberValue readPlace ms))
+    ++ (usedWith 1 (asFigures (memberValue writePlace ms)) ++ usedWith 2 (asFigures (memberValue executePlace ms)))
 
 -- each key once; the first seven are there, the last two may be missing; up to 32 uses
 unfoldable pub isFull : List Member → Bool
@@ -92,8 +92,8 @@ isFull ms = ands (
 -- the action of some members at a moment: nothing is governed, and zeros stand behind the uses
 unfoldable pub actionIn : ℕ → List Member → Action
 actionIn moment ms = record {
-  actor = asFigure (heldAt actorPlace ms);
-  flags = flagsOf (asSettings (heldAt flagsPlace ms));
+  actor = asFigure (memberValue actorPlace ms);
+  flags = flagsOf (asSettings (memberValue flagsPlace ms));
   now = moment;
   uses = usesIn ms ++ replicate (useLimit - length (usesIn ms)) noUse;
   used = length (usesIn ms);
@@ -113,13 +113,13 @@ abbrev pub readWhole : ℕ → List Member → JsonRead
 readWhole moment ms = record {
   action = actionIn moment ms;
   outcome = Accepted;
-  kind = asFigure (heldAt kindPlace ms);
-  len = length (asLetters (heldAt idPlace ms));
-  id = heldId (asLetters (heldAt idPlace ms));
+  kind = asFigure (memberValue kindPlace ms);
+  len = length (asLetters (memberValue idPlace ms));
+  id = heldId (asLetters (memberValue idPlace ms));
 }
 
 abbrev pub readMembers : ℕ → Taken (List Member) → JsonRead
-readMembers moment (took ms ts) = cond (isFull ms) (readWhole moment ms) (unread BadJson)
+readMembers moment (taking ms ts) = cond (isFull ms) (readWhole moment ms) (unread BadJson)
 readMembers moment missed = unread BadJson
 
 -- the reading of a text at a moment: 2 for the clock, then 24

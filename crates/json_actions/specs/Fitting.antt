@@ -22,5 +22,5 @@ valueFits k (figures ns) =
 valueFits k (settings ss) = eqb k flagsPlace && (isFullSet ss && every (λ s. ltb (s .flag) flagCount) ss)
 
 -- a member with a value that its key may hold
-abbrev pub Fits : Member → Type 0
-Fits m = valueFits (m .key) (m .value) ≡ true
+abbrev pub MemberFits : Member → Type 0
+MemberFits m = valueFits (m .key) (m .value) ≡ true

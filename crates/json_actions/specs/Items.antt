@@ -10,24 +10,24 @@ use Rattle.lists.specs.Tests.{cases}
 use Rattle.json_tokens.specs.Tokens.{Token, mark, text, noToken, comma, colon, trueMark, falseMark, opensList, closesList, opensObject, closesObject, zeroMark}
 use Rattle.json_actions.specs.Names.{placeOf, keyNames, flagNames}
 use Rattle.json_actions.specs.Names.{idPlace, actorPlace, kindPlace, readPlace, writePlace, executePlace, flagsPlace, domainPlace, depthPlace}
-use Rattle.json_actions.specs.Members.{Taken, took, missed, past, made, ledBy, separated, further, itemsWith, items, anyItems, named}
+use Rattle.json_actions.specs.Members.{Taken, taking, missed, past, made, ledBy, separated, further, itemsWith, items, anyItems, named}
 use Rattle.json_actions.specs.Members.{Value, takeText, takeNumber, takeNumbers, takeWord, takeSet, takeSetting, takeSettings}
 use Rattle.json_actions.specs.Members.{takeZero, takeValue, takeHeld, takeMember}
 
 -- what was taken, with its equation
-pub taken-cases : {A B : Type 0} (x : Taken A) → ((a : A) (rest : List Token) → x ≡ took a rest → B) → (x ≡ missed → B) → B
-taken-cases (took a rest) some none = some a rest refl
+pub taken-cases : {A B : Type 0} (x : Taken A) → ((a : A) (rest : List Token) → x ≡ taking a rest → B) → (x ≡ missed → B) → B
+taken-cases (taking a rest) some none = some a rest refl
 taken-cases missed some none = none refl
 
-took-rest : {A : Type 0} {a b : A} (t u : List Token) → took a t ≡ took b u → length t ≡ length u
+took-rest : {A : Type 0} {a b : A} (t u : List Token) → taking a t ≡ taking b u → length t ≡ length u
 took-rest t u e = let rests : t ≡ u = cc in ap length rests
 
-pub missed-took : {A C : Type 0} {a : A} {t : List Token} → missed ≡ took a t → C
+pub missed-took : {A C : Type 0} {a : A} {t : List Token} → missed ≡ taking a t → C
 missed-took e = let never : _≡_ {A = ℕ} 0 1 = cc in absurd (omega arith)
 
 -- what is taken leaves fewer tokens
 abbrev pub Shrinks : {A : Type 0} → (List Token → Taken A) → Type 0
-Shrinks {A} item = (ts : List Token) (a : A) (rest : List Token) → item ts ≡ took a rest → length rest < length ts
+Shrinks {A} item = (ts : List Token) (a : A) (rest : List Token) → item ts ≡ taking a rest → length rest < length ts
 
 text-shrinks : Shrinks takeText
 text-shrinks [] a rest e = missed-took e
@@ -44,9 +44,9 @@ word-shrinks (text x ∷ ts) a rest e = missed-took e
 word-shrinks (noToken ∷ ts) a rest e = missed-took e
 
 -- what is made of what was taken leaves the same tokens
-made-rest : {A B : Type 0} (fits : A → Bool) (make : A → B) (x : Taken A) (b : B) (rest : List Token) → made fits make x ≡ took b rest
-    → (a : A) × (x ≡ took a rest)
-made-rest fits make (took a ts) b rest e =
+made-rest : {A B : Type 0} (fits : A → Bool) (make : A → B) (x : Taken A) (b : B) (rest : List Token) → made fits make x ≡ taking b rest
+    → (a : A) × (x ≡ taking a rest)
+made-rest fits make (taking a ts) b rest e =
     cases (fits a) (λ fit. let rests : ts ≡ rest = cc (rw fit at e) in (a, rw rests)) (λ unfit. missed-took (rw unfit at e))
 made-rest fits make missed b rest e = missed-took e
 
@@ -72,8 +72,8 @@ named-shrinks names more shrinks ts a rest e =
     ))
     (λ none. missed-took (rw none at e))
 
-led-rest : {A : Type 0} (a : A) (x : Taken (List A)) (l : List A) (rest : List Token) → ledBy a x ≡ took l rest → (m : List A) × (x ≡ took m rest)
-led-rest a (took more ts) l rest e = let rests : ts ≡ rest = cc in (more, rw rests)
+led-rest : {A : Type 0} (a : A) (x : Taken (List A)) (l : List A) (rest : List Token) → ledBy a x ≡ taking l rest → (m : List A) × (x ≡ taking m rest)
+led-rest a (taking more ts) l rest e = let rests : ts ≡ rest = cc in (more, rw rests)
 led-rest a missed l rest e = missed-took e
 
 module _ {A : Type 0} (item : List Token → Taken A) (close : ℕ) (shrinks : Shrinks item) where
@@ -173,7 +173,7 @@ either-way P false x y h k = k
 value-shrinks : (k : ℕ) → Shrinks (takeValue k)
 unfolding takeValue
 value-shrinks k ts v rest =
-    let P : Taken Value → Type 0 = λ x. x ≡ took v rest → length rest < length ts in
+    let P : Taken Value → Type 0 = λ x. x ≡ taking v rest → length rest < length ts in
     either-way P (eqb k idPlace) _ _ (made-shrinks _ _ takeText text-shrinks ts v rest)
     (either-way P (eqb k actorPlace) _ _ (made-shrinks _ _ takeNumber number-shrinks ts v rest)
     (either-way P (eqb k kindPlace) _ _ (made-shrinks _ _ takeText text-shrinks ts v rest)
@@ -191,15 +191,15 @@ member-shrinks = named-shrinks keyNames takeHeld held-shrinks
 
 -- what was taken, with some more in front of it
 unfoldable pub prefixed : {A : Type 0} → List A → Taken (List A) → Taken (List A)
-prefixed l (took m ts) = took (l ++ m) ts
+prefixed l (taking m ts) = taking (l ++ m) ts
 prefixed l missed = missed
 
 pub prefixed-nil : {A : Type 0} (x : Taken (List A)) → prefixed [] x ≡ x
 unfolding prefixed
-prefixed-nil (took m ts) = refl
+prefixed-nil (taking m ts) = refl
 prefixed-nil missed = refl
 
 pub prefixed-led : {A : Type 0} (l : List A) (a : A) (x : Taken (List A)) → prefixed l (ledBy a x) ≡ prefixed (l ++ (a ∷ [])) x
 unfolding prefixed
-prefixed-led l a (took m ts) = rw append-assoc
+prefixed-led l a (taking m ts) = rw append-assoc
 prefixed-led l a missed = refl

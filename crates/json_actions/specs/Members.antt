@@ -36,7 +36,7 @@ pub record Member : Type 0 where
 
 -- what some tokens begin with, and the tokens behind it; or nothing of that kind
 pub data Taken (A : Type 0) : Type 0 where
-  took : A → List Token → Taken A
+  taking : A → List Token → Taken A
   missed : Taken A
 
 -- what stands behind a mark
@@ -48,14 +48,14 @@ past b more (noToken ∷ ts) = missed
 
 -- what is made of what was taken, where it may stand
 abbrev pub made : {A B : Type 0} → (A → Bool) → (A → B) → Taken A → Taken B
-made fits make (took a ts) = cond (fits a) (took (make a) ts) missed
+made fits make (taking a ts) = cond (fits a) (taking (make a) ts) missed
 made fits make missed = missed
 
 -- a text
 abbrev pub takeText : List Token → Taken (List ℕ)
 takeText [] = missed
 takeText (mark b ∷ ts) = missed
-takeText (text x ∷ ts) = took x ts
+takeText (text x ∷ ts) = taking x ts
 takeText (noToken ∷ ts) = missed
 
 -- one of our decimals, up to 65,535, and nothing else
@@ -76,17 +76,17 @@ takeNumber ts = made (λ x. isExact (parse idLimit x)) (λ x. exactOf (parse idL
 
 -- an item is followed by a comma and more, or by the closing mark
 abbrev pub ledBy : {A : Type 0} → A → Taken (List A) → Taken (List A)
-ledBy a (took more ts) = took (a ∷ more) ts
+ledBy a (taking more ts) = taking (a ∷ more) ts
 ledBy a missed = missed
 
 abbrev pub separated : {A : Type 0} → ℕ → (List Token → Taken (List A)) → A → List Token → Taken (List A)
 separated close more a [] = missed
-separated close more a (mark b ∷ ts) = cond (eqb b comma) (ledBy a (more ts)) (cond (eqb b close) (took (a ∷ []) ts) missed)
+separated close more a (mark b ∷ ts) = cond (eqb b comma) (ledBy a (more ts)) (cond (eqb b close) (taking (a ∷ []) ts) missed)
 separated close more a (text x ∷ ts) = missed
 separated close more a (noToken ∷ ts) = missed
 
 abbrev pub further : {A : Type 0} → ℕ → (List Token → Taken (List A)) → Taken A → Taken (List A)
-further close more (took a ts) = separated close more a ts
+further close more (taking a ts) = separated close more a ts
 further close more missed = missed
 
 -- items up to the closing mark, with commas between them; with fuel
@@ -101,7 +101,7 @@ items item close ts = itemsWith item close (length ts) ts
 -- nothing, or items
 abbrev pub anyItems : {A : Type 0} → (List Token → Taken A) → ℕ → List Token → Taken (List A)
 anyItems item close [] = missed
-anyItems item close (mark b ∷ ts) = cond (eqb b close) (took [] ts) (items item close (mark b ∷ ts))
+anyItems item close (mark b ∷ ts) = cond (eqb b close) (taking [] ts) (items item close (mark b ∷ ts))
 anyItems item close (text x ∷ ts) = items item close (text x ∷ ts)
 anyItems item close (noToken ∷ ts) = missed
 
@@ -112,13 +112,13 @@ takeNumbers ts = past opensList (anyItems takeNumber closesList) ts
 -- `true` or `false`
 abbrev pub takeWord : List Token → Taken Bool
 takeWord [] = missed
-takeWord (mark b ∷ ts) = cond (eqb b trueMark) (took true ts) (cond (eqb b falseMark) (took false ts) missed)
+takeWord (mark b ∷ ts) = cond (eqb b trueMark) (taking true ts) (cond (eqb b falseMark) (taking false ts) missed)
 takeWord (text x ∷ ts) = missed
 takeWord (noToken ∷ ts) = missed
 
 -- behind a name: a colon, and what it holds
 abbrev pub named : {A : Type 0} → List (List ℕ) → (ℕ → List Token → Taken A) → Taken (List ℕ) → Taken A
-named names more (took x ts) = past colon (more (placeOf names x)) ts
+named names more (taking x ts) = past colon (more (placeOf names x)) ts
 named names more missed = missed
 
 -- a flag's name, a colon, and whether it is set
@@ -151,7 +151,7 @@ isIdText x = leb (length x) idLength && every isIdByte x
 
 -- the number 0
 abbrev pub takeZero : List Token → Taken Value
-takeZero ts = past zeroMark (λ rest. took (figure 0) rest) ts
+takeZero ts = past zeroMark (λ rest. taking (figure 0) rest) ts
 
 -- what a key holds: each key has its own values
 unfoldable pub takeValue : ℕ → List Token → Taken Value
@@ -173,8 +173,8 @@ takeMember ts = named keyNames takeHeld (takeText ts)
 
 -- the members of an object; nothing follows it
 abbrev pub sole : {A : Type 0} → Taken A → Taken A
-sole (took a []) = took a []
-sole (took a (k ∷ ts)) = missed
+sole (taking a []) = taking a []
+sole (taking a (k ∷ ts)) = missed
 sole missed = missed
 
 unfoldable pub membersOf : List Token → Taken (List Member)

@@ -2,10 +2,9 @@
 use Prim.Native.Nat.{ℕ, _-_}
 use mathlib.Core.Path.{_≡_}
 use mathlib.Core.List.{List, [], _∷_, _++_}
-use mathlib.Core.Bool.{not}
 use lib.ListN.{length, replicate}
 use lib.Dec.{eqb}
-use Rattle.lists.specs.Trims.{sift}
+use Rattle.lists.specs.Trims.{filter}
 use Rattle.actions.specs.Actions.{useLimit, governLimit, usesOf}
 use Rattle.actions.specs.declared.Usage.{Usage}
 use Rattle.actions.specs.declared.Action.{Action}
@@ -13,7 +12,7 @@ use Rattle.texts.specs.Actions.{noUse}
 
 -- the uses of a right, in their order
 abbrev pub usesWith : ℕ → List Usage → List Usage
-usesWith b us = sift (λ u. not (eqb (u .right) b)) us
+usesWith b us = filter (λ u. eqb (u .right) b) us
 
 -- uses of right 0, then 1, then 2, each in their order
 unfoldable pub ordered : List Usage → List Usage
@@ -46,6 +45,6 @@ pub record SameJson (a b : Action) (id other : List ℕ) (kind right : ℕ) : Ty
 -- two lists that differ in their order only
 pub data Shuffled {A : Type 0} : List A → List A → Type 0 where
   none : Shuffled [] []
-  kept : {a : A} {l m : List A} → Shuffled l m → Shuffled (a ∷ l) (a ∷ m)
+  sameFirst : {a : A} {l m : List A} → Shuffled l m → Shuffled (a ∷ l) (a ∷ m)
   swapped : {a b : A} {l : List A} → Shuffled (a ∷ b ∷ l) (b ∷ a ∷ l)
   twice : {l m n : List A} → Shuffled l m → Shuffled m n → Shuffled l n

@@ -3,7 +3,7 @@
 ghost use mathlib.Core.Path.{_≡_};
 ghost use Rattle.json_actions.specs.Members.{isIdText};
 use actions::Action;
-use changes::Outcome;
+use refusals::Outcome;
 
 // The byte around a text, and the one that no text may have.
 const QUOTE: u8 = 34;

@@ -12,15 +12,15 @@ use Rattle.lists.specs.Tests.{cases}
 use Rattle.lists.specs.Lists.{any, any-append}
 use Rattle.lists.specs.Each.{All, all-both, all-append, none-all, any-map}
 use Rattle.rules.specs.Registers.{distinct-nil}
+use Rattle.rules.specs.Distinct.{distinct-last}
 use Rattle.actions.specs.Actions.{useLimit}
 use Rattle.json_actions.specs.Names.{keyCount, readPlace, executePlace}
 use Rattle.json_actions.specs.Members.{Member, Value}
-use Rattle.json_reading.specs.Answers.{Holds, Apart, keysOf, Kept}
-use Rattle.json_reading.proofs.Distinct.{distinct-last}
+use Rattle.json_reading.specs.Answers.{Apart, keysOf, HoldsValue, KeptMembers}
 
 -- a key's value is as it was where the array changed at another key
 holds-apart : {s old new : List ℕ} {k key figure from len : ℕ} {v : Value} → Apart k old new → (key ≡ k → ⊥)
-    → Holds s old key figure from len v → Holds s new key figure from len v
+    → HoldsValue s old key figure from len v → HoldsValue s new key figure from len v
 holds-apart {key = key} {len = len} apart other h = record {
   letters = h .letters;
   single = h .single;
@@ -37,7 +37,7 @@ pub record Placed (seen : List Bool) (figures froms lens : List ℕ) : Type 0 wh
 
 -- nothing is kept of no members
 pub kept-none : (s numbers : List ℕ)
-    → Kept s numbers [] (replicate keyCount false) (replicate keyCount 0) (replicate keyCount 0) (replicate keyCount 0)
+    → KeptMembers s numbers [] (replicate keyCount false) (replicate keyCount 0) (replicate keyCount 0) (replicate keyCount 0)
 kept-none s numbers = record {
   marked = λ k below. getD-replicate keyCount k false false below;
   held = tt;
@@ -50,9 +50,9 @@ kept-none s numbers = record {
 set-apart : {A : Type 0} (l : List A) (k : ℕ) (a d : A) (j : ℕ) → eqb k j ≡ false → getD (set l k a) j d ≡ getD l j d
 set-apart l k a d j other = getD-set-other l k j a d (λ same. eqb-false k j other (sym same))
 
-module _ {s old new : List ℕ} {ms : List Member} {seen : List Bool} {figures froms lens : List ℕ} (kept : Kept s old ms seen figures froms lens)
+module _ {s old new : List ℕ} {ms : List Member} {seen : List Bool} {figures froms lens : List ℕ} (kept : KeptMembers s old ms seen figures froms lens)
     (placed : Placed seen figures froms lens) (k figure from len : ℕ) (v : Value) (known : k < keyCount) (fresh : getD seen k false ≡ false)
-    (apart : Apart k old new) (holds : Holds s new k figure from len v) where
+    (apart : Apart k old new) (holds : HoldsValue s new k figure from len v) where
   abbrev next : Member
   next = record { key = k; value = v }
 
@@ -73,11 +73,11 @@ module _ {s old new : List ℕ} {ms : List Member} {seen : List Bool} {figures f
       (getD-set-other seen k j true false (eqb-false j k e) ∙ kept .marked j below))
 
   abbrev Before : Member → Type 0
-  Before m = Holds s old (m .key) (getD figures (m .key) 0) (getD froms (m .key) 0) (getD lens (m .key) 0) (m .value)
+  Before m = HoldsValue s old (m .key) (getD figures (m .key) 0) (getD froms (m .key) 0) (getD lens (m .key) 0) (m .value)
 
   abbrev After : Member → Type 0
   After m =
-      Holds s new (m .key) (getD (set figures k figure) (m .key) 0) (getD (set froms k from) (m .key) 0) (getD (set lens k len) (m .key) 0) (m .value)
+      HoldsValue s new (m .key) (getD (set figures k figure) (m .key) 0) (getD (set froms k from) (m .key) 0) (getD (set lens k len) (m .key) 0) (m .value)
 
   held-before : All After ms
   held-before =
@@ -85,7 +85,7 @@ module _ {s old new : List ℕ} {ms : List Member} {seen : List Bool} {figures f
       (λ m other h. rw (set-apart figures k figure 0 (m .key) other, set-apart froms k from 0 (m .key) other, set-apart lens k len 0 (m .key) other)
       (holds-apart apart (λ same. eqb-false k (m .key) other (sym same)) h)) ms others (kept .held)
 
-  held-next : Holds s new k (getD (set figures k figure) k 0) (getD (set froms k from) k 0) (getD (set lens k len) k 0) v
+  held-next : HoldsValue s new k (getD (set figures k figure) k 0) (getD (set froms k from) k 0) (getD (set lens k len) k 0) v
   held-next =
       let in-figures : k < length figures = omega (arith, placed .figureCount) in
       let in-froms : k < length froms = omega (arith, placed .fromCount) in
@@ -101,7 +101,7 @@ module _ {s old new : List ℕ} {ms : List Member} {seen : List Bool} {figures f
       (λ e. rw (set-apart lens k len 0 j e) (kept .short j low high))
 
   -- a member more, with a key that was not seen
-  pub kept-next : Kept s new (ms ++ (next ∷ [])) (set seen k true) (set figures k figure) (set froms k from) (set lens k len)
+  pub kept-next : KeptMembers s new (ms ++ (next ∷ [])) (set seen k true) (set figures k figure) (set froms k from) (set lens k len)
   kept-next = record {
     marked = marked-next;
     held = all-append _ ms (next ∷ []) held-before (held-next, tt);

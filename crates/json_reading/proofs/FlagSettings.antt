@@ -11,11 +11,12 @@ use Rattle.lists.specs.Tests.{cases}
 use Rattle.lists.specs.Each.{any-map}
 use Rattle.lists.specs.Counts.{counted}
 use Rattle.rules.specs.Sound.{distinct}
+use Rattle.rules.specs.Distinct.{distinct-again}
 use Rattle.actions.specs.Actions.{flagCount}
 use Rattle.json_tokens.specs.Tokens.{Token, mark, text, noToken, colon, closesObject, opensObject, trueMark, falseMark, tokens}
 use Rattle.json_actions.specs.Names.{flagNames, placeOf}
-use Rattle.json_actions.specs.Members.{Setting, Taken, took, missed, ledBy, separated, items, anyItems}
-use Rattle.json_actions.specs.Members.{takeText, takeWord, takeSet, takeSetting, takeSettings, amongAll, isFullSet}
+use Rattle.json_actions.specs.Members.{Setting, Taken, missed, ledBy, separated, items, anyItems, takeText, takeWord, takeSet, takeSetting, takeSettings, amongAll, isFullSet}
+use Rattle.json_actions.specs.Members.{taking}
 use Rattle.json_actions.specs.Items.{items-step, setting-shrinks, taken-cases, prefixed, prefixed-nil, prefixed-led}
 use Rattle.json_reading.specs.declared.SettingAt.{SettingAt}
 use Rattle.json_reading.specs.declared.SettingAt.the-variants.{Is, Not as NoSetting}
@@ -23,7 +24,6 @@ use Rattle.json_reading.specs.declared.Settings.{Settings}
 use Rattle.json_reading.specs.declared.Settings.the-variants.{Are, Not}
 use Rattle.json_reading.specs.Laws.{past-unmarked, continued, separated-natural, separated-more, separated-done, separated-broken, items-missed}
 use Rattle.json_reading.specs.Answers.{Behind, Separation, more, done, broken, separation, isMarked, SettingSays, flagsFound, fullSet, SettingsSays}
-use Rattle.json_reading.proofs.Distinct.{distinct-again}
 use Rattle.json_reading.proofs.Flags.{isAmong, Noted, noted-none, noted-more, noted-answer}
 
 -- One setting.
@@ -33,10 +33,10 @@ pub set-unknown : (i : ℕ) (ts : List Token) → flagCount ≤ i → takeSet i 
 set-unknown i ts beyond = let unknown : ltb i flagCount ≡ false = le-ltb i flagCount beyond in taken-cases (takeWord ts) (λ on us e. rw (e, unknown)) (λ e. rw e)
 
 module _ (i b : ℕ) (ts us : List Token) (marked : ts ≡ mark b ∷ us) where
-  pub set-on : i < flagCount → b ≡ trueMark → takeSet i ts ≡ took (record { flag = i; set = true }) us
+  pub set-on : i < flagCount → b ≡ trueMark → takeSet i ts ≡ taking (record { flag = i; set = true }) us
   set-on below e = rw (marked, e, lt-ltb i flagCount below)
 
-  pub set-off : i < flagCount → b ≡ falseMark → takeSet i ts ≡ took (record { flag = i; set = false }) us
+  pub set-off : i < flagCount → b ≡ falseMark → takeSet i ts ≡ taking (record { flag = i; set = false }) us
   set-off below e = rw (marked, e, lt-ltb i flagCount below)
 
   pub set-neither : (b ≡ trueMark → ⊥) → (b ≡ falseMark → ⊥) → takeSet i ts ≡ missed
@@ -77,12 +77,12 @@ full-again ss a others again =
     ap (λ b. b && amongAll (counted 0 flagCount) (map (λ s. s .flag) (ss ++ (a ∷ others)))) twice
 
 module _ (ss : List Setting) (a : Setting) (again : isAmong ss (a .flag) ≡ true) where
-  took-again : (others : List Setting) (rest : List Token) → fullSet (took (ss ++ (a ∷ others)) rest) ≡ missed
+  took-again : (others : List Setting) (rest : List Token) → fullSet (taking (ss ++ (a ∷ others)) rest) ≡ missed
   took-again others rest = rw (full-again ss a others again)
 
   led-again : (x : Taken (List Setting)) → fullSet (prefixed ss (ledBy a x)) ≡ missed
   unfolding prefixed
-  led-again (took others rest) = took-again others rest
+  led-again (taking others rest) = took-again others rest
   led-again missed = refl
 
   continued-again : (go : List Token → Taken (List Setting)) (x : Separation) → fullSet (prefixed ss (continued go a x)) ≡ missed
@@ -111,7 +111,7 @@ module _ {s : List ℕ} {begun : ℕ} {seen sets : List Bool} {at : ℕ} (r : Re
   unfolding prefixed
   reading-missed e = rw (r .whole, items-missed takeSetting closesObject setting-shrinks (tokens (drop at s)) e)
 
-  module _ {i : ℕ} {on : Bool} {us : List Token} (one : takeSetting (tokens (drop at s)) ≡ took (record { flag = i; set = on }) us) (known : i < flagCount) where
+  module _ {i : ℕ} {on : Bool} {us : List Token} (one : takeSetting (tokens (drop at s)) ≡ taking (record { flag = i; set = on }) us) (known : i < flagCount) where
     abbrev this : Setting
     this = record { flag = i; set = on }
 
@@ -143,7 +143,7 @@ module _ {s : List ℕ} {begun : ℕ} {seen sets : List Bool} {at : ℕ} (r : Re
           → SettingsSays s begun (flagsFound (set seen i true) (set sets i on) next) (fullSet (settingsFrom s begun))
       unfolding prefixed
       reading-done e behind =
-          let all : settingsFrom s begun ≡ took (r .read ++ (this ∷ [])) (tokens (drop next s)) =
+          let all : settingsFrom s begun ≡ taking (r .read ++ (this ∷ [])) (tokens (drop next s)) =
           whole-on ∙ ap (prefixed (r .read)) (separated-done closesObject (items takeSetting closesObject) this us (tokens (drop next s)) e) in
           subst (λ p. SettingsSays s begun (flagsFound (set seen i true) (set sets i on) next) (fullSet p)) (sym all)
           (noted-answer (noted-more (r .noted) i on known fresh) s begun next behind)

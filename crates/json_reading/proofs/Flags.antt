@@ -16,14 +16,13 @@ use Rattle.lists.specs.Each.{any-map, none-weaken}
 use Rattle.lists.specs.Counts.{counted, every-counted-sound, every-counted-complete}
 use Rattle.rules.specs.Sound.{distinct}
 use Rattle.rules.specs.Registers.{distinct-nil}
+use Rattle.rules.specs.Distinct.{distinct-last}
 use Rattle.actions.specs.Actions.{flagCount}
 use Rattle.json_tokens.specs.Tokens.{mark, tokens}
-use Rattle.json_actions.specs.Members.{Setting, took}
-use Rattle.json_actions.specs.Members.{amongAll, isFullSet}
+use Rattle.json_actions.specs.Members.{Setting, amongAll, isFullSet, taking}
 use Rattle.json_actions.specs.Actions.{setAmong, flagsBelow}
 use Rattle.json_reading.specs.declared.Settings.the-variants.{Are, Not}
 use Rattle.json_reading.specs.Answers.{Behind, flagsIn, flagsFound, fullSet, SettingsSays}
-use Rattle.json_reading.proofs.Distinct.{distinct-last}
 
 -- The flags as a number.
 
@@ -192,10 +191,10 @@ module _ {seen sets : List Bool} {ss : List Setting} (noted : Noted seen sets ss
 
   -- the answer at the closing mark
   pub noted-answer : (s : List ℕ) (begun next : ℕ) → Behind s begun next
-      → SettingsSays s begun (flagsFound seen sets next) (fullSet (took ss (tokens (drop next s))))
+      → SettingsSays s begun (flagsFound seen sets next) (fullSet (taking ss (tokens (drop next s))))
   noted-answer s begun next behind =
       cases (allSeen seen)
-      (λ all. subst (λ r. SettingsSays s begun r (fullSet (took ss (tokens (drop next s))))) (sym (found-by seen sets next true all))
+      (λ all. subst (λ r. SettingsSays s begun r (fullSet (taking ss (tokens (drop next s))))) (sym (found-by seen sets next true all))
       (ss, rw (full-same ∙ all), flags-same flagCount (omega arith), behind))
-      (λ some. subst (λ r. SettingsSays s begun r (fullSet (took ss (tokens (drop next s))))) (sym (found-by seen sets next false some))
+      (λ some. subst (λ r. SettingsSays s begun r (fullSet (taking ss (tokens (drop next s))))) (sym (found-by seen sets next false some))
       (rw (full-same ∙ some)))

@@ -1,8 +1,6 @@
 pub mod Lists
-pub mod Distinct
 pub mod Flags
 pub mod FlagSettings
-pub mod Places
 pub mod Keys
 pub mod Values
 pub mod Fillings

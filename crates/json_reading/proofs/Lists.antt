@@ -14,7 +14,7 @@ use Rattle.decimals.specs.Decimals.{Parsed, got, parse}
 use Rattle.actions.specs.Actions.{useLimit}
 use Rattle.json_tokens.specs.Tokens.{Token, mark, text, opensList, closesList, tokens}
 use Rattle.json_actions.specs.Names.{placeOf}
-use Rattle.json_actions.specs.Members.{Taken, took, missed, past, isExact, exactOf, takeNumber, takeNumbers, ledBy, further, items, anyItems}
+use Rattle.json_actions.specs.Members.{Taken, taking, missed, past, isExact, exactOf, takeNumber, takeNumbers, ledBy, further, items, anyItems}
 use Rattle.json_actions.specs.Items.{taken-cases, missed-took, items-step, number-shrinks, prefixed, prefixed-nil}
 use Rattle.json_reading.specs.declared.Numbers.{Numbers}
 use Rattle.json_reading.specs.declared.Numbers.the-variants.{Are, Not}
@@ -66,7 +66,7 @@ module _ (s : List ℕ) (n next : ℕ) (p : Parsed) (read : p ≡ got n (drop ne
 
 -- a number is a text that holds it
 pub number-taken : (x : List ℕ) (n : ℕ) (ts : List Token) → isExact (parse idLimit x) ≡ true → exactOf (parse idLimit x) ≡ n →
-    takeNumber (text x ∷ ts) ≡ took n ts
+    takeNumber (text x ∷ ts) ≡ taking n ts
 unfolding takeNumber
 number-taken x n ts exact value = rw (exact, value)
 
@@ -83,11 +83,11 @@ unfolding takeNumber
 number-nil = refl
 
 -- items are one at least
-led-filled : {A : Type 0} (a : A) (x : Taken (List A)) (l : List A) (rest : List Token) → ledBy a x ≡ took l rest → 0 < length l
-led-filled a (took m ts) l rest e = let whole : a ∷ m ≡ l = cc in omega (arith, ap length whole)
+led-filled : {A : Type 0} (a : A) (x : Taken (List A)) (l : List A) (rest : List Token) → ledBy a x ≡ taking l rest → 0 < length l
+led-filled a (taking m ts) l rest e = let whole : a ∷ m ≡ l = cc in omega (arith, ap length whole)
 led-filled a missed l rest e = missed-took e
 
-continued-filled : {A : Type 0} (go : List Token → Taken (List A)) (a : A) (p : Separation) (l : List A) (rest : List Token) → continued go a p ≡ took l rest →
+continued-filled : {A : Type 0} (go : List Token → Taken (List A)) (a : A) (p : Separation) (l : List A) (rest : List Token) → continued go a p ≡ taking l rest →
     0 < length l
 continued-filled go a (more ts) l rest e = led-filled a (go ts) l rest e
 continued-filled go a (done ts) l rest e = let whole : a ∷ [] ≡ l = cc in omega (arith, ap length whole)
@@ -97,7 +97,7 @@ continued-filled go a broken l rest e = missed-took e
 abbrev pub listed : List Token → Taken (List ℕ)
 listed ts = items takeNumber closesList ts
 
-listed-filled : (ts : List Token) (l : List ℕ) (rest : List Token) → listed ts ≡ took l rest → 0 < length l
+listed-filled : (ts : List Token) (l : List ℕ) (rest : List Token) → listed ts ≡ taking l rest → 0 < length l
 listed-filled ts l rest e =
     taken-cases (takeNumber ts)
     (λ n us taken. continued-filled listed n (separation closesList us) l rest (
@@ -106,13 +106,13 @@ listed-filled ts l rest e =
     (λ none. missed-took (sym (items-missed takeNumber closesList number-shrinks ts none) ∙ e))
 
 -- up to 32 numbers are a list; more are not
-limited-fits : (l : List ℕ) (ts : List Token) → length l ≤ useLimit → limited (took l ts) ≡ took l ts
+limited-fits : (l : List ℕ) (ts : List Token) → length l ≤ useLimit → limited (taking l ts) ≡ taking l ts
 limited-fits l ts fit = rw (le-leb (length l) useLimit fit)
 
-limited-over : (l : List ℕ) (x : Taken (List ℕ)) → ((m : List ℕ) (rest : List Token) → x ≡ took m rest → 0 < length m) → useLimit ≤ length l →
+limited-over : (l : List ℕ) (x : Taken (List ℕ)) → ((m : List ℕ) (rest : List Token) → x ≡ taking m rest → 0 < length m) → useLimit ≤ length l →
     limited (prefixed l x) ≡ missed
 unfolding prefixed
-limited-over l (took m ts) filled full = rw (lt-leb (length (l ++ m)) useLimit (simp length-append (omega (arith, filled m ts refl))))
+limited-over l (taking m ts) filled full = rw (lt-leb (length (l ++ m)) useLimit (simp length-append (omega (arith, filled m ts refl))))
 limited-over l missed filled full = refl
 
 -- what was read of a list of numbers: it began at `begun`, and goes on at `at`
@@ -144,7 +144,7 @@ module _ {s : List ℕ} {begun base : ℕ} {old new : List ℕ} {at count : ℕ}
   pub listing-full : useLimit ≤ count → limited (listed (tokens (drop begun s))) ≡ missed
   listing-full full = ap limited (l .whole) ∙ limited-over (l .ns) (listed (tokens (drop at s))) (listed-filled (tokens (drop at s))) (omega (arith, l .counted))
 
-  module _ (n : ℕ) (rest : List Token) (taken : takeNumber (tokens (drop at s)) ≡ took n rest) where
+  module _ (n : ℕ) (rest : List Token) (taken : takeNumber (tokens (drop at s)) ≡ taking n rest) where
     pub listing-broken : separation closesList rest ≡ broken → limited (listed (tokens (drop begun s))) ≡ missed
     listing-broken e = ap limited (l .whole ∙ items-broken takeNumber closesList number-shrinks (l .ns) n (tokens (drop at s)) rest taken e)
 
@@ -192,7 +192,7 @@ module _ (ts us : List Token) (opened : ts ≡ mark opensList ∷ us) where
   pub numbers-some : isMarked closesList us ≡ false → takeNumbers ts ≡ listed us
   numbers-some unclosed = numbers-opened ∙ any-items-some takeNumber closesList number-shrinks number-noToken us unclosed
 
-  numbers-none : (vs : List Token) → us ≡ mark closesList ∷ vs → takeNumbers ts ≡ took [] vs
+  numbers-none : (vs : List Token) → us ≡ mark closesList ∷ vs → takeNumbers ts ≡ taking [] vs
   numbers-none vs closed = numbers-opened ∙ ap (anyItems takeNumber closesList) closed ∙ any-items-none takeNumber closesList vs
 
 -- nothing is written of an empty list

@@ -17,22 +17,21 @@ use Rattle.rules.specs.Sound.{distinct}
 use Rattle.rules.specs.Registers.{distinct-nil}
 use Rattle.actions.specs.Actions.{useLimit, governLimit}
 use Rattle.actions.specs.declared.Usage.{Usage}
-use Rattle.changes.specs.declared.Outcome.the-variants.{Accepted}
-use Rattle.changes.specs.declared.Refusal.the-variants.{OutOfRange, BadJson}
+use Rattle.refusals.specs.declared.Outcome.the-variants.{Accepted}
+use Rattle.refusals.specs.declared.Refusal.the-variants.{OutOfRange, BadJson}
 use Rattle.json_tokens.specs.Tokens.{Token, tokens}
 use Rattle.json_actions.specs.Names.{idPlace, actorPlace, kindPlace, readPlace, writePlace, executePlace, flagsPlace, domainPlace}
-use Rattle.json_actions.specs.Members.{Member, Value, Taken, took, missed, membersOf, amongAll, idLength}
-use Rattle.json_actions.specs.Actions.{heldAt, usesIn, isFull, actionIn, heldId, unread}
-use Rattle.json_actions.specs.Actions.{readWhole, readMembers, jsonRead}
+use Rattle.json_actions.specs.Members.{Member, Value, Taken, missed, membersOf, amongAll, idLength, taking}
+use Rattle.json_actions.specs.Actions.{usesIn, isFull, actionIn, heldId, unread, readWhole, readMembers, jsonRead, memberValue}
 use Rattle.json_actions.specs.declared.JsonRead.{JsonRead}
-use Rattle.json_reading.specs.Answers.{Holds, blockOf, listRoom, keysOf, admittedWhole, Kept, Drafted, draftFull, usesTaken, usesFrom}
+use Rattle.json_reading.specs.Answers.{blockOf, listRoom, keysOf, admittedWhole, Drafted, draftFull, usesTaken, usesFrom, HoldsValue, KeptMembers}
 use Rattle.json_reading.specs.declared.Draft.{Draft}
 use Rattle.json_reading.proofs.Wholes.{Whole}
 
 -- what is said of each member is said of what a key among them holds
 held-at : (Q : ℕ → Value → Type 0) (k : ℕ) (ms : List Member) → All (λ m. Q (m .key) (m .value)) ms → any (eqb k) (keysOf ms) ≡ true
-    → Q k (heldAt k ms)
-unfolding heldAt
+    → Q k (memberValue k ms)
+unfolding memberValue
 held-at Q k [] h there = clash false there refl
 held-at Q k (m ∷ ms) h there =
     cases (eqb k (m .key))
@@ -44,7 +43,7 @@ asked-last : (a b c d e : Bool) → a ≡ true → b ≡ d → (d ≡ true → c
 asked-last a b c true e first second third = rw (first, second, third refl) (and-true e)
 asked-last a b c false e first second third = rw (first, second)
 
-module _ {s numbers : List ℕ} {ms : List Member} {seen : List Bool} {figures froms lens : List ℕ} (kept : Kept s numbers ms seen figures froms lens)
+module _ {s numbers : List ℕ} {ms : List Member} {seen : List Bool} {figures froms lens : List ℕ} (kept : KeptMembers s numbers ms seen figures froms lens)
     (room : length numbers ≡ listRoom) where
   abbrev reads : ℕ
   reads = getD lens readPlace 0
@@ -65,9 +64,9 @@ module _ {s numbers : List ℕ} {ms : List Member} {seen : List Bool} {figures f
       (λ k low high. kept .marked k (omega arith) ∙ every-counted-sound (λ k. any (eqb k) (keysOf ms)) domainPlace 0 h k low high))
 
   module _ (full : draftFull seen ≡ true) where
-    held : (k : ℕ) → k < domainPlace → Holds s numbers k (getD figures k 0) (getD froms k 0) (getD lens k 0) (heldAt k ms)
+    held : (k : ℕ) → k < domainPlace → HoldsValue s numbers k (getD figures k 0) (getD froms k 0) (getD lens k 0) (memberValue k ms)
     held k below =
-        held-at (λ key v. Holds s numbers key (getD figures key 0) (getD froms key 0) (getD lens key 0) v) k ms (kept .held)
+        held-at (λ key v. HoldsValue s numbers key (getD figures key 0) (getD froms key 0) (getD lens key 0) v) k ms (kept .held)
         (sym (kept .marked k (omega arith)) ∙ every-counted-sound (λ k. getD seen k false) domainPlace 0 full k (omega arith) (omega arith))
 
     uses-taken : usesIn ms ≡ usesTaken numbers reads writes executes
@@ -141,19 +140,19 @@ json-timely t moment timely = rw (lt-ltb moment momentEnd timely)
 -- an object that is not admitted
 unadmitted : (moment : ℕ) (p : Taken (List Member)) → admittedWhole p ≡ false → readMembers moment p ≡ unread BadJson
 unfolding isFull
-unadmitted moment (took [] ts) e = rw distinct-nil
-unadmitted moment (took (m ∷ ms) ts) e = rw e
+unadmitted moment (taking [] ts) e = rw distinct-nil
+unadmitted moment (taking (m ∷ ms) ts) e = rw e
 unadmitted moment missed e = refl
 
 -- what an admitted object's members are, and what is kept of them
 pub record Admitted (s numbers : List ℕ) (d : Draft) (p : Taken (List Member)) : Type 0 where
   pub members : List Member
   pub rest : List Token
-  pub taken : p ≡ took members rest
+  pub taken : p ≡ taking members rest
   pub drafted : Drafted s numbers members rest d
 
 pub whole-admitted : {s numbers : List ℕ} {d : Draft} (p : Taken (List Member)) → Whole s numbers d p → d .ok ≡ true → Admitted s numbers d p
-whole-admitted (took ms rest) h whole = record { members = ms; rest = rest; taken = refl; drafted = h .1 ms rest refl whole }
+whole-admitted (taking ms rest) h whole = record { members = ms; rest = rest; taken = refl; drafted = h .1 ms rest refl whole }
 whole-admitted {d = d} missed h whole = clash (d .ok) whole (h .0)
 
 module _ {t : List ℕ} {moment : ℕ} (timely : moment < momentEnd) {numbers : List ℕ} {d : Draft} where

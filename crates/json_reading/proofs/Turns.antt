@@ -9,36 +9,36 @@ use lib.Dec.{eqb}
 use lib.ListN.{length, drop, getD, set, replicate}
 use Rattle.lists.specs.Tests.{cases, clash}
 use Rattle.lists.specs.Lists.{any}
+use Rattle.rules.specs.Distinct.{distinct-again}
 use Rattle.json_tokens.specs.Tokens.{Token, mark, text, noToken, comma, colon, closesObject, tokens}
 use Rattle.json_actions.specs.Names.{keyNames, placeOf, keyCount}
-use Rattle.json_actions.specs.Members.{Member, Value, Taken, took, missed, past, named, takeText, ledBy, further, items}
-use Rattle.json_actions.specs.Members.{takeValue, takeHeld, takeMember}
+use Rattle.json_actions.specs.Members.{Member, Value, Taken, missed, past, named, takeText, ledBy, further, items, takeValue, takeHeld, takeMember, taking}
 use Rattle.json_actions.specs.Items.{taken-cases, missed-took, items-step, member-shrinks, prefixed, prefixed-nil, prefixed-led}
-use Rattle.json_reading.specs.Answers.{Separation, more, done, broken, separation, keyOf, listRoom, Holds, Apart, keysOf, Kept, DraftSays, admitted, Behind, HeldSays}
+use Rattle.json_reading.specs.Answers.{Separation, more, done, broken, separation, keyOf, listRoom, Apart, keysOf, DraftSays, admitted, Behind, HeldSays, HoldsValue}
+use Rattle.json_reading.specs.Answers.{KeptMembers}
 use Rattle.json_reading.specs.declared.Held.{Held}
 use Rattle.json_reading.specs.declared.Draft.{Draft}
 use Rattle.json_reading.specs.Laws.{continued, separated-natural}
-use Rattle.json_reading.proofs.Distinct.{distinct-again}
 use Rattle.json_reading.proofs.Drafts.{Placed, kept-none, kept-next, placed-next}
 
 -- what was taken is not what was missed
-took-missed : {A C : Type 0} {a : A} {ts : List Token} → took a ts ≡ missed → C
+took-missed : {A C : Type 0} {a : A} {ts : List Token} → taking a ts ≡ missed → C
 took-missed e = missed-took (sym e)
 
 -- behind a key stands what the key leads to
 module _ {A : Type 0} (go : ℕ → List Token → Taken A) where
-  past-missed : (k : ℕ) (ts : List Token) → past colon (λ rest. took k rest) ts ≡ missed → past colon (go k) ts ≡ missed
+  past-missed : (k : ℕ) (ts : List Token) → past colon (λ rest. taking k rest) ts ≡ missed → past colon (go k) ts ≡ missed
   past-missed k [] e = refl
   past-missed k (mark b ∷ ts) e = cases (eqb b colon) (λ here. took-missed (rw here at e)) (λ other. rw other)
   past-missed k (text x ∷ ts) e = refl
   past-missed k (noToken ∷ ts) e = refl
 
-  past-took : (k : ℕ) (ts : List Token) (key : ℕ) (rest : List Token) → past colon (λ rest. took k rest) ts ≡ took key rest
+  past-took : (k : ℕ) (ts : List Token) (key : ℕ) (rest : List Token) → past colon (λ rest. taking k rest) ts ≡ taking key rest
       → past colon (go k) ts ≡ go key rest
   past-took k [] key rest e = missed-took e
   past-took k (mark b ∷ ts) key rest e =
       cases (eqb b colon)
-      (λ here. let told : took k ts ≡ took key rest = rw here at e in
+      (λ here. let told : taking k ts ≡ taking key rest = rw here at e in
       let keys : k ≡ key = cc in
       let rests : ts ≡ rest = cc in
       rw (here, keys, rests))
@@ -46,20 +46,20 @@ module _ {A : Type 0} (go : ℕ → List Token → Taken A) where
   past-took k (text x ∷ ts) key rest e = missed-took e
   past-took k (noToken ∷ ts) key rest e = missed-took e
 
-  named-missed : (x : Taken (List ℕ)) → named keyNames (λ k rest. took k rest) x ≡ missed → named keyNames go x ≡ missed
-  named-missed (took x ts) e = past-missed (placeOf keyNames x) ts e
+  named-missed : (x : Taken (List ℕ)) → named keyNames (λ k rest. taking k rest) x ≡ missed → named keyNames go x ≡ missed
+  named-missed (taking x ts) e = past-missed (placeOf keyNames x) ts e
   named-missed missed e = refl
 
-  named-took : (x : Taken (List ℕ)) (key : ℕ) (rest : List Token) → named keyNames (λ k rest. took k rest) x ≡ took key rest
+  named-took : (x : Taken (List ℕ)) (key : ℕ) (rest : List Token) → named keyNames (λ k rest. taking k rest) x ≡ taking key rest
       → named keyNames go x ≡ go key rest
-  named-took (took x ts) key rest e = past-took (placeOf keyNames x) ts key rest e
+  named-took (taking x ts) key rest e = past-took (placeOf keyNames x) ts key rest e
   named-took missed key rest e = missed-took e
 
 unkeyed : (ts : List Token) → keyOf ts ≡ missed → takeMember ts ≡ missed
 unfolding takeMember
 unkeyed ts e = named-missed takeHeld (takeText ts) e
 
-keyed : (ts : List Token) (key : ℕ) (rest : List Token) → keyOf ts ≡ took key rest → takeMember ts ≡ takeHeld key rest
+keyed : (ts : List Token) (key : ℕ) (rest : List Token) → keyOf ts ≡ taking key rest → takeMember ts ≡ takeHeld key rest
 unfolding takeMember
 keyed ts key rest e = named-took takeHeld (takeText ts) key rest e
 
@@ -82,7 +82,7 @@ value-beyond k ts beyond =
 -- the item leads whatever is taken
 continued-led : {A : Type 0} (go : List Token → Taken (List A)) (a : A) (p : Separation) → (x : Taken (List A)) × (continued go a p ≡ ledBy a x)
 continued-led go a (more us) = (go us, refl)
-continued-led go a (done us) = (took [] us, refl)
+continued-led go a (done us) = (taking [] us, refl)
 continued-led go a broken = (missed, refl)
 
 -- the members up to the closing brace
@@ -96,12 +96,12 @@ members-step ts = items-step takeMember closesObject member-shrinks ts
 pub members-missed : (ts : List Token) → takeMember ts ≡ missed → membersIn ts ≡ missed
 members-missed ts e = members-step ts ∙ rw e
 
-members-took : (ts : List Token) (m : Member) (rest : List Token) → takeMember ts ≡ took m rest
+members-took : (ts : List Token) (m : Member) (rest : List Token) → takeMember ts ≡ taking m rest
     → membersIn ts ≡ continued membersIn m (separation closesObject rest)
 members-took ts m rest e = members-step ts ∙ rw e (separated-natural closesObject membersIn m rest)
 
 -- the member leads whatever is taken
-pub members-led : (ts : List Token) (m : Member) (rest : List Token) → takeMember ts ≡ took m rest
+pub members-led : (ts : List Token) (m : Member) (rest : List Token) → takeMember ts ≡ taking m rest
     → (x : Taken (List Member)) × (membersIn ts ≡ ledBy m x)
 members-led ts m rest e =
     let led = continued-led membersIn m (separation closesObject rest) in
@@ -111,7 +111,7 @@ members-led ts m rest e =
 pub record Read (s : List ℕ) (begun : ℕ) (numbers : List ℕ) (seen : List Bool) (figures froms lens : List ℕ) (at : ℕ) : Type 0 where
   pub members : List Member
   pub follow : membersIn (tokens (drop begun s)) ≡ prefixed members (membersIn (tokens (drop at s)))
-  pub kept : Kept s numbers members seen figures froms lens
+  pub kept : KeptMembers s numbers members seen figures froms lens
   pub placed : Placed seen figures froms lens
   pub room : length numbers ≡ listRoom
 
@@ -132,8 +132,8 @@ Answered s numbers d p = (d .ok ≡ admitted p) × DraftSays s numbers d p
 unanswered : {s numbers : List ℕ} {d : Draft} {p : Taken (List Member)} → d .ok ≡ false → admitted p ≡ false → Answered s numbers d p
 unanswered {d = d} failed none = (failed ∙ sym none, λ ms rest e whole. clash (d .ok) whole failed)
 
-answered : {s numbers : List ℕ} {d : Draft} {p : Taken (List Member)} (l : List Member) → d .ok ≡ true → p ≡ took l (tokens (drop (d .next) s))
-    → Kept s numbers l (d .seen) (d .figures) (d .froms) (d .lens) → Answered s numbers d p
+answered : {s numbers : List ℕ} {d : Draft} {p : Taken (List Member)} (l : List Member) → d .ok ≡ true → p ≡ taking l (tokens (drop (d .next) s))
+    → KeptMembers s numbers l (d .seen) (d .figures) (d .froms) (d .lens) → Answered s numbers d p
 answered l whole e kept =
     (whole ∙ rw e (sym (kept .once)), λ ms rest told yes. let same : ms ≡ l = cc in record { next = cc; kept = rw same kept })
 
@@ -144,28 +144,28 @@ admitted-missed ms x e = rw e
 admitted-again : (ms : List Member) (m : Member) (x : Taken (List Member)) → any (eqb (m .key)) (keysOf ms) ≡ true
     → admitted (prefixed ms (ledBy m x)) ≡ false
 unfolding prefixed
-admitted-again ms m (took l ts) e =
+admitted-again ms m (taking l ts) e =
     rw (map-append (λ (n : Member). n .key) ms (m ∷ l)) (distinct-again (keysOf ms) (m .key) (keysOf l) e)
 admitted-again ms m missed e = refl
 
-prefixed-done : (ms : List Member) (m : Member) (ts : List Token) → prefixed ms (took (m ∷ []) ts) ≡ took (ms ++ (m ∷ [])) ts
+prefixed-done : (ms : List Member) (m : Member) (ts : List Token) → prefixed ms (taking (m ∷ []) ts) ≡ taking (ms ++ (m ∷ [])) ts
 unfolding prefixed
 prefixed-done ms m ts = refl
 
 -- what the value's answer says of the value
 pub held-missed : (s : List ℕ) (at key : ℕ) (numbers : List ℕ) (h : Held) (p : Taken Value) → HeldSays s at key numbers h p → h .ok ≡ false → p ≡ missed
-held-missed s at key numbers h (took v rest) says failed = clash (h .ok) (says .0) failed
+held-missed s at key numbers h (taking v rest) says failed = clash (h .ok) (says .0) failed
 held-missed s at key numbers h missed says failed = refl
 
 pub record ValueHeld (s : List ℕ) (at key : ℕ) (numbers : List ℕ) (h : Held) (p : Taken Value) : Type 0 where
   pub value : Value
-  pub taken : p ≡ took value (tokens (drop (h .next) s))
+  pub taken : p ≡ taking value (tokens (drop (h .next) s))
   pub behind : Behind s at (h .next)
-  pub holds : Holds s numbers key (h .figure) (h .from) (h .len) value
+  pub holds : HoldsValue s numbers key (h .figure) (h .from) (h .len) value
 
 pub held-took : (s : List ℕ) (at key : ℕ) (numbers : List ℕ) (h : Held) (p : Taken Value) → HeldSays s at key numbers h p → h .ok ≡ true
     → ValueHeld s at key numbers h p
-held-took s at key numbers h (took v rest) says whole = record { value = v; taken = rw (says .1); behind = says .2; holds = says .3 }
+held-took s at key numbers h (taking v rest) says whole = record { value = v; taken = rw (says .1); behind = says .2; holds = says .3 }
 held-took s at key numbers h missed says whole = clash (h .ok) whole says
 
 module _ {s : List ℕ} {begun : ℕ} {numbers : List ℕ} {seen : List Bool} {figures froms lens : List ℕ} {at : ℕ}
@@ -184,7 +184,7 @@ module _ {s : List ℕ} {begun : ℕ} {numbers : List ℕ} {seen : List Bool} {f
   pub read-unkeyed : (new : List ℕ) (d : Draft) → keyOf here ≡ missed → d .ok ≡ false → Answered s new d all
   read-unkeyed new d e failed = unanswered failed (missing (unkeyed here e))
 
-  module _ (key : ℕ) (behind : List Token) (named : keyOf here ≡ took key behind) where
+  module _ (key : ℕ) (behind : List Token) (named : keyOf here ≡ taking key behind) where
     -- the key has no value
     pub read-unheld : (new : List ℕ) (d : Draft) → takeValue key behind ≡ missed → d .ok ≡ false → Answered s new d all
     read-unheld new d e failed = unanswered failed (missing (keyed here key behind named ∙ rw e))
@@ -203,7 +203,7 @@ module _ {s : List ℕ} {begun : ℕ} {numbers : List ℕ} {seen : List Bool} {f
         unanswered failed (rw (r .follow, led .1) (admitted-again (r .members) m (led .0) there)))
         (λ e. read-unheld new d e failed)
 
-    module _ (v : Value) (rest : List Token) (held : takeValue key behind ≡ took v rest) where
+    module _ (v : Value) (rest : List Token) (held : takeValue key behind ≡ taking v rest) where
       abbrev member : Member
       member = record { key = key; value = v }
 
@@ -215,7 +215,7 @@ module _ {s : List ℕ} {begun : ℕ} {numbers : List ℕ} {seen : List Bool} {f
       read-broken new d e failed = unanswered failed (rw (follows, e) (admitted-missed (r .members) missed refl))
 
       module _ (new : List ℕ) (figure from len : ℕ) (room : length new ≡ length numbers) (known : key < keyCount) (fresh : getD seen key false ≡ false)
-          (apart : Apart key numbers new) (holds : Holds s new key figure from len v) where
+          (apart : Apart key numbers new) (holds : HoldsValue s new key figure from len v) where
         -- a comma follows
         pub read-next : (next : ℕ) → separation closesObject rest ≡ more (tokens (drop next s))
             → Read s begun new (set seen key true) (set figures key figure) (set froms key from) (set lens key len) next

@@ -9,22 +9,20 @@ use lib.Dec.{eqb, leb, ltb}
 use lib.ListN.{length, take, drop}
 use Rattle.lists.specs.Tests.{cases, and-left}
 use Rattle.lists.specs.Lists.{every}
-use Rattle.lists.specs.Splices.{splice}
+use Rattle.lists.specs.Splices.{splice, splice-part, splice-behind, splice-before}
 use Rattle.paths.specs.Containment.{same}
 use Rattle.rights.specs.Rights.{rightCount}
 use Rattle.actions.specs.Actions.{useLimit}
 use Rattle.json_tokens.specs.Tokens.{Token, mark, text, noToken, colon, zeroMark, tokens}
-use Rattle.json_actions.specs.Names.{keyNames, kindNames, defaultDomain, placeOf}
-use Rattle.json_actions.specs.Names.{idPlace, actorPlace, kindPlace, readPlace, writePlace, executePlace, flagsPlace, domainPlace, depthPlace}
-use Rattle.json_actions.specs.Members.{Setting, Value, letters, figure, figures, settings, Taken, took, missed, made, named, takeText, takeNumber, takeNumbers}
-use Rattle.json_actions.specs.Members.{takeSettings, takeZero, takeValue, isIdByte, isIdText, idLength}
+use Rattle.json_actions.specs.Names.{keyNames, kindNames, defaultDomain, placeOf, idPlace, actorPlace, kindPlace, readPlace, writePlace, executePlace, flagsPlace}
+use Rattle.json_actions.specs.Names.{domainPlace, depthPlace}
+use Rattle.json_actions.specs.Members.{Setting, Value, letters, figure, figures, settings, Taken, missed, made, named, takeText, takeNumber, takeNumbers, takeSettings}
+use Rattle.json_actions.specs.Members.{takeZero, takeValue, isIdByte, isIdText, idLength, taking}
 use Rattle.json_actions.specs.Actions.{asLetters, asFigure, asFigures, asSettings, flagsOf}
 use Rattle.json_reading.specs.declared.Held.{Held}
-use Rattle.json_reading.specs.Answers.{Behind, isMarked, keyOf, isTextKey, blockOf, listRoom, limited}
-use Rattle.json_reading.specs.Answers.{Holds, heldWhole, HeldSays, HeldAnyway, Apart}
+use Rattle.json_reading.specs.Answers.{Behind, isMarked, keyOf, isTextKey, blockOf, listRoom, limited, heldWhole, HeldSays, HeldAnyway, Apart, HoldsValue}
 use Rattle.json_reading.specs.Laws.{past-unmarked}
 use Rattle.json_reading.proofs.Keys.{single-key, domain-last}
-use Rattle.json_reading.proofs.Places.{splice-part, splice-behind, splice-before}
 
 -- some tokens that begin with no text
 module _ (ts : List Token) where
@@ -38,44 +36,44 @@ module _ (ts : List Token) where
   text-broken us e = rw e
 
   -- a key is a text with a colon behind it
-  pub key-at : (x : List ℕ) (key : ℕ) (us rest : List Token) → ts ≡ text x ∷ us → us ≡ mark colon ∷ rest → key ≡ placeOf keyNames x → keyOf ts ≡ took key rest
+  pub key-at : (x : List ℕ) (key : ℕ) (us rest : List Token) → ts ≡ text x ∷ us → us ≡ mark colon ∷ rest → key ≡ placeOf keyNames x → keyOf ts ≡ taking key rest
   key-at x key us rest e f place = rw (e, f, place)
 
   pub key-unmarked : (x : List ℕ) (us : List Token) → ts ≡ text x ∷ us → isMarked colon us ≡ false → keyOf ts ≡ missed
-  key-unmarked x us e h = rw e (past-unmarked colon (λ rest. took (placeOf keyNames x) rest) us h)
+  key-unmarked x us e h = rw e (past-unmarked colon (λ rest. taking (placeOf keyNames x) rest) us h)
 
   pub key-missed : takeText ts ≡ missed → keyOf ts ≡ missed
-  key-missed e = ap (named keyNames (λ k rest. took k rest)) e
+  key-missed e = ap (named keyNames (λ k rest. taking k rest)) e
 
 -- what is made of what was taken, by whether it may stand
 module _ {A B : Type 0} (fits : A → Bool) (make : A → B) (p : Taken A) where
-  pub made-took : (a : A) (rest : List Token) → p ≡ took a rest → fits a ≡ true → made fits make p ≡ took (make a) rest
+  pub made-took : (a : A) (rest : List Token) → p ≡ taking a rest → fits a ≡ true → made fits make p ≡ taking (make a) rest
   made-took a rest e f = rw (e, f)
 
-  pub made-unfit : (a : A) (rest : List Token) → p ≡ took a rest → fits a ≡ false → made fits make p ≡ missed
+  pub made-unfit : (a : A) (rest : List Token) → p ≡ taking a rest → fits a ≡ false → made fits make p ≡ missed
   made-unfit a rest e f = rw (e, f)
 
   pub made-missed : p ≡ missed → made fits make p ≡ missed
   made-missed e = rw e
 
 made-of : {A B : Type 0} (t : Bool) (make : A → B) (a b : A) (ts rest : List Token) →
-    cond t (took a ts) missed ≡ took b rest → cond t (took (make a) ts) missed ≡ took (make b) rest
+    cond t (taking a ts) missed ≡ taking b rest → cond t (taking (make a) ts) missed ≡ taking (make b) rest
 made-of true make a b ts rest e = cc
 made-of false make a b ts rest e = cc
 
 made-none : {A B : Type 0} (t : Bool) (make : A → B) (a : A) (ts : List Token) →
-    cond t (took a ts) missed ≡ missed → cond t (took (make a) ts) missed ≡ missed
+    cond t (taking a ts) missed ≡ missed → cond t (taking (make a) ts) missed ≡ missed
 made-none true make a ts e = cc
 made-none false make a ts e = refl
 
 -- the same of what may stand already
 module _ {A B : Type 0} (fits : A → Bool) (make : A → B) where
-  pub made-taken : (p : Taken A) (a : A) (rest : List Token) → made fits (λ b. b) p ≡ took a rest → made fits make p ≡ took (make a) rest
-  made-taken (took b ts) a rest e = made-of (fits b) make b a ts rest e
+  pub made-taken : (p : Taken A) (a : A) (rest : List Token) → made fits (λ b. b) p ≡ taking a rest → made fits make p ≡ taking (make a) rest
+  made-taken (taking b ts) a rest e = made-of (fits b) make b a ts rest e
   made-taken missed a rest e = cc
 
   pub made-untaken : (p : Taken A) → made fits (λ b. b) p ≡ missed → made fits make p ≡ missed
-  made-untaken (took b ts) e = made-none (fits b) make b ts e
+  made-untaken (taking b ts) e = made-none (fits b) make b ts e
   made-untaken missed e = refl
 
 -- what each key holds
@@ -117,13 +115,13 @@ module _ (s : List ℕ) (at key : ℕ) (h : Held) (p : Taken Value) where
   pub says-missed : p ≡ missed → h .ok ≡ false → HeldAnyway s at key h p
   says-missed e f numbers = rw e f
 
-  pub says-held : (v : Value) (next n from len : ℕ) → p ≡ took v (tokens (drop next s)) → h ≡ heldWhole next n from len →
-      at < next → next ≤ length s → ((numbers : List ℕ) → Holds s numbers key n from len v) → HeldAnyway s at key h p
+  pub says-held : (v : Value) (next n from len : ℕ) → p ≡ taking v (tokens (drop next s)) → h ≡ heldWhole next n from len →
+      at < next → next ≤ length s → ((numbers : List ℕ) → HoldsValue s numbers key n from len v) → HeldAnyway s at key h p
   says-held v next n from len e f low high holds numbers = rw (e, f) (refl, refl, (low, high), holds numbers)
 
 -- what is kept of a value, by its key
 module _ (s numbers : List ℕ) (key n from len : ℕ) (v : Value) where
-  pub holds-letters : key ≡ idPlace → asLetters v ≡ take len (drop from s) → len ≤ idLength → from + len ≤ length s → Holds s numbers key n from len v
+  pub holds-letters : key ≡ idPlace → asLetters v ≡ take len (drop from s) → len ≤ idLength → from + len ≤ length s → HoldsValue s numbers key n from len v
   holds-letters e kept short inside = record {
     letters = λ k. (kept, short, inside);
     single = λ h. let bounds = single-key key h in absurd (omega arith);
@@ -131,7 +129,7 @@ module _ (s numbers : List ℕ) (key n from len : ℕ) (v : Value) where
     flags = λ k. absurd (omega arith);
   }
 
-  pub holds-figure : eqb key actorPlace || eqb key kindPlace ≡ true → asFigure v ≡ n → Holds s numbers key n from len v
+  pub holds-figure : eqb key actorPlace || eqb key kindPlace ≡ true → asFigure v ≡ n → HoldsValue s numbers key n from len v
   holds-figure h kept =
       let bounds = single-key key h in
       record {
@@ -142,7 +140,7 @@ module _ (s numbers : List ℕ) (key n from len : ℕ) (v : Value) where
       }
 
   pub holds-list : readPlace ≤ key → key ≤ executePlace → asFigures v ≡ take len (drop (blockOf key) numbers) → len ≤ useLimit →
-      Holds s numbers key n from len v
+      HoldsValue s numbers key n from len v
   holds-list low high kept short = record {
     letters = λ k. absurd (omega arith);
     single = λ h. let bounds = single-key key h in absurd (omega arith);
@@ -150,7 +148,7 @@ module _ (s numbers : List ℕ) (key n from len : ℕ) (v : Value) where
     flags = λ k. absurd (omega arith);
   }
 
-  pub holds-flags : key ≡ flagsPlace → flagsOf (asSettings v) ≡ n → Holds s numbers key n from len v
+  pub holds-flags : key ≡ flagsPlace → flagsOf (asSettings v) ≡ n → HoldsValue s numbers key n from len v
   holds-flags e kept = record {
     letters = λ k. absurd (omega arith);
     single = λ h. let bounds = single-key key h in absurd (omega arith);
@@ -159,7 +157,7 @@ module _ (s numbers : List ℕ) (key n from len : ℕ) (v : Value) where
   }
 
   -- nothing is kept of the trust domain and the depth
-  pub holds-nothing : domainPlace ≤ key → Holds s numbers key n from len v
+  pub holds-nothing : domainPlace ≤ key → HoldsValue s numbers key n from len v
   holds-nothing low = record {
     letters = λ k. absurd (omega arith);
     single = λ h. let bounds = single-key key h in absurd (omega arith);
@@ -174,13 +172,13 @@ id-short x h = leb-true (length x) idLength (and-left (leb (length x) idLength) 
 
 -- what a text is to the keys that hold one
 module _ (key : ℕ) (ts : List Token) (x : List ℕ) (rest : List Token) (e : ts ≡ text x ∷ rest) where
-  pub id-took : key ≡ idPlace → isIdText x ≡ true → takeValue key ts ≡ took (letters x) rest
+  pub id-took : key ≡ idPlace → isIdText x ≡ true → takeValue key ts ≡ taking (letters x) rest
   id-took k h = rw k (value-id ts ∙ made-took isIdText letters (takeText ts) x rest (rw e) h)
 
   pub id-unfit : key ≡ idPlace → isIdText x ≡ false → takeValue key ts ≡ missed
   id-unfit k h = rw k (value-id ts ∙ made-unfit isIdText letters (takeText ts) x rest (rw e) h)
 
-  pub kind-took : key ≡ kindPlace → placeOf kindNames x < rightCount → takeValue key ts ≡ took (figure (placeOf kindNames x)) rest
+  pub kind-took : key ≡ kindPlace → placeOf kindNames x < rightCount → takeValue key ts ≡ taking (figure (placeOf kindNames x)) rest
   kind-took k h =
       rw k (value-kind ts ∙ made-took (λ y. ltb (placeOf kindNames y) rightCount) (λ y. figure (placeOf kindNames y)) (takeText ts) x rest (rw e)
       (lt-ltb (placeOf kindNames x) rightCount h))
@@ -190,7 +188,7 @@ module _ (key : ℕ) (ts : List Token) (x : List ℕ) (rest : List Token) (e : t
       rw k (value-kind ts ∙ made-unfit (λ y. ltb (placeOf kindNames y) rightCount) (λ y. figure (placeOf kindNames y)) (takeText ts) x rest (rw e)
       (le-ltb (placeOf kindNames x) rightCount h))
 
-  pub domain-took : key ≡ domainPlace → same defaultDomain x ≡ true → takeValue key ts ≡ took (letters x) rest
+  pub domain-took : key ≡ domainPlace → same defaultDomain x ≡ true → takeValue key ts ≡ taking (letters x) rest
   domain-took k h = rw k (value-domain ts ∙ made-took (same defaultDomain) letters (takeText ts) x rest (rw e) h)
 
   pub domain-unfit : key ≡ domainPlace → same defaultDomain x ≡ false → takeValue key ts ≡ missed
@@ -208,13 +206,13 @@ no-text-held key ts h e =
 
 -- what the keys hold whose code answers a number
 module _ (key : ℕ) (ts rest : List Token) where
-  pub actor-took : (n : ℕ) → key ≡ actorPlace → takeNumber ts ≡ took n rest → takeValue key ts ≡ took (figure n) rest
+  pub actor-took : (n : ℕ) → key ≡ actorPlace → takeNumber ts ≡ taking n rest → takeValue key ts ≡ taking (figure n) rest
   actor-took n k e = rw k (value-actor ts ∙ made-took (λ m. true) figure (takeNumber ts) n rest e refl)
 
-  pub flags-took : (ss : List Setting) → key ≡ flagsPlace → takeSettings ts ≡ took ss rest → takeValue key ts ≡ took (settings ss) rest
+  pub flags-took : (ss : List Setting) → key ≡ flagsPlace → takeSettings ts ≡ taking ss rest → takeValue key ts ≡ taking (settings ss) rest
   flags-took ss k e = rw k (value-flags ts ∙ made-took (λ us. true) settings (takeSettings ts) ss rest e refl)
 
-  pub depth-took : key ≡ depthPlace → ts ≡ mark zeroMark ∷ rest → takeValue key ts ≡ took (figure 0) rest
+  pub depth-took : key ≡ depthPlace → ts ≡ mark zeroMark ∷ rest → takeValue key ts ≡ taking (figure 0) rest
   depth-took k e = rw k (value-depth ts ∙ rw e)
 
 module _ (key : ℕ) (ts : List Token) where
@@ -225,11 +223,11 @@ module _ (key : ℕ) (ts : List Token) where
   flags-missed k e = rw k (value-flags ts ∙ made-missed (λ us. true) settings (takeSettings ts) e)
 
   pub depth-missed : key ≡ depthPlace → isMarked zeroMark ts ≡ false → takeValue key ts ≡ missed
-  depth-missed k h = rw k (value-depth ts ∙ past-unmarked zeroMark (λ more. took (figure 0) more) ts h)
+  depth-missed k h = rw k (value-depth ts ∙ past-unmarked zeroMark (λ more. taking (figure 0) more) ts h)
 
 -- the numbers of a list in their own places: what its key holds, and the other lists as they were
 module _ (s old new : List ℕ) (at key : ℕ) (low : readPlace ≤ key) (high : key ≤ executePlace) (room : length old ≡ listRoom) where
-  pub list-held : (ns : List ℕ) (len next : ℕ) → limited (takeNumbers (tokens (drop at s))) ≡ took ns (tokens (drop next s)) → len ≡ length ns →
+  pub list-held : (ns : List ℕ) (len next : ℕ) → limited (takeNumbers (tokens (drop at s))) ≡ taking ns (tokens (drop next s)) → len ≡ length ns →
       len ≤ useLimit → new ≡ splice (blockOf key) ns old → Behind s at next →
       HeldSays s at key new (heldWhole next 0 (blockOf key) len) (takeValue key (tokens (drop at s)))
   list-held ns len next e long short written behind =

@@ -8,7 +8,7 @@ use lib.ListN.{drop}
 use Rattle.lists.specs.Tests.{cases, clash}
 use Rattle.lists.specs.Each.{cons-clash}
 use Rattle.json_tokens.specs.Tokens.{Token, mark, text, noToken, opensObject, closesObject, tokens}
-use Rattle.json_actions.specs.Members.{Member, Taken, took, missed, past, ledBy, anyItems, takeMember, sole, membersOf}
+use Rattle.json_actions.specs.Members.{Member, Taken, taking, missed, past, ledBy, anyItems, takeMember, sole, membersOf}
 use Rattle.json_actions.specs.Items.{taken-cases, missed-took}
 use Rattle.json_reading.specs.Answers.{isMarked, admitted, admittedWhole, DraftSays}
 use Rattle.json_reading.specs.declared.Draft.{Draft}
@@ -20,7 +20,7 @@ anyMembers ts = anyItems takeMember closesObject ts
 
 -- they are the members up to the closing brace, unless there are none
 any-members : {A : Type 0} (ts : List Token) → (anyMembers ts ≡ membersIn ts → A)
-    → ((rest : List Token) → membersIn ts ≡ missed → anyMembers ts ≡ took [] rest → A) → A
+    → ((rest : List Token) → membersIn ts ≡ missed → anyMembers ts ≡ taking [] rest → A) → A
 unfolding takeMember
 any-members [] same none = same (sym (members-missed [] refl))
 any-members (mark b ∷ ts) same none =
@@ -29,7 +29,7 @@ any-members (text x ∷ ts) same none = same refl
 any-members (noToken ∷ ts) same none = same (sym (members-missed (noToken ∷ ts) refl))
 
 led-admitted : (m : Member) (x : Taken (List Member)) → admittedWhole (ledBy m x) ≡ admitted (ledBy m x)
-led-admitted m (took l ts) = refl
+led-admitted m (taking l ts) = refl
 led-admitted m missed = refl
 
 members-admitted : (ts : List Token) → admittedWhole (membersIn ts) ≡ admitted (membersIn ts)
@@ -56,8 +56,8 @@ any-whole {d = d} ts h = (
 -- nothing follows
 sole-ended : {s numbers : List ℕ} (d : Draft) (p : Taken (List Member)) → Whole s numbers d p → tokens (drop (d .next) s) ≡ []
     → Whole s numbers d (sole p)
-sole-ended d (took ms []) h ended = h
-sole-ended d (took ms (k ∷ ts)) h ended = (
+sole-ended d (taking ms []) h ended = h
+sole-ended d (taking ms (k ∷ ts)) h ended = (
   cases (d .ok) (λ whole. cons-clash (h .1 ms (k ∷ ts) refl whole .next ∙ ended)) (λ failed. failed),
   λ ls rest e. missed-took e,
 )
@@ -66,13 +66,13 @@ sole-ended d missed h ended = h
 -- something follows
 sole-followed : {s numbers : List ℕ} (d : Draft) (p : Taken (List Member)) (k : Token) (ts : List Token) (e : Draft) → Whole s numbers d p
     → tokens (drop (d .next) s) ≡ k ∷ ts → e .ok ≡ false → Whole s numbers e (sole p)
-sole-followed d (took ms []) k ts e h follows failed = (
-  cases (admittedWhole (took ms []))
+sole-followed d (taking ms []) k ts e h follows failed = (
+  cases (admittedWhole (taking ms []))
       (λ yes. cons-clash (sym follows ∙ sym (h .1 ms [] refl (h .0 ∙ yes) .next)))
       (λ none. failed ∙ sym none),
   λ ls rest told whole. clash (e .ok) whole failed,
 )
-sole-followed d (took ms (l ∷ us)) k ts e h follows failed = (failed, λ ls rest told whole. clash (e .ok) whole failed)
+sole-followed d (taking ms (l ∷ us)) k ts e h follows failed = (failed, λ ls rest told whole. clash (e .ok) whole failed)
 sole-followed d missed k ts e h follows failed = (failed, λ ls rest told whole. clash (e .ok) whole failed)
 
 unmarked : {A : Type 0} (b : ℕ) (more : List Token → Taken A) (ts : List Token) → isMarked b ts ≡ false → past b more ts ≡ missed

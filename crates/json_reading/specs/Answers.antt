@@ -17,7 +17,7 @@ use Rattle.actions.specs.declared.Usage.{Usage}
 use Rattle.texts.specs.Actions.{noUse}
 use Rattle.json_tokens.specs.Tokens.{Token, mark, text, noToken, comma, tokens}
 use Rattle.json_actions.specs.Names.{keyNames, keyCount, idPlace, actorPlace, kindPlace, readPlace, writePlace, executePlace, flagsPlace, domainPlace, depthPlace}
-use Rattle.json_actions.specs.Members.{Setting, Value, Member, Taken, took, missed, made, named, takeText, isExact, exactOf, isFullSet, idLength}
+use Rattle.json_actions.specs.Members.{Setting, Value, Member, Taken, taking, missed, made, named, takeText, isExact, exactOf, isFullSet, idLength}
 use Rattle.json_actions.specs.Actions.{asLetters, asFigure, asFigures, asSettings, flagsOf, usedWith}
 use Rattle.json_reading.specs.declared.Exact.{Exact}
 use Rattle.json_reading.specs.declared.Exact.the-variants.{Is, Not}
@@ -48,7 +48,7 @@ abbrev pub Behind : List ℕ → ℕ → ℕ → Type 0
 Behind s at next = (at < next) × (next ≤ length s)
 
 abbrev pub NumberSays : List ℕ → ℕ → NumberAt → Taken ℕ → Type 0
-NumberSays s at (NumberIs n next) p = (p ≡ took n (tokens (drop next s))) × Behind s at next
+NumberSays s at (NumberIs n next) p = (p ≡ taking n (tokens (drop next s))) × Behind s at next
 NumberSays s at NoNumber p = p ≡ missed
 
 -- what follows an item: a comma, with the tokens behind it; the closing mark; or neither
@@ -86,12 +86,12 @@ limited p = made (λ ns. leb (length ns) useLimit) (λ ns. ns) p
 -- the numbers of a list, which stand in the array from `base` on
 abbrev pub NumbersSays : List ℕ → ℕ → ℕ → List ℕ → List ℕ → Numbers → Taken (List ℕ) → Type 0
 NumbersSays s at base old new (Are count next) p =
-    (ns : List ℕ) × (p ≡ took ns (tokens (drop next s))) × (count ≡ length ns) × (count ≤ useLimit) × (new ≡ splice base ns old) × Behind s at next
+    (ns : List ℕ) × (p ≡ taking ns (tokens (drop next s))) × (count ≡ length ns) × (count ≤ useLimit) × (new ≡ splice base ns old) × Behind s at next
 NumbersSays s at base old new NoNumbers p = p ≡ missed
 
 abbrev pub SettingSays : List ℕ → ℕ → SettingAt → Taken Setting → Type 0
 SettingSays s at (SettingIs flag on next) p =
-    (p ≡ took (record { flag = flag; set = on }) (tokens (drop next s))) × (flag < flagCount) × Behind s at next
+    (p ≡ taking (record { flag = flag; set = on }) (tokens (drop next s))) × (flag < flagCount) × Behind s at next
 SettingSays s at NoSetting p = p ≡ missed
 
 -- the flags' number, by whether each was seen and is set
@@ -108,15 +108,15 @@ fullSet p = made isFullSet (λ ss. ss) p
 
 abbrev pub SettingsSays : List ℕ → ℕ → Settings → Taken (List Setting) → Type 0
 SettingsSays s at (SettingsAre flags next) p =
-    (ss : List Setting) × (p ≡ took ss (tokens (drop next s))) × (flags ≡ flagsOf ss) × Behind s at next
+    (ss : List Setting) × (p ≡ taking ss (tokens (drop next s))) × (flags ≡ flagsOf ss) × Behind s at next
 SettingsSays s at NoSettings p = p ≡ missed
 
 -- a key by its place, and its colon
 abbrev pub keyOf : List Token → Taken ℕ
-keyOf ts = named keyNames (λ k rest. took k rest) (takeText ts)
+keyOf ts = named keyNames (λ k rest. taking k rest) (takeText ts)
 
 abbrev pub NamedSays : List ℕ → ℕ → Named → Taken ℕ → Type 0
-NamedSays s at (NamedAt key next) p = (p ≡ took key (tokens (drop next s))) × Behind s at next
+NamedSays s at (NamedAt key next) p = (p ≡ taking key (tokens (drop next s))) × Behind s at next
 NamedSays s at NotNamed p = p ≡ missed
 
 -- the keys that hold a text, and those whose code answers a number
@@ -134,7 +134,7 @@ abbrev pub listRoom : ℕ
 listRoom = 96
 
 -- what a key holds, by the numbers that the code keeps of it
-pub record Holds (s numbers : List ℕ) (key figure from len : ℕ) (v : Value) : Type 0 where
+pub record HoldsValue (s numbers : List ℕ) (key figure from len : ℕ) (v : Value) : Type 0 where
   pub letters : key ≡ idPlace → (asLetters v ≡ take len (drop from s)) × (len ≤ idLength) × (from + len ≤ length s)
   pub single : eqb key actorPlace || eqb key kindPlace ≡ true → asFigure v ≡ figure
   pub several : readPlace ≤ key → key ≤ executePlace → (asFigures v ≡ take len (drop (blockOf key) numbers)) × (len ≤ useLimit)
@@ -144,8 +144,8 @@ abbrev pub heldWhole : ℕ → ℕ → ℕ → ℕ → Held
 heldWhole next figure from len = record { ok = true; next = next; figure = figure; from = from; len = len }
 
 abbrev pub HeldSays : List ℕ → ℕ → ℕ → List ℕ → Held → Taken Value → Type 0
-HeldSays s at key numbers h (took v rest) =
-    (h .ok ≡ true) × (rest ≡ tokens (drop (h .next) s)) × Behind s at (h .next) × Holds s numbers key (h .figure) (h .from) (h .len) v
+HeldSays s at key numbers h (taking v rest) =
+    (h .ok ≡ true) × (rest ≡ tokens (drop (h .next) s)) × Behind s at (h .next) × HoldsValue s numbers key (h .figure) (h .from) (h .len) v
 HeldSays s at key numbers h missed = h .ok ≡ false
 
 -- the same whatever stands in the array: the key holds no list
@@ -165,28 +165,28 @@ abbrev pub keysOf : List Member → List ℕ
 keysOf ms = map (λ m. m .key) ms
 
 abbrev pub admitted : Taken (List Member) → Bool
-admitted (took ms ts) = distinct (keysOf ms)
+admitted (taking ms ts) = distinct (keysOf ms)
 admitted missed = false
 
 abbrev pub admittedWhole : Taken (List Member) → Bool
-admittedWhole (took [] ts) = false
-admittedWhole (took (m ∷ ms) ts) = distinct (keysOf (m ∷ ms))
+admittedWhole (taking [] ts) = false
+admittedWhole (taking (m ∷ ms) ts) = distinct (keysOf (m ∷ ms))
 admittedWhole missed = false
 
 -- what the code keeps of some members, by the places of their keys
-pub record Kept (s numbers : List ℕ) (ms : List Member) (seen : List Bool) (figures froms lens : List ℕ) : Type 0 where
+pub record KeptMembers (s numbers : List ℕ) (ms : List Member) (seen : List Bool) (figures froms lens : List ℕ) : Type 0 where
   pub marked : (k : ℕ) → k < keyCount → getD seen k false ≡ any (eqb k) (keysOf ms)
-  pub held : All (λ m. Holds s numbers (m .key) (getD figures (m .key) 0) (getD froms (m .key) 0) (getD lens (m .key) 0) (m .value)) ms
+  pub held : All (λ m. HoldsValue s numbers (m .key) (getD figures (m .key) 0) (getD froms (m .key) 0) (getD lens (m .key) 0) (m .value)) ms
   pub known : All (λ m. m .key < keyCount) ms
   pub once : distinct (keysOf ms) ≡ true
   pub short : (k : ℕ) → readPlace ≤ k → k ≤ executePlace → getD lens k 0 ≤ useLimit
 
 pub record Drafted (s numbers : List ℕ) (ms : List Member) (rest : List Token) (d : Draft) : Type 0 where
   pub next : rest ≡ tokens (drop (d .next) s)
-  pub kept : Kept s numbers ms (d .seen) (d .figures) (d .froms) (d .lens)
+  pub kept : KeptMembers s numbers ms (d .seen) (d .figures) (d .froms) (d .lens)
 
 abbrev pub DraftSays : List ℕ → List ℕ → Draft → Taken (List Member) → Type 0
-DraftSays s numbers d p = (ms : List Member) (rest : List Token) → p ≡ took ms rest → d .ok ≡ true → Drafted s numbers ms rest d
+DraftSays s numbers d p = (ms : List Member) (rest : List Token) → p ≡ taking ms rest → d .ok ≡ true → Drafted s numbers ms rest d
 
 -- the first seven keys were seen
 abbrev pub draftFull : List Bool → Bool

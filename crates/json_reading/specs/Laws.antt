@@ -8,7 +8,7 @@ use lib.Dec.{eqb}
 use borrow.Author.Tests.{eq-eqb, ne-eqb}
 use Rattle.lists.specs.Tests.{cases}
 use Rattle.json_tokens.specs.Tokens.{Token, mark, text, noToken, comma}
-use Rattle.json_actions.specs.Members.{Taken, took, missed, past, ledBy, separated, further, items, anyItems, takeNumber}
+use Rattle.json_actions.specs.Members.{Taken, taking, missed, past, ledBy, separated, further, items, anyItems, takeNumber}
 use Rattle.json_actions.specs.Items.{Shrinks, items-step, taken-cases, prefixed, prefixed-led}
 use Rattle.json_reading.specs.Answers.{Separation, more, done, broken, separation, isMarked}
 
@@ -35,7 +35,7 @@ separation-other close b ts other another = rw (ne-eqb b comma other, ne-eqb b c
 -- an item and what follows it
 abbrev pub continued : {A : Type 0} → (List Token → Taken (List A)) → A → Separation → Taken (List A)
 continued go a (more ts) = ledBy a (go ts)
-continued go a (done ts) = took (a ∷ []) ts
+continued go a (done ts) = taking (a ∷ []) ts
 continued go a broken = missed
 
 module _ {A : Type 0} (close : ℕ) (go : List Token → Taken (List A)) (a : A) where
@@ -48,14 +48,14 @@ module _ {A : Type 0} (close : ℕ) (go : List Token → Taken (List A)) (a : A)
   pub separated-more : (ts us : List Token) → separation close ts ≡ more us → separated close go a ts ≡ ledBy a (go us)
   separated-more ts us e = separated-natural ts ∙ ap (continued go a) e
 
-  pub separated-done : (ts us : List Token) → separation close ts ≡ done us → separated close go a ts ≡ took (a ∷ []) us
+  pub separated-done : (ts us : List Token) → separation close ts ≡ done us → separated close go a ts ≡ taking (a ∷ []) us
   separated-done ts us e = separated-natural ts ∙ ap (continued go a) e
 
   pub separated-broken : (ts : List Token) → separation close ts ≡ broken → separated close go a ts ≡ missed
   separated-broken ts e = separated-natural ts ∙ ap (continued go a) e
 
 -- a list that is closed at once is empty
-pub any-items-none : {A : Type 0} (item : List Token → Taken A) (close : ℕ) (us : List Token) → anyItems item close (mark close ∷ us) ≡ took [] us
+pub any-items-none : {A : Type 0} (item : List Token → Taken A) (close : ℕ) (us : List Token) → anyItems item close (mark close ∷ us) ≡ taking [] us
 any-items-none item close us = rw (eq-eqb close close refl)
 
 module _ {A : Type 0} (item : List Token → Taken A) (close : ℕ) (shrinks : Shrinks item) where
@@ -63,7 +63,7 @@ module _ {A : Type 0} (item : List Token → Taken A) (close : ℕ) (shrinks : S
   items-missed ts e = items-step item close shrinks ts ∙ ap (further close (items item close)) e
 
   -- what items follow those so far, by what follows the next one
-  module _ (l : List A) (a : A) (ts rest : List Token) (taken : item ts ≡ took a rest) where
+  module _ (l : List A) (a : A) (ts rest : List Token) (taken : item ts ≡ taking a rest) where
     items-taken : items item close ts ≡ separated close (items item close) a rest
     items-taken = items-step item close shrinks ts ∙ ap (further close (items item close)) taken
 
@@ -71,7 +71,7 @@ module _ {A : Type 0} (item : List Token → Taken A) (close : ℕ) (shrinks : S
         prefixed l (items item close ts) ≡ prefixed (l ++ (a ∷ [])) (items item close us)
     items-more us e = ap (prefixed l) (items-taken ∙ separated-more close (items item close) a rest us e) ∙ prefixed-led l a (items item close us)
 
-    pub items-done : (us : List Token) → separation close rest ≡ done us → prefixed l (items item close ts) ≡ took (l ++ (a ∷ [])) us
+    pub items-done : (us : List Token) → separation close rest ≡ done us → prefixed l (items item close ts) ≡ taking (l ++ (a ∷ [])) us
     unfolding prefixed
     items-done us e = ap (prefixed l) (items-taken ∙ separated-done close (items item close) a rest us e)
 

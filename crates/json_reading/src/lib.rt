@@ -17,8 +17,6 @@ ghost use Rattle.json_reading.specs.Answers.{flagsFound, fullSet, Settin
 ghost use Rattle.json_reading.specs.Answers.{admitted, admittedWhole, DraftSays, draftFull, usesFrom};
 use actions::Action;
 use actions::Usage;
-use changes::Outcome;
-use changes::Refusal;
 use decimals::Number;
 use json_actions::ID_BYTES;
 use json_actions::JsonRead;
@@ -32,6 +30,8 @@ use json_tokens::OPENS_OBJECT;
 use json_tokens::TRUE;
 use json_tokens::TokenAt;
 use json_tokens::ZERO;
+use refusals::Outcome;
+use refusals::Refusal;
 use register::ID_LIMIT;
 use register::MOMENT_END;
 

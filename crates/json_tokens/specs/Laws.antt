@@ -8,11 +8,11 @@ use lib.Dec.{eqb}
 use lib.ListN.{length, take, drop, length-drop}
 use Rattle.lists.specs.Tests.{cases}
 use Rattle.paths.specs.Containment.{same}
-use Rattle.json_tokens.specs.Tokens.{Token, mark, noToken, First, first, exhausted, isBlank, isMark, quote, trueWord, falseWord, trueMark, falseMark}
+use Rattle.json_tokens.specs.Tokens.{Token, mark, noToken, FirstToken, first, exhausted, isBlank, isMark, quote, trueWord, falseWord, trueMark, falseMark}
 use Rattle.json_tokens.specs.Tokens.{unblanked, quoted, closing, quoteClosed, leading, tokensWith, tokens}
 
 -- a first token taken apart, with its equation
-pub first-cases : {A : Type 0} (f : First) → ((k : Token) (rest : List ℕ) → f ≡ first k rest → A) → (f ≡ exhausted → A) → A
+pub first-cases : {A : Type 0} (f : FirstToken) → ((k : Token) (rest : List ℕ) → f ≡ first k rest → A) → (f ≡ exhausted → A) → A
 first-cases (first k rest) some none = some k rest refl
 first-cases exhausted some none = none refl
 
@@ -38,7 +38,7 @@ quoteClosed-rest k rest inside [] e = omega (arith, first-rest [] rest e)
 quoteClosed-rest k rest inside (q ∷ t) e = omega (arith, first-rest t rest e)
 
 -- which of four answers is given
-one-of : (P : First → Type 0) (m q w v : Bool) (a b c d e : First) → P a → P b → P c → P d → P e → P (cond m a (cond q b (cond w c (cond v d e))))
+one-of : (P : FirstToken → Type 0) (m q w v : Bool) (a b c d e : FirstToken) → P a → P b → P c → P d → P e → P (cond m a (cond q b (cond w c (cond v d e))))
 one-of P true q w v a b c d e ha hb hc hd he = ha
 one-of P false true w v a b c d e ha hb hc hd he = hb
 one-of P false false true v a b c d e ha hb hc hd he = hc

@@ -77,17 +77,17 @@ closing [] = []
 closing (b ∷ t) = cond (eqb b quote) (b ∷ t) (closing t)
 
 -- the first token of a text, with what follows it; or the text's end
-pub data First : Type 0 where
-  first : Token → List ℕ → First
-  exhausted : First
+pub data FirstToken : Type 0 where
+  first : Token → List ℕ → FirstToken
+  exhausted : FirstToken
 
 -- a text in quotes ends with a quote
-abbrev pub quoteClosed : List ℕ → List ℕ → First
+abbrev pub quoteClosed : List ℕ → List ℕ → FirstToken
 quoteClosed inside [] = first noToken []
 quoteClosed inside (q ∷ t) = first (text inside) t
 
 -- the first token of a text that begins with no blank
-unfoldable pub leading : List ℕ → First
+unfoldable pub leading : List ℕ → FirstToken
 leading [] = exhausted
 leading (b ∷ t) =
     cond (isMark b) (first (mark b) t)
@@ -96,14 +96,14 @@ leading (b ∷ t) =
     (cond (same falseWord (take 5 (b ∷ t))) (first (mark falseMark) (drop 5 (b ∷ t))) (first noToken []))))
 
 -- a token, and those of what follows it
-abbrev pub followed : (List ℕ → List Token) → First → List Token
-followed more (first k t) = k ∷ more t
-followed more exhausted = []
+abbrev pub withRest : (List ℕ → List Token) → FirstToken → List Token
+withRest more (first k t) = k ∷ more t
+withRest more exhausted = []
 
 -- the tokens of a text, with fuel
 unfoldable pub tokensWith : ℕ → List ℕ → List Token
 tokensWith zero t = []
-tokensWith (suc f) t = followed (tokensWith f) (leading (unblanked t))
+tokensWith (suc f) t = withRest (tokensWith f) (leading (unblanked t))
 
 -- the tokens of a text: each takes a byte at least
 unfoldable pub tokens : List ℕ → List Token

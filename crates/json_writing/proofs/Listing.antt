@@ -9,11 +9,11 @@ use Rattle.lists.specs.Loops.{drop-at}
 use Rattle.lists.specs.Splices.{splice}
 use Rattle.actions.specs.declared.Usage.{Usage}
 use Rattle.sheets.specs.Laws.{Writing, writing-room, writing-next, writing-done}
-use Rattle.json_writing.specs.Pieces.{resourceText, resourcesFrom, resourcesText}
+use Rattle.json_writing.specs.Pieces.{resourceEntry, resourcesFrom, resourcesText}
 
 -- of some uses the first is written, or passed over
 resources-taken : (first : Bool) (b : ℕ) (u : Usage) (us : List Usage) → u .right ≡ b
-    → resourcesFrom first b (u ∷ us) ≡ resourceText first (u .resource) ++ resourcesFrom false b us
+    → resourcesFrom first b (u ∷ us) ≡ resourceEntry first (u .resource) ++ resourcesFrom false b us
 unfolding resourcesFrom
 resources-taken first b u us same = rw (eq-eqb (u .right) b same)
 
@@ -35,7 +35,7 @@ module _ (b k : ℕ) (uses : List Usage) where
 
     listing-taken : getD uses i none .right ≡ b
         → Writing at (resourcesText b (take k uses)) old
-        (resourceText first (getD uses i none .resource) ++ resourcesFrom false b (drop (i + 1) (take k uses))) end new
+        (resourceEntry first (getD uses i none .resource) ++ resourcesFrom false b (drop (i + 1) (take k uses))) end new
     listing-taken same = listing-rest (resources-taken first b (getD uses i none) (drop (i + 1) (take k uses)) same)
 
     -- a use with another right is passed over
@@ -44,15 +44,15 @@ module _ (b k : ℕ) (uses : List Usage) where
 
     module _ (room : at + length (resourcesText b (take k uses)) ≤ length old) (same : getD uses i none .right ≡ b) where
       -- the next resource fits
-      pub listing-room : end + length (resourceText first (getD uses i none .resource)) ≤ length new
+      pub listing-room : end + length (resourceEntry first (getD uses i none .resource)) ≤ length new
       listing-room =
-          writing-room (resourceText first (getD uses i none .resource)) (resourcesFrom false b (drop (i + 1) (take k uses))) room (listing-taken same)
+          writing-room (resourceEntry first (getD uses i none .resource)) (resourcesFrom false b (drop (i + 1) (take k uses))) room (listing-taken same)
 
       -- the next resource is written
-      pub listing-next : {next : ℕ} {then : List ℕ} → next ≡ end + length (resourceText first (getD uses i none .resource))
-          → then ≡ splice end (resourceText first (getD uses i none .resource)) new → Listing at old false (i + 1) next then
+      pub listing-next : {next : ℕ} {then : List ℕ} → next ≡ end + length (resourceEntry first (getD uses i none .resource))
+          → then ≡ splice end (resourceEntry first (getD uses i none .resource)) new → Listing at old false (i + 1) next then
       listing-next place written =
-          writing-next (resourceText first (getD uses i none .resource)) (resourcesFrom false b (drop (i + 1) (take k uses))) room (listing-taken same)
+          writing-next (resourceEntry first (getD uses i none .resource)) (resourcesFrom false b (drop (i + 1) (take k uses))) room (listing-taken same)
           place written
 
   -- behind the last use nothing is left

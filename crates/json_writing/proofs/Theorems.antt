@@ -4,8 +4,8 @@ use mathlib.Core.Path.{_≡_}
 use mathlib.Core.List.{List}
 use mathlib.Core.Bool.{true}
 use lib.ListN.{length}
-use Rattle.changes.specs.declared.Outcome.the-variants.{Refused}
-use Rattle.changes.specs.declared.Refusal.{Refusal}
+use Rattle.refusals.specs.declared.Outcome.the-variants.{Refused}
+use Rattle.refusals.specs.declared.Refusal.{Refusal}
 use Rattle.actions.specs.declared.Action.{Action}
 use Rattle.json_actions.specs.Actions.{jsonText, jsonFits, jsonWritten, jsonBuffer}
 use Rattle.json_writing.specs.Laws as laws

@@ -8,9 +8,9 @@ use borrow.Author.Tests.{leb-false}
 use lib.Dec.{leb}
 use lib.ListN.{length}
 use Rattle.lists.specs.Tests.{cases}
-use Rattle.changes.specs.declared.Outcome.the-variants.{Refused}
-use Rattle.changes.specs.declared.Refusal.{Refusal}
-use Rattle.changes.specs.declared.Refusal.the-variants.{OutOfRange, BeyondJson}
+use Rattle.refusals.specs.declared.Outcome.the-variants.{Refused}
+use Rattle.refusals.specs.declared.Refusal.{Refusal}
+use Rattle.refusals.specs.declared.Refusal.the-variants.{OutOfRange, BeyondJson}
 use Rattle.actions.specs.declared.Action.{Action}
 use Rattle.sheets.specs.Sheets.{put}
 use Rattle.sheets.specs.Laws.{put-short}

@@ -27,7 +27,7 @@ use Rattle.json_actions.specs.Names.{idPlace, actorPlace, kindPlace, readPlace,
 use Rattle.json_actions.specs.Members.{Value, letters, figure, figures, settings, isIdText, isIdByte, idLength}
 use Rattle.json_actions.specs.Actions.{resourcesWith, isSet, settingsFrom, commaed, settingTokens, numberTokens, valueTokens, memberTokens, objectTokens}
 use Rattle.json_actions.specs.Actions.{membersFrom, jsonText, jsonFits, jsonLimit}
-use Rattle.json_writing.specs.Pieces.{nameText, kindText, resourceText, resourcesFrom, resourcesText, settingText, flagText, flagsFrom, flagsText}
+use Rattle.json_writing.specs.Pieces.{nameText, kindText, resourceEntry, resourcesFrom, resourcesText, settingText, flagText, flagsFrom, flagsText}
 use Rattle.json_writing.specs.Pieces.{headText, tailText}
 
 -- The text of the form.
@@ -93,8 +93,8 @@ flags-joined flags =
 
 -- a resource's number, behind a comma or not
 resource-joined : (first : Bool) (n : ℕ) (rest : List ℕ)
-    → cond first [] (comma ∷ []) ++ (spelledAll (text (digits n) ∷ []) ++ rest) ≡ resourceText first n ++ rest
-unfolding resourceText
+    → cond first [] (comma ∷ []) ++ (spelledAll (text (digits n) ∷ []) ++ rest) ≡ resourceEntry first n ++ rest
+unfolding resourceEntry
 resource-joined true n rest = rw (text-spelled (digits n))
 resource-joined false n rest = rw (text-spelled (digits n))
 
@@ -208,8 +208,8 @@ taken-most (u ∷ us) =
     (λ n. rw n (cases (eqb (u .right) 2) (λ e. rw e (omega arith)) (λ n. rw n (omega arith))))))
 
 -- a resource's number takes 8 bytes at most, the first one of a list 7
-resource-length : (first : Bool) (n : ℕ) → n ≤ idLimit → length (resourceText first n) ≤ cond first 7 8
-unfolding resourceText
+resource-length : (first : Bool) (n : ℕ) → n ≤ idLimit → length (resourceEntry first n) ≤ cond first 7 8
+unfolding resourceEntry
 resource-length true n h = omega (arith, length-append (digits n) (quote ∷ []), length-under 4 n (omega arith))
 resource-length false n h = omega (arith, length-append (digits n) (quote ∷ []), length-under 4 n (omega arith))
 
@@ -224,7 +224,7 @@ resources-behind-length b (u ∷ us) h =
     let more = resources-behind-length b us (and-right (useFits u) (every useFits us) h) in
     let small = leb-true (u .resource) idLimit (and-left (leb (u .resource) idLimit) (isRight (u .right)) (and-left (useFits u) (every useFits us) h)) in
     cases (eqb (u .right) b)
-    (λ e. rw e (omega (arith, length-append (resourceText false (u .resource)) (resourcesFrom false b us), resource-length false (u .resource) small)))
+    (λ e. rw e (omega (arith, length-append (resourceEntry false (u .resource)) (resourcesFrom false b us), resource-length false (u .resource) small)))
     (λ e. rw e more)
 
 resources-length : (b : ℕ) (us : List Usage) → every useFits us ≡ true → length (resourcesText b us) ≤ 8 * length (resourcesWith b us) - 1
@@ -236,7 +236,7 @@ resources-length b (u ∷ us) h =
     let more = resources-length b us fit in
     let small = leb-true (u .resource) idLimit (and-left (leb (u .resource) idLimit) (isRight (u .right)) (and-left (useFits u) (every useFits us) h)) in
     cases (eqb (u .right) b)
-    (λ e. rw e (omega (arith, length-append (resourceText true (u .resource)) (resourcesFrom false b us), resource-length true (u .resource) small)))
+    (λ e. rw e (omega (arith, length-append (resourceEntry true (u .resource)) (resourcesFrom false b us), resource-length true (u .resource) small)))
     (λ e. rw e more)
 
 word-length : (b : Bool) → length (cond b trueWord falseWord) ≤ 5

@@ -31,14 +31,14 @@ abbrev pub openingText : Bool → List ℕ
 openingText first = cond first (quote ∷ []) (comma ∷ quote ∷ [])
 
 -- a resource's number in quotes
-unfoldable pub resourceText : Bool → ℕ → List ℕ
-resourceText first n = openingText first ++ (digits n ++ (quote ∷ []))
+unfoldable pub resourceEntry : Bool → ℕ → List ℕ
+resourceEntry first n = openingText first ++ (digits n ++ (quote ∷ []))
 
 -- the resources used with a right, the first of them with or without a comma
 unfoldable pub resourcesFrom : Bool → ℕ → List Usage → List ℕ
 resourcesFrom first b [] = []
 resourcesFrom first b (u ∷ us) =
-    let taken = resourceText first (u .resource) ++ resourcesFrom false b us in
+    let taken = resourceEntry first (u .resource) ++ resourcesFrom false b us in
     let more = resourcesFrom first b us in
     cond (eqb (u .right) b) taken more
 

@@ -8,11 +8,11 @@ ghost use Rattle.sheets.specs.Sheets.{put, behind};
 ghost use Rattle.actions.specs.Actions.{usesOf};
 ghost use Rattle.writing.specs.Writing.{unwritten};
 ghost use Rattle.json_actions.specs.Actions.{jsonHolds, jsonWritten, jsonBuffer};
-ghost use Rattle.json_writing.specs.Pieces.{kindText, openingText, resourceText, resourcesText, settingText, flagsText, headText, tailText};
+ghost use Rattle.json_writing.specs.Pieces.{kindText, openingText, resourcesText, settingText, flagsText, headText, tailText, resourceEntry};
 use actions::Action;
-use changes::Outcome;
-use changes::Refusal;
 use json_actions::JSON_TEXT;
+use refusals::Outcome;
+use refusals::Refusal;
 use texts::Written;
 
 // Whether the form has a place for all of the action: no right above 2, nothing governed.
@@ -76,9 +76,9 @@ fn put_opening(buf: &mut [u8], at: usize, first: bool) -> usize
 // Puts a resource's number in quotes into the buffer at `at`, with a comma before it where it is not the first, and answers the position
 // behind it.
 fn put_resource(buf: &mut [u8], at: usize, first: bool, resource: u32) -> usize
-    requires { ⌜ at + length (resourceText first resource) ≤ length (now buf) ⌝ }
-    ensures behind { λ r. ⌜ r ≡ at + length (resourceText first resource) ⌝ }
-    ensures written { λ _. ⌜ now (buf .exit) ≡ splice at (resourceText first resource) (now (buf .entry)) ⌝ }
+    requires { ⌜ at + length (resourceEntry first resource) ≤ length (now buf) ⌝ }
+    ensures behind { λ r. ⌜ r ≡ at + length (resourceEntry first resource) ⌝ }
+    ensures written { λ _. ⌜ now (buf .exit) ≡ splice at (resourceEntry first resource) (now (buf .entry)) ⌝ }
 {
     let number_at = put_opening(buf, at, first);
     let end = sheets::put_number(buf, number_at, resource as u64);

@@ -2,8 +2,8 @@
 use mathlib.Core.Path.{_≡_, refl}
 use mathlib.Core.Bool.{true, false}
 use mathlib.Core.List.{[], _∷_}
-use Rattle.decimals.specs.Decimals.{digitsWith, digits, run, after, value, canonical, parse}
-use Rattle.lines.specs.Lines.{line, over, fault, begins, ended, parseLimited, atLeast, parseDecimal, decimalLine}
+use Rattle.decimals.specs.Decimals.{digitsWith, digits, digitRun, after, value, canonical, parse}
+use Rattle.lines.specs.Lines.{line, beyond, fault, begins, ended, parseLimited, atLeast, parseDecimal, decimalLine}
 use Rattle.lines.specs.Lines.{parseKind, humanLine, machineLine, pathOn, parseScope}
 use Rattle.lines.specs.Reading.{going, failed, number, count, kind, readForm, closed, stateOf}
 
@@ -16,18 +16,18 @@ begins-cases = (refl, refl, refl)
 decimal-yes :
     (parseDecimal (110 ∷ 61 ∷ []) 1 64 (110 ∷ 61 ∷ 55 ∷ 10 ∷ 120 ∷ []) ≡ line 7 (120 ∷ []))
     × (parseDecimal (110 ∷ 61 ∷ []) 1 64 (110 ∷ 61 ∷ 49 ∷ 50 ∷ 10 ∷ []) ≡ line 12 [])
-unfolding begins parseLimited atLeast ended parse canonical run after value
+unfolding begins parseLimited atLeast ended parse canonical digitRun after value
 decimal-yes = (refl, refl)
 
 -- `n=65` is above the limit; `n=0` is below the least; `n=07`, `n=`, `n=7` without LF and `n=7 ` are no lines
 decimal-no :
-    (parseDecimal (110 ∷ 61 ∷ []) 1 64 (110 ∷ 61 ∷ 54 ∷ 53 ∷ 10 ∷ []) ≡ over)
+    (parseDecimal (110 ∷ 61 ∷ []) 1 64 (110 ∷ 61 ∷ 54 ∷ 53 ∷ 10 ∷ []) ≡ beyond)
     × (parseDecimal (110 ∷ 61 ∷ []) 1 64 (110 ∷ 61 ∷ 48 ∷ 10 ∷ []) ≡ fault)
     × (parseDecimal (110 ∷ 61 ∷ []) 1 64 (110 ∷ 61 ∷ 48 ∷ 55 ∷ 10 ∷ []) ≡ fault)
     × (parseDecimal (110 ∷ 61 ∷ []) 1 64 (110 ∷ 61 ∷ 10 ∷ []) ≡ fault)
     × (parseDecimal (110 ∷ 61 ∷ []) 1 64 (110 ∷ 61 ∷ 55 ∷ []) ≡ fault)
     × (parseDecimal (110 ∷ 61 ∷ []) 1 64 (110 ∷ 61 ∷ 55 ∷ 32 ∷ 10 ∷ []) ≡ fault)
-unfolding begins parseLimited atLeast ended parse canonical run after value
+unfolding begins parseLimited atLeast ended parse canonical digitRun after value
 decimal-no = (refl, refl, refl, refl, refl, refl)
 
 decimal-line-cases : (decimalLine (110 ∷ 61 ∷ []) 0 ≡ 110 ∷ 61 ∷ 48 ∷ 10 ∷ []) × (decimalLine (110 ∷ 61 ∷ []) 65 ≡ 110 ∷ 61 ∷ 54 ∷ 53 ∷ 10 ∷ [])
@@ -55,7 +55,7 @@ read-form-cases :
     × (readForm (count (110 ∷ 61 ∷ []) 64) (going (110 ∷ 61 ∷ 54 ∷ 53 ∷ 10 ∷ []) 3) ≡ record { value = 0; state = failed 20 3 })
     × (readForm (number (110 ∷ 61 ∷ []) 1 64) (going (110 ∷ 61 ∷ 54 ∷ 53 ∷ 10 ∷ []) 3) ≡ record { value = 0; state = failed 19 3 })
     × (readForm kind (failed 20 3) ≡ record { value = 0; state = failed 20 3 })
-unfolding begins parseLimited atLeast ended parse canonical run after value
+unfolding begins parseLimited atLeast ended parse canonical digitRun after value
 read-form-cases = (refl, refl, refl, refl)
 
 -- trailing bytes fail as the next line

@@ -9,7 +9,7 @@ use lib.ListN.{length, drop, drop-of-length-le}
 use borrow.Author.Tests.{ne-eqb, le-leb, leb-true}
 use Rattle.lists.specs.Tests.{and-left, and-right, clash}
 use Rattle.decimals.specs.Walk.{drop-byte}
-use Rattle.lines.specs.Lines.{Line, line, over, fault, parseScope}
+use Rattle.lines.specs.Lines.{Line, line, beyond, fault, parseScope}
 use Rattle.lines.specs.Reading.{formRefusal, going, failed, Form, parseForm, aboveRefusal, readForm, readScope, closed, stateOf}
 use Rattle.lines.specs.Answers.{FieldSays, PathSays, ScopeSays, heldPath}
 use Rattle.lines.specs.declared.Cursor.{Cursor}
@@ -67,7 +67,7 @@ module _ (s : List ℕ) (c : Cursor) where
           FieldSays s (record { value = n; cursor = behind c next }) (readForm f (stateOf s c))
       field-behind n next e k b = rw (state-on h, e) (record { value = refl; state = state-behind next h k b })
 
-      pub field-over : (d : Cursor) → parseForm f (drop (c .at) s) ≡ over → 0 < aboveRefusal f → d ≡ fails c (aboveRefusal f) →
+      pub field-over : (d : Cursor) → parseForm f (drop (c .at) s) ≡ beyond → 0 < aboveRefusal f → d ≡ fails c (aboveRefusal f) →
           FieldSays s (record { value = 0; cursor = d }) (readForm f (stateOf s c))
       field-over d e k g = rw (state-on h, e, g) (record { value = refl; state = state-fails (aboveRefusal f) k })
 
@@ -90,12 +90,12 @@ module _ (s : List ℕ) (c : Cursor) where
     scope-behind at p (line q rest) e says ok b =
         rw (state-on h, e)
         (record { path = says .1; len = says .2; state = state-behind (p .next) h (says .4) (omega (arith, says .5)) ∙ rw (says .3) })
-    scope-behind at p over e says ok b = absurd says
+    scope-behind at p beyond e says ok b = absurd says
     scope-behind at p fault e says ok b = clash (p .ok) ok says
 
 -- a path that was not read is none
 pub path-unread : (s : List ℕ) (at : ℕ) (p : PathRead) (read : Line (List ℕ)) → PathSays s at p read → p .ok ≡ false → read ≡ fault
 unfolding PathSays
 path-unread s at p (line q rest) says unread = clash (p .ok) (says .0) unread
-path-unread s at p over says unread = absurd says
+path-unread s at p beyond says unread = absurd says
 path-unread s at p fault says unread = refl

@@ -11,7 +11,7 @@ use borrow.Author.Tests.{eq-eqb, ne-eqb, le-leb, lt-leb, lt-ltb, le-ltb}
 use Rattle.register.specs.Limits.{humanKind, machineKind, pathLimit, pathByteLeast, pathByteGreatest}
 use Rattle.decimals.specs.Decimals.{Parsed, got, large, bad, parse}
 use Rattle.decimals.specs.Walk.{drop-byte}
-use Rattle.lines.specs.Lines.{lineFeed, Line, line, over, fault, begins, ended, parseLimited, atLeast, decimalLine}
+use Rattle.lines.specs.Lines.{lineFeed, Line, line, beyond, fault, begins, ended, parseLimited, atLeast, decimalLine}
 use Rattle.lines.specs.Lines.{humanLine, machineLine, parseKind, scopeKey, pathOn, parseScope}
 use Rattle.lines.specs.Answers.{PathSays}
 use Rattle.lines.specs.Laws.{begins-split, limited-read, decimal-line-length}
@@ -73,7 +73,7 @@ module _ (s : List ℕ) (next : ℕ) where
   unfolding ended
   ended-got n h e = rw (drop-byte s next h, eq-eqb _ _ e)
 
-  pub ended-large : next < length s → getD s next 0 ≡ lineFeed → ended (large (drop next s)) ≡ over
+  pub ended-large : next < length s → getD s next 0 ≡ lineFeed → ended (large (drop next s)) ≡ beyond
   unfolding ended
   ended-large h e = rw (drop-byte s next h, eq-eqb _ _ e)
 
@@ -106,7 +106,7 @@ pub at-least-below : (least n : ℕ) (t : List ℕ) (p : Line ℕ) → p ≡ lin
 unfolding atLeast
 at-least-below least n t p e h = rw (e, lt-leb least n h)
 
-pub at-least-over : (least : ℕ) (p : Line ℕ) → p ≡ over → atLeast least p ≡ over
+pub at-least-over : (least : ℕ) (p : Line ℕ) → p ≡ beyond → atLeast least p ≡ beyond
 unfolding atLeast
 at-least-over least p e = rw e
 

@@ -14,12 +14,12 @@ use Rattle.lists.specs.Lists.{every}
 use Rattle.register.specs.Limits.{humanKind, machineKind, pathLimit, pathByteLeast, pathByteGreatest, ranged}
 use Rattle.decimals.specs.Decimals.{digits, starts, Parsed, got, large, bad, parse}
 use Rattle.decimals.specs.Laws.{parse-digits, digits-parse}
-use Rattle.lines.specs.Lines.{lineFeed, Line, line, over, fault, begins, ended, parseLimited, atLeast, parseDecimal, decimalLine}
+use Rattle.lines.specs.Lines.{lineFeed, Line, line, beyond, fault, begins, ended, parseLimited, atLeast, parseDecimal, decimalLine}
 use Rattle.lines.specs.Lines.{humanLine, machineLine, parseKind, kindLine, scopeKey, pathOn, parseScope, scopeLine}
 use Rattle.lines.specs.Reading.{formRefusal, State, going, failed, decimal, taken, readForm, readScope}
 
 -- no line is none
-line-over-clash : {A B : Type 0} {a : A} {rest : List ℕ} → _≡_ {A = Line A} over (line a rest) → B
+line-over-clash : {A B : Type 0} {a : A} {rest : List ℕ} → _≡_ {A = Line A} beyond (line a rest) → B
 line-over-clash e = let never : _≡_ {A = ℕ} 0 1 = cc in absurd (omega arith)
 
 line-fault-clash : {A B : Type 0} {a : A} {rest : List ℕ} → _≡_ {A = Line A} fault (line a rest) → B
@@ -62,7 +62,7 @@ ended-line (got m (b ∷ t)) n rest h = go (eqb b lineFeed) refl h
 ended-line (large []) n rest h = line-fault-clash h
 ended-line (large (b ∷ t)) n rest h = go (eqb b lineFeed) h
   where
-    go : (x : Bool) → cond x over fault ≡ line n rest → large (b ∷ t) ≡ got n (lineFeed ∷ rest)
+    go : (x : Bool) → cond x beyond fault ≡ line n rest → large (b ∷ t) ≡ got n (lineFeed ∷ rest)
     go true p = line-over-clash p
     go false p = line-fault-clash p
 ended-line bad n rest h = line-fault-clash h
@@ -87,7 +87,7 @@ at-least-line least n rest (line m t) h = go (leb least m) refl h
     go : (x : Bool) → leb least m ≡ x → cond x (line m t) fault ≡ line n rest → (line m t ≡ line n rest) × (leb least n ≡ true)
     go true e p = let same : m ≡ n = cc in (p, rw same at e)
     go false e p = line-fault-clash p
-at-least-line least n rest over h = line-over-clash h
+at-least-line least n rest beyond h = line-over-clash h
 at-least-line least n rest fault h = line-fault-clash h
 
 -- A number's line.
@@ -221,7 +221,7 @@ scope-read p rest t h = go (begins scopeKey t) refl h
 taken-value : {A : Type 0} (Q : A → Type 0) (none : A) (above l : ℕ) (p : Line A) → Q none → ((a : A) (rest : List ℕ) → p ≡ line a rest → Q a) →
     Q (taken none above l p .value)
 taken-value Q none above l (line a rest) q f = f a rest refl
-taken-value Q none above l over q f = q
+taken-value Q none above l beyond q f = q
 taken-value Q none above l fault q f = q
 
 -- a number is at most its greatest

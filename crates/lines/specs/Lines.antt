@@ -4,6 +4,7 @@ use mathlib.Core.List.{List, [], _∷_, _++_}
 use mathlib.Core.Bool.{Bool, true, false, cond}
 use lib.ListN.{length, drop}
 use lib.Dec.{eqb, ltb, leb}
+use Rattle.lists.specs.Bytes.{bytes}
 use Rattle.decimals.specs.Decimals.{digits, Parsed, got, large, bad, parse}
 use Rattle.register.specs.Limits.{humanKind, machineKind, pathLimit, pathByteLeast, pathByteGreatest}
 
@@ -14,7 +15,7 @@ lineFeed = 10
 -- what a text begins with: a line of the value, with what follows it; a line whose number is above its limit; or no such line
 pub data Line (A : Type 0) : Type 0 where
   line : A → List ℕ → Line A
-  over : Line A
+  beyond : Line A
   fault : Line A
 
 -- whether a text begins with a key
@@ -28,7 +29,7 @@ unfoldable pub ended : Parsed → Line ℕ
 ended (got n []) = fault
 ended (got n (b ∷ rest)) = cond (eqb b lineFeed) (line n rest) fault
 ended (large []) = fault
-ended (large (b ∷ rest)) = cond (eqb b lineFeed) over fault
+ended (large (b ∷ rest)) = cond (eqb b lineFeed) beyond fault
 ended bad = fault
 
 -- the line of a key, '=' included, with a number up to the greatest
@@ -38,7 +39,7 @@ parseLimited key greatest t = cond (begins key t) (ended (parse greatest (drop (
 -- a number below the least is no such line
 unfoldable pub atLeast : ℕ → Line ℕ → Line ℕ
 atLeast least (line n rest) = cond (leb least n) (line n rest) fault
-atLeast least over = over
+atLeast least beyond = beyond
 atLeast least fault = fault
 
 -- the line of a key with a number from the least to the greatest
@@ -49,12 +50,12 @@ parseDecimal key least greatest t = atLeast least (parseLimited key greatest t)
 unfoldable pub decimalLine : List ℕ → ℕ → List ℕ
 decimalLine key n = key ++ (digits n ++ (lineFeed ∷ []))
 
--- "kind=human" and LF, "kind=machine" and LF
+-- the line of each kind
 abbrev pub humanLine : List ℕ
-humanLine = 107 ∷ 105 ∷ 110 ∷ 100 ∷ 61 ∷ 104 ∷ 117 ∷ 109 ∷ 97 ∷ 110 ∷ 10 ∷ []
+humanLine = bytes "kind=human\n"
 
 abbrev pub machineLine : List ℕ
-machineLine = 107 ∷ 105 ∷ 110 ∷ 100 ∷ 61 ∷ 109 ∷ 97 ∷ 99 ∷ 104 ∷ 105 ∷ 110 ∷ 101 ∷ 10 ∷ []
+machineLine = bytes "kind=machine\n"
 
 -- an actor's kind
 unfoldable pub parseKind : List ℕ → Line ℕ
@@ -66,9 +67,9 @@ parseKind t =
 unfoldable pub kindLine : ℕ → List ℕ
 kindLine k = cond (eqb k humanKind) humanLine machineLine
 
--- "scope="
+-- the key of a path
 abbrev pub scopeKey : List ℕ
-scopeKey = 115 ∷ 99 ∷ 111 ∷ 112 ∷ 101 ∷ 61 ∷ []
+scopeKey = bytes "scope="
 
 -- a path up to LF, behind the bytes of it so far: at most 64 bytes, each 0x21 to 0x7E
 unfoldable pub pathOn : List ℕ → List ℕ → Line (List ℕ)

@@ -5,7 +5,7 @@ use mathlib.Core.Bool.{Bool, cond, _&&_, _||_}
 use lib.ListN.{drop, length}
 use lib.Dec.{eqb, leb}
 use Rattle.register.specs.Limits.{humanKind, machineKind, ranged}
-use Rattle.lines.specs.Lines.{Line, line, over, fault, parseDecimal, decimalLine, parseKind, kindLine, parseScope}
+use Rattle.lines.specs.Lines.{Line, line, beyond, fault, parseDecimal, decimalLine, parseKind, kindLine, parseScope}
 use Rattle.lines.specs.declared.Cursor.{Cursor}
 
 -- the refusal of a text that is not of the form, and of a count line above its limit
@@ -60,7 +60,7 @@ formFits kind n = eqb n humanKind || eqb n machineKind
 -- a line read, with what stands for its value where it fails
 abbrev pub taken : {A : Type 0} → A → ℕ → ℕ → Line A → Read A
 taken none above l (line a rest) = record { value = a; state = going rest (l + 1) }
-taken none above l over = record { value = none; state = failed above l }
+taken none above l beyond = record { value = none; state = failed above l }
 taken none above l fault = record { value = none; state = failed formRefusal l }
 
 -- the next line, by the form

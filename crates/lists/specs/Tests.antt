@@ -4,6 +4,8 @@ use mathlib.Core.Bool.{Bool, true, false, _&&_, _||_, Bool·beq}
 use mathlib.Core.List.{List, [], _∷_}
 use Prim.Native.Nat.{ℕ}
 use native.Mathlib.Omega.{arith}
+use borrow.Author.Tests.{eq-eqb, eqb-true}
+use lib.Dec.{eqb}
 
 -- a test taken apart, with its equation
 pub cases : {A : Type 0} (b : Bool) → (b ≡ true → A) → (b ≡ false → A) → A
@@ -53,6 +55,10 @@ pub iff-same : (a b : Bool) → (a ≡ true → b ≡ true) → (b ≡ true → 
 iff-same true b f g = cc (f refl)
 iff-same false true f g = g refl
 iff-same false false f g = refl
+
+-- numbers are equal either way round
+pub eqb-turned : (a b : ℕ) → eqb a b ≡ eqb b a
+eqb-turned a b = iff-same (eqb a b) (eqb b a) (λ e. eq-eqb b a (sym (eqb-true a b e))) (λ e. eq-eqb a b (sym (eqb-true b a e)))
 
 -- two tests that are found to be one are one
 pub beq-same : (a b : Bool) → Bool·beq a b ≡ true → a ≡ b

@@ -1,12 +1,14 @@
--- Lists trimmed of the elements that a test takes, where the test looks at what stands behind an element too. Assumes nothing.
+-- Lists trimmed of the elements that a test takes, where the test looks at what stands behind an element too; and lists of the elements
+-- that pass a test. Assumes nothing.
 use mathlib.Core.Path.{_≡_, refl, ap, sym, _∙_}
-use mathlib.Core.Bool.{Bool, true, false, cond}
+use mathlib.Core.Bool.{Bool, true, false, not, cond, Bool·not-not}
 use mathlib.Core.List.{List, [], _∷_, _++_, map, reverse, reverse-cons, append-nil}
 use Prim.Native.Nat.{_≤_}
 use native.Mathlib.Omega.{arith}
+use borrow.Author.Tests.{not-false}
 use lib.ListN.{length}
 use Rattle.lists.specs.Tests.{cases}
-use Rattle.lists.specs.Each.{Each, All}
+use Rattle.lists.specs.Each.{Each, All, each-all, cons-clash}
 
 module _ {C : Type 0} where
   -- what is left without the elements that the test takes, in their order
@@ -14,9 +16,9 @@ module _ {C : Type 0} where
   trim t [] = []
   trim t (c ∷ L) = let rest = trim t L in cond (t L c) rest (c ∷ rest)
 
-  -- the same by a test that looks at the element alone
-  abbrev pub sift : (C → Bool) → List C → List C
-  sift p L = trim (λ M c. p c) L
+  -- the elements that pass a test, in their order
+  abbrev pub filter : (C → Bool) → List C → List C
+  filter p L = trim (λ M c. not (p c)) L
 
   module _ (t : List C → C → Bool) where
     pub trim-nil : trim t [] ≡ []
@@ -61,34 +63,53 @@ module _ {C : Type 0} where
       (λ c L e ih h. cases (s L c) (λ f. trim-hit t c (trim u L) (h .0 .1 e ∙ f) ∙ ih (h .1) ∙ sym (trim-hit s c L f))
       (λ f. trim-miss t c (trim u L) (h .0 .1 e ∙ f) ∙ ap (λ K. c ∷ K) (ih (h .1)) ∙ sym (trim-miss s c L f)))
 
-  pub sift-append : (p : C → Bool) (L M : List C) → sift p (L ++ M) ≡ sift p L ++ sift p M
-  sift-append p [] M = rw (trim-nil (λ M c. p c))
-  sift-append p (c ∷ L) M =
-      cases (p c) (λ e. rw (trim-hit (λ M c. p c) c (L ++ M) e, trim-hit (λ M c. p c) c L e) (sift-append p L M))
-      (λ e. rw (trim-miss (λ M c. p c) c (L ++ M) e, trim-miss (λ M c. p c) c L e, sift-append p L M))
+  -- what passes no test goes: the same by the test turned round
+  pub filter-not : (p : C → Bool) (L : List C) → filter (λ c. not (p c)) L ≡ trim (λ M c. p c) L
+  filter-not p L = trim-same (λ M c. not (not (p c))) (λ M c. p c) L (each-all _ (λ M c. Bool·not-not (p c)) L)
 
-  -- one element more: it is taken, or is the last of what is left
-  pub sift-taken : (p : C → Bool) (L : List C) (c : C) → p c ≡ true → sift p (L ++ (c ∷ [])) ≡ sift p L
-  sift-taken p L c e = sift-append p L (c ∷ []) ∙ rw (trim-hit (λ M c. p c) c [] e, trim-nil (λ M c. p c)) (append-nil (sift p L))
+  module _ (p : C → Bool) where
+    pub filter-nil : filter p [] ≡ []
+    filter-nil = trim-nil (λ M c. not (p c))
 
-  pub sift-left : (p : C → Bool) (L : List C) (c : C) → p c ≡ false → sift p (L ++ (c ∷ [])) ≡ sift p L ++ (c ∷ [])
-  sift-left p L c e = sift-append p L (c ∷ []) ∙ rw (trim-miss (λ M c. p c) c [] e, trim-nil (λ M c. p c))
+    pub filter-hit : (c : C) (L : List C) → p c ≡ true → filter p (c ∷ L) ≡ c ∷ filter p L
+    filter-hit c L e = trim-miss (λ M c. not (p c)) c L (ap not e)
 
-  -- a test that looks at the element alone may be put to a list in either order
-  pub sift-reverse : (p : C → Bool) (L : List C) → sift p (reverse L) ≡ reverse (sift p L)
-  sift-reverse p [] = rw (trim-nil (λ M c. p c))
-  sift-reverse p (c ∷ L) = rw (reverse-cons c L, sift-append p (reverse L) (c ∷ []), sift-reverse p L)
-      (cases (p c) (λ e. rw (trim-hit (λ M c. p c) c [] e, trim-nil (λ M c. p c), trim-hit (λ M c. p c) c L e) (append-nil (reverse (sift p L))))
-      (λ e. rw (trim-miss (λ M c. p c) c [] e, trim-nil (λ M c. p c), trim-miss (λ M c. p c) c L e) (sym (reverse-cons c (sift p L)))))
+    pub filter-miss : (c : C) (L : List C) → p c ≡ false → filter p (c ∷ L) ≡ filter p L
+    filter-miss c L e = trim-hit (λ M c. not (p c)) c L (ap not e)
 
-  -- a test that takes every element leaves none
-  pub sift-every : (p : C → Bool) (L : List C) → All (λ c. p c ≡ true) L → sift p L ≡ []
-  sift-every p [] h = trim-nil (λ M c. p c)
-  sift-every p (c ∷ L) h = trim-hit (λ M c. p c) c L (h .0) ∙ sift-every p L (h .1)
+    pub filter-append : (L M : List C) → filter p (L ++ M) ≡ filter p L ++ filter p M
+    filter-append [] M = rw filter-nil
+    filter-append (c ∷ L) M =
+        cases (p c) (λ e. rw (filter-hit c (L ++ M) e, filter-hit c L e, filter-append L M))
+        (λ e. rw (filter-miss c (L ++ M) e, filter-miss c L e) (filter-append L M))
 
-  -- nothing that is left passes the test
-  pub sift-spared : (p : C → Bool) (L : List C) → All (λ c. p c ≡ false) (sift p L)
-  sift-spared p = trim-ind (λ M c. p c) (λ L K. All (λ c. p c ≡ false) K) tt (λ c L e ih. ih) (λ c L e ih. (e, ih))
+    -- one element more: it passes and is the last, or is not there
+    pub filter-last : (L : List C) (c : C) → p c ≡ true → filter p (L ++ (c ∷ [])) ≡ filter p L ++ (c ∷ [])
+    filter-last L c e = filter-append L (c ∷ []) ∙ rw (filter-hit c [] e, filter-nil)
+
+    pub filter-past : (L : List C) (c : C) → p c ≡ false → filter p (L ++ (c ∷ [])) ≡ filter p L
+    filter-past L c e = filter-append L (c ∷ []) ∙ rw (filter-miss c [] e, filter-nil) (append-nil (filter p L))
+
+    -- the test looks at the element alone, so it may be put to a list in either order
+    pub filter-reverse : (L : List C) → filter p (reverse L) ≡ reverse (filter p L)
+    filter-reverse [] = rw filter-nil
+    filter-reverse (c ∷ L) = rw (reverse-cons c L, filter-append (reverse L) (c ∷ []), filter-reverse L)
+        (cases (p c) (λ e. rw (filter-hit c [] e, filter-nil, filter-hit c L e) (sym (reverse-cons c (filter p L))))
+        (λ e. rw (filter-miss c [] e, filter-nil, filter-miss c L e) (append-nil (reverse (filter p L)))))
+
+    -- a test that no element passes leaves none, and back
+    pub filter-none : (L : List C) → All (λ c. p c ≡ false) L → filter p L ≡ []
+    filter-none [] h = filter-nil
+    filter-none (c ∷ L) h = filter-miss c L (h .0) ∙ filter-none L (h .1)
+
+    pub none-filter : (L : List C) → filter p L ≡ [] → All (λ c. p c ≡ false) L
+    none-filter [] h = tt
+    none-filter (c ∷ L) h =
+        cases (p c) (λ e. cons-clash (sym (filter-hit c L e) ∙ h)) (λ e. (e, none-filter L (sym (filter-miss c L e) ∙ h)))
+
+    -- each that is left passes the test
+    pub filter-passed : (L : List C) → All (λ c. p c ≡ true) (filter p L)
+    filter-passed = trim-ind (λ M c. not (p c)) (λ L K. All (λ c. p c ≡ true) K) tt (λ c L e ih. ih) (λ c L e ih. (not-false (p c) e, ih))
 
 -- elements read through f
 pub trim-map : {E C : Type 0} (f : E → C) (t : List C → C → Bool) (u : List E → E → Bool) → ((M : List E) (e : E) → t (map f M) (f e) ≡ u M e)

@@ -34,15 +34,15 @@ circling-one grantors holders j h = rw (or-false (eqb (holders j) h))
 
 module _ (ids parents : List ℕ) where
   -- the place kept for each below n is that of its parent, where that stands before it
-  abbrev pub Kept : List ℕ → ℕ → Type 0
-  Kept ups n = (j k : ℕ) → j < n → latestPlace ids j (getD parents j 0) ≡ At k → getD ups j 0 ≡ k
+  abbrev pub KeptPlaces : List ℕ → ℕ → Type 0
+  KeptPlaces ups n = (j k : ℕ) → j < n → latestPlace ids j (getD parents j 0) ≡ At k → getD ups j 0 ≡ k
 
   -- the chain above place j
   abbrev pub higher : ℕ → List ℕ
   higher j = chainPlaces ids parents j (getD parents j 0)
 
   -- where there is a chain above a place, it begins at the kept one
-  higher-kept : (ups : List ℕ) (n : ℕ) → Kept ups n → (j : ℕ) → j < n → 0 < length (higher j)
+  higher-kept : (ups : List ℕ) (n : ℕ) → KeptPlaces ups n → (j : ℕ) → j < n → 0 < length (higher j)
       → (getD ups j 0 < j) × (higher j ≡ getD ups j 0 ∷ higher (getD ups j 0))
   higher-kept ups n kept j inside long =
       place-cases (latestPlace ids j (getD parents j 0))
@@ -53,7 +53,7 @@ module _ (ids parents : List ℕ) where
       (λ e. absurd (omega (arith, long, ap length (chain-places-nowhere ids parents j (getD parents j 0) e))))
 
   -- the walk up asks along the chain
-  pub circles-natural : (ups grantors holders : List ℕ) (n : ℕ) → Kept ups n → (h steps j : ℕ) → j < n → length (higher j) ≡ steps
+  pub circles-natural : (ups grantors holders : List ℕ) (n : ℕ) → KeptPlaces ups n → (h steps j : ℕ) → j < n → length (higher j) ≡ steps
       → circlesUp ups grantors holders j steps h ≡ circling (λ i. getD grantors i 0) (λ i. getD holders i 0) (j ∷ higher j) h
   unfolding circlesUp
   circles-natural ups grantors holders n kept h zero j inside e =
@@ -116,7 +116,7 @@ module _ (cs : List Claim) (n : ℕ) (c : Claim) where
         pub hops-natural : length (chainPlaces (map claimId cs) (map parentOf cs) n (c .parent)) ≡ suc (length (higher (map claimId cs) (map parentOf cs) k))
         hops-natural = ap length (chain-places-at (map claimId cs) (map parentOf cs) n (c .parent) k o q)
 
-        pub over-natural : (ups : List ℕ) (steps : ℕ) → Kept (map claimId cs) (map parentOf cs) ups n → steps ≡ length (higher (map claimId cs) (map parentOf cs) k)
+        pub over-natural : (ups : List ℕ) (steps : ℕ) → KeptPlaces (map claimId cs) (map parentOf cs) ups n → steps ≡ length (higher (map claimId cs) (map parentOf cs) k)
             → overAt ups (map grantorOf cs) (map holderOf cs) k steps (getD cs k noClaim) c ≡ over (latest (take n cs)) c
         unfolding overAt
         over-natural ups steps kept e =

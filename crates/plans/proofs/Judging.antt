@@ -10,8 +10,9 @@ use lib.ListN.{length, drop, getD, set, replicate, length-take, length-map, leng
 use lib.Seq.{append-snoc}
 use Rattle.lists.specs.Fills.{put-first}
 use Rattle.lists.specs.Loops.{drop-at}
+use Rattle.register.specs.Register.{Shaped}
 use Rattle.register.specs.declared.Register.{Register}
-use Rattle.changes.specs.declared.Outcome.the-variants.{Accepted}
+use Rattle.refusals.specs.declared.Outcome.the-variants.{Accepted}
 use Rattle.actions.specs.Actions.{actionLimit}
 use Rattle.actions.specs.declared.Action.{Action}
 use Rattle.actions.specs.declared.Judged.{Judged}
@@ -21,7 +22,6 @@ use Rattle.actions.specs.declared.Plan.{Plan}
 use Rattle.actions.specs.declared.PlanVerdict.{PlanVerdict}
 use Rattle.verdicts.specs.Plans.{actionsOf, runs, haltOf, held, planned}
 use Rattle.verdicts.specs.Cancelling.{halt-runs, planned-runs}
-use Rattle.sights.specs.Sights.{Typed}
 use Rattle.gate.specs.Judged.{Lent, viewOf, lentOf, judgedBy}
 use Rattle.gate.specs.declared.View.{View}
 use Rattle.plans.specs.Judgements.{judgedAs, judgementsBy}
@@ -112,10 +112,10 @@ module _ {l : Lent} {p : Plan} {top : ℕ} where
         rw all (held-same list top (s .passed) (omega arith) (rw (s .long) (s .put)))
 
 -- the verdicts by what is lent of the view of a register are those of the plan
-pub planned-lent : (r : Register) (p : Plan) → Typed r → haltOf r p ≡ runs → {v : View} → v ≡ viewOf r → {answer : PlanVerdict}
+pub planned-lent : (r : Register) (p : Plan) → Shaped r → haltOf r p ≡ runs → {v : View} → v ≡ viewOf r → {answer : PlanVerdict}
     → answer ≡ held (judgementsBy (lentOf v) false (actionsOf p)) → answer ≡ planned r p
-planned-lent r p typed e viewed answered =
+planned-lent r p shaped e viewed answered =
     let passed = halt-runs r p e in
     answered ∙ ap (λ w. held (judgementsBy (lentOf w) false (actionsOf p))) viewed
-    ∙ ap held (judgements-natural r typed (passed .soundly) false (actionsOf p) (passed .fit))
+    ∙ ap held (judgements-natural r shaped (passed .soundly) false (actionsOf p) (passed .fit))
     ∙ sym (planned-runs r p e)

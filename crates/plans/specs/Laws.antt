@@ -6,11 +6,12 @@ use Prim.Native.Nat.{ℕ, suc}
 use lib.Dec.{eqb}
 use lib.ListN.{length}
 use Rattle.lists.specs.Each.{All}
+use Rattle.register.specs.Register.{Shaped}
 use Rattle.register.specs.declared.Register.{Register}
 use Rattle.rules.specs.Sound.{sound}
-use Rattle.changes.specs.Refusals.{outcomeOf}
-use Rattle.changes.specs.declared.Outcome.the-variants.{Accepted, Refused}
-use Rattle.changes.specs.declared.Refusal.{Refusal}
+use Rattle.refusals.specs.Refusals.{outcomeOf}
+use Rattle.refusals.specs.declared.Outcome.the-variants.{Accepted, Refused}
+use Rattle.refusals.specs.declared.Refusal.{Refusal}
 use Rattle.actions.specs.declared.Action.{Action}
 use Rattle.actions.specs.declared.Violation.{Violation}
 use Rattle.actions.specs.declared.Judgement.the-variants.{Cancelled}
@@ -18,7 +19,6 @@ use Rattle.verdicts.specs.Gate.{violationsOf}
 use Rattle.verdicts.specs.Laws.{Fit}
 use Rattle.verdicts.specs.Plans.{judged, judgements, runs, halts, firstHalt}
 use Rattle.verdicts.specs.Cancelling.{judgements-nil, judgements-cons}
-use Rattle.sights.specs.Sights.{Typed}
 use Rattle.gate.specs.Judged.{Lent, viewOf, lentOf, lentTests, judgedBy}
 use Rattle.gate.specs.Laws.{tests-natural, view-natural, judged-natural}
 use Rattle.plans.specs.Stops.{haltBy}
@@ -62,11 +62,11 @@ judged-counted : (vs : List Violation) → judgedAs (length vs) ≡ judged vs
 judged-counted [] = refl
 judged-counted (v ∷ vs) = refl
 
-module _ (r : Register) (typed : Typed r) (h : sound r ≡ true) where
+module _ (r : Register) (shaped : Shaped r) (h : sound r ≡ true) where
   -- the verdict on an action in range
   verdict-natural : (a : Action) → Fit r a → judgedAs (judgedBy (lentOf (viewOf r)) a .violations .count) ≡ judged (violationsOf r a)
   verdict-natural a fit =
-      ap (λ y. judgedAs (y .violations .count)) (view-natural r typed a ∙ judged-natural r typed h a (fit .fits)) ∙ judged-counted (violationsOf r a)
+      ap (λ y. judgedAs (y .violations .count)) (view-natural r shaped a ∙ judged-natural r shaped h a (fit .fits)) ∙ judged-counted (violationsOf r a)
 
   -- the verdicts on actions in range
   pub judgements-natural : (cancelled : Bool) (actions : List Action) → All (λ a. Fit r a) actions

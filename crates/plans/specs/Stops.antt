@@ -1,8 +1,8 @@
 -- What stops a plan, as the code holds it, and by the ids of the actors that are lent.
 use mathlib.Core.List.{List, [], _∷_}
 use Prim.Native.Nat.{ℕ, suc}
-use Rattle.changes.specs.Refusals.{outcomeOf}
-use Rattle.changes.specs.declared.Outcome.the-variants.{Accepted, Refused}
+use Rattle.refusals.specs.Refusals.{outcomeOf}
+use Rattle.refusals.specs.declared.Outcome.the-variants.{Accepted, Refused}
 use Rattle.actions.specs.declared.Action.{Action}
 use Rattle.verdicts.specs.Plans.{Halt, runs, halts, haltOn}
 use Rattle.gate.specs.Judged.{lentTests}

@@ -14,8 +14,8 @@ use actions::Judged;
 use actions::Judgement;
 use actions::Plan;
 use actions::PlanVerdict;
-use changes::Outcome;
-use changes::Refusal;
+use refusals::Outcome;
+use refusals::Refusal;
 use register::Register;
 
 // What stops a plan, and at which position; accepted, with position 0, where nothing does.

@@ -2,11 +2,12 @@
 ghost use mathlib.Core.Path.{_≡_};
 ghost use Rattle.register.specs.Register.{emptyRegister};
 ghost use Rattle.lines.specs.Reading.{stateOf};
-ghost use Rattle.texts.specs.Registers.{readActor, readResource, readClaim, readActors, readResources, readClaims, heldActors, heldResources, heldClaims, registerAnswer, registerRead};
+ghost use Rattle.texts.specs.Registers.{readActor, readResource, readClaim, readActors, readResources, readClaims, heldActors, heldResources, heldClaims, registerRead};
+ghost use Rattle.texts.specs.Registers.{registerEnding};
 ghost use Rattle.reading.specs.Reads.{Reads};
-use changes::Outcome;
-use changes::Refusal;
 use lines::Cursor;
+use refusals::Outcome;
+use refusals::Refusal;
 use register::Actor;
 use register::Actors;
 use register::Claim;
@@ -178,16 +179,7 @@ fn read_claims(s: &[u8], c: Cursor) -> ClaimsRead
 {
     let counted = lines::read_count(s, c, b"claims=", Register::CLAIMS as u64);
     let count = counted.value as usize;
-    let none = Claim {
-        id: 0,
-        parent: 0,
-        grantor: 0,
-        holder: 0,
-        resource: 0,
-        rights: 0,
-        weight: 0,
-        expiry: 0,
-    };
+    let none = Claim::none();
     let mut list = [none; Register::CLAIMS];
     let mut cursor = counted.cursor;
     let mut i: usize = 0;
@@ -217,7 +209,7 @@ fn refused(why: Refusal, line: usize) -> RegisterRead
 
 // The answer, by where the reading ended: soundness comes last, with 1 and line 0.
 fn answer(s: &[u8], c: Cursor, register: Register) -> RegisterRead
-    ensures { λ r. ⌜ r ≡ registerAnswer register (stateOf (now (s .entry)) c) ⌝ }
+    ensures { λ r. ⌜ r ≡ registerEnding register (stateOf (now (s .entry)) c) ⌝ }
 {
     if !lines::goes_on(s, c) {
         return refused(texts::refusal_of(c.refusal), c.line);

@@ -1,4 +1,4 @@
--- Laws of chains, for any things that have a number and a parent's number. Assumes nothing.
+-- Laws of chains, for any things that have a number and a parent's number; and that the empty register has its shape. Assumes nothing.
 use mathlib.Core.Path.{_≡_, refl, ap, sym, _∙_}
 use mathlib.Core.Bool.{true, false, and-false}
 use mathlib.Core.List.{List, [], _∷_, map}
@@ -6,9 +6,12 @@ use Prim.Native.Nat.{ℕ, _≤_, _<_}
 use native.Mathlib.Omega.{arith}
 use borrow.Author.Tests.{eqb-true, eq-eqb, ne-eqb, lt-ltb}
 use lib.Dec.{eqb, ltb}
-use lib.ListN.{length}
+use lib.ListN.{length, length-replicate}
 use Rattle.lists.specs.Tests.{cases, and-right}
 use Rattle.lists.specs.Each.{All, cons-clash, any-map}
+use Rattle.lists.specs.Fills.{all-replicate}
+use Rattle.register.specs.Limits.{actorLimit, resourceLimit, claimLimit, pathLimit}
+use Rattle.register.specs.Register.{noActor, noResource, noClaim, emptyRegister, Shaped}
 use Rattle.register.specs.Chain.{numbered, chain, rootGranted, circling}
 
 module _ {C : Type 0} (id up : C → ℕ) where
@@ -86,3 +89,12 @@ module _ {E C : Type 0} (f : E → C) (grantor holder : C → ℕ) where
   pub circling-map : (L : List E) (h : ℕ) → circling grantor holder (map f L) h ≡ circling (λ e. grantor (f e)) (λ e. holder (f e)) L h
   unfolding circling
   circling-map L h = rw (root-granted-map L h, any-map f (λ c. eqb (holder c) h) L)
+
+pub empty-shaped : Shaped emptyRegister
+unfolding emptyRegister
+empty-shaped = record {
+  actors = length-replicate actorLimit noActor;
+  resources = length-replicate resourceLimit noResource;
+  paths = all-replicate (λ o. length (o .path) ≡ pathLimit) resourceLimit noResource (length-replicate {A = ℕ} pathLimit 0);
+  claims = length-replicate claimLimit noClaim;
+}

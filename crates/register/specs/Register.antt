@@ -1,8 +1,9 @@
--- The three lists of a register, when two registers are the same, and the empty register.
+-- The three lists of a register, when two registers are the same, the empty register, and the shape that every register has by its type.
 use mathlib.Core.Path.{_≡_}
 use mathlib.Core.List.{List, map}
 use Prim.Native.Nat.{ℕ}
-use lib.ListN.{take, replicate}
+use lib.ListN.{length, take, replicate}
+use Rattle.lists.specs.Each.{All}
 use Rattle.register.specs.Limits.{actorLimit, resourceLimit, claimLimit, pathLimit}
 use Rattle.register.specs.declared.Actor.{Actor}
 use Rattle.register.specs.declared.Resource.{Resource}
@@ -34,15 +35,15 @@ pub record Standing : Type 0 where
   pub len : ℕ
   pub path : List ℕ
 
-abbrev pub standing : Resource → Standing
-standing o = record { id = o .id; public = o .public; keeper = o .keeper; len = o .len; path = pathOf o }
+abbrev pub resourceStanding : Resource → Standing
+resourceStanding o = record { id = o .id; public = o .public; keeper = o .keeper; len = o .len; path = pathOf o }
 
 -- Two registers are the same when their three lists are, each with its count: a count above its limit is told from the limit.
 pub record Same (r s : Register) : Type 0 where
   pub actorCount : r .actors .count ≡ s .actors .count
   pub actors : actorsOf (r .actors) ≡ actorsOf (s .actors)
   pub resourceCount : r .resources .count ≡ s .resources .count
-  pub resources : map standing (resourcesOf (r .resources)) ≡ map standing (resourcesOf (s .resources))
+  pub resources : map resourceStanding (resourcesOf (r .resources)) ≡ map resourceStanding (resourcesOf (s .resources))
   pub claimCount : r .claims .count ≡ s .claims .count
   pub claims : claimsOf (r .claims) ≡ claimsOf (s .claims)
 
@@ -63,3 +64,10 @@ emptyRegister = record {
   resources = record { list = replicate resourceLimit noResource; count = 0 };
   claims = record { list = replicate claimLimit noClaim; count = 0 };
 }
+
+-- The arrays of a register have as many places as the limits say. Every register of the program has this by its type.
+pub record Shaped (r : Register) : Type 0 where
+  pub actors : length (r .actors .list) ≡ actorLimit
+  pub resources : length (r .resources .list) ≡ resourceLimit
+  pub paths : All (λ o. length (o .path) ≡ pathLimit) (r .resources .list)
+  pub claims : length (r .claims .list) ≡ claimLimit

@@ -2,7 +2,7 @@
 // number has a type that can say one out of range, and kinds are numbers: what is out of range makes a register unsound, and is
 // never cut down to something else. The structs cross to C as they are.
 ghost use mathlib.Core.Path.{_≡_};
-ghost use Rattle.register.specs.Register.{emptyRegister};
+ghost use Rattle.register.specs.Register.{noClaim, emptyRegister};
 ghost use Rattle.register.specs.Chain.{live};
 ghost use Rattle.register.specs.Limits.{isId};
 
@@ -106,16 +106,7 @@ impl Register {
             len: 0,
             path: [0; Register::PATH],
         };
-        let claim = Claim {
-            id: 0,
-            parent: 0,
-            grantor: 0,
-            holder: 0,
-            resource: 0,
-            rights: 0,
-            weight: 0,
-            expiry: 0,
-        };
+        let claim = Claim::none();
         let actor_list = [actor; Register::ACTORS];
         let resource_list = [resource; Register::RESOURCES];
         let claim_list = [claim; Register::CLAIMS];
@@ -140,6 +131,22 @@ impl Register {
 }
 
 impl Claim {
+    // What stands at a place that no claim was put into: all zeros.
+    pub fn none() -> Claim
+        ensures { λ r. ⌜ r ≡ noClaim ⌝ }
+    {
+        Claim {
+            id: 0,
+            parent: 0,
+            grantor: 0,
+            holder: 0,
+            resource: 0,
+            rights: 0,
+            weight: 0,
+            expiry: 0,
+        }
+    }
+
     // Whether the claim is live at the moment.
     pub fn is_live(self, now: u64) -> bool
         ensures { λ r. ⌜ r ≡ live now self ⌝ }

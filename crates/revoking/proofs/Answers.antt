@@ -8,10 +8,10 @@ use Rattle.columns.specs.Columns.{claimId, parentOf}
 use Rattle.rules.specs.Sound.{sound, worldOf}
 use Rattle.rules.specs.Registers.{sound-out}
 use Rattle.rules.specs.Striking.{Distinct, sound-distinct}
-use Rattle.changes.specs.Refusals.{outcomeOf}
+use Rattle.refusals.specs.Refusals.{outcomeOf}
 use Rattle.changes.specs.Changes.{standing, revokeTests, revoked}
-use Rattle.changes.specs.declared.Outcome.the-variants.{Accepted, Refused}
-use Rattle.changes.specs.declared.Refusal.{Refusal}
+use Rattle.refusals.specs.declared.Outcome.the-variants.{Accepted, Refused}
+use Rattle.refusals.specs.declared.Refusal.{Refusal}
 use Rattle.changes.specs.declared.Revoked.{Revoked}
 use Rattle.revoking.specs.Struck.{struckClaims}
 use Rattle.revoking.specs.declared.Struck.{Struck}

@@ -3,10 +3,10 @@ use mathlib.Core.Path.{_≡_, refl, sym, ap, _∙_}
 use mathlib.Core.Bool.{Bool, true, false}
 use mathlib.Core.List.{List, map}
 use Prim.Native.Nat.{ℕ}
-use borrow.Author.Tests.{eqb-true, eq-eqb, ne-eqb}
+use borrow.Author.Tests.{eq-eqb, ne-eqb}
 use lib.Dec.{eqb}
 use lib.ListN.{take, getD, List·getD-map}
-use Rattle.lists.specs.Tests.{iff-same}
+use Rattle.lists.specs.Tests.{eqb-turned}
 use Rattle.lists.specs.Lists.{any, any-reverse}
 use Rattle.lists.specs.Each.{each-all, any-same, any-map}
 use Rattle.register.specs.Register.{noClaim}
@@ -17,11 +17,11 @@ use Rattle.columns.specs.declared.Place.the-variants.{At, Nowhere}
 use Rattle.columns.specs.Columns.{claimId, parentOf, grantorOf, latestPlace, chainPlaces}
 use Rattle.columns.specs.Laws.{among-natural, chain-natural, chain-places-nil, chain-places-zero, chain-places-at, chain-places-nowhere}
 use Rattle.rules.specs.Sound.{sound}
-use Rattle.changes.specs.Refusals.{outcomeOf}
+use Rattle.refusals.specs.Refusals.{outcomeOf}
 use Rattle.changes.specs.Changes.{worldIn, standing, revokeTests}
-use Rattle.changes.specs.Laws.{outcome-nil, outcome-pass, outcome-fail, outcome-accepted}
-use Rattle.changes.specs.declared.Outcome.the-variants.{Accepted, Refused}
-use Rattle.changes.specs.declared.Refusal.the-variants.{Unsound, Unknown, ClaimAbsent, NoGrantor}
+use Rattle.refusals.specs.Laws.{outcome-nil, outcome-pass, outcome-fail, outcome-accepted}
+use Rattle.refusals.specs.declared.Outcome.the-variants.{Accepted, Refused}
+use Rattle.refusals.specs.declared.Refusal.the-variants.{Unsound, Unknown, ClaimAbsent, NoGrantor}
 
 -- whether who is a grantor on the chain from x up, among the places below n
 abbrev pub granted : List ℕ → List ℕ → List ℕ → ℕ → ℕ → ℕ → Bool
@@ -54,9 +54,6 @@ module _ {ids parents grantors : List ℕ} {who n x : ℕ} {e : Bool} (w : Walk 
     pub walk-above : (g ≡ who → ⊥) → {up : ℕ} → up ≡ getD parents k 0 → Walk ids parents grantors who k up e
     walk-above other u =
         record { ahead = w .ahead ∙ rw (chain-places-at ids parents n x k h q, ne-eqb (getD grantors k 0) who (λ same. other (grants ∙ same)), u) }
-
-eqb-turned : (a b : ℕ) → eqb a b ≡ eqb b a
-eqb-turned a b = iff-same (eqb a b) (eqb b a) (λ e. eq-eqb b a (sym (eqb-true a b e))) (λ e. eq-eqb a b (sym (eqb-true b a e)))
 
 module _ (cs : List Claim) (n : ℕ) where
   -- a number among the ids is that of a claim that stands

@@ -9,13 +9,13 @@ ghost use Rattle.register.specs.Register.{claimsOf};
 ghost use Rattle.register.specs.Chain.{latest};
 ghost use Rattle.rules.specs.Striking.{Distinct};
 ghost use Rattle.columns.specs.Columns.{claimId, parentOf, chainPlaces};
-ghost use Rattle.changes.specs.Refusals.{outcomeOf};
+ghost use Rattle.refusals.specs.Refusals.{outcomeOf};
 ghost use Rattle.changes.specs.Changes.{revokeTests, revoked};
 ghost use Rattle.revoking.specs.Struck.{struckClaims};
-use changes::Outcome;
-use changes::Refusal;
 use changes::Revoked;
 use columns::Place;
+use refusals::Outcome;
+use refusals::Refusal;
 use register::Claim;
 use register::Claims;
 use register::Register;
@@ -66,17 +66,8 @@ fn strike(k: Claims, x: u32) -> Struck
     requires { ⌜ Distinct claimId parentOf (latest (claimsOf k)) ⌝ }
     ensures { λ r. ⌜ r ≡ struckClaims k x ⌝ }
 {
-    let zero = Claim {
-        id: 0,
-        parent: 0,
-        grantor: 0,
-        holder: 0,
-        resource: 0,
-        rights: 0,
-        weight: 0,
-        expiry: 0,
-    };
-    let mut list = [zero; Register::CLAIMS];
+    let none = Claim::none();
+    let mut list = [none; Register::CLAIMS];
     let mut gone = [0u32; Register::CLAIMS];
     let mut kept: usize = 0;
     let mut went: usize = 0;

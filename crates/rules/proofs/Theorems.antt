@@ -2,14 +2,14 @@
 -- and struck claims have to do with it, where chains lead, that same registers are judged alike, and its plain reading.
 -- Assumes nothing.
 use mathlib.Core.Path.{_≡_}
-use mathlib.Core.Bool.{Bool, true, false, _&&_}
+use mathlib.Core.Bool.{Bool, true, false, not, _&&_}
 use mathlib.Core.List.{List, [], _∷_, _++_, map}
 use Prim.Native.Nat.{ℕ, suc, _≤_}
 use lib.Dec.{eqb}
 use lib.ListN.{length, take}
 use Rattle.lists.specs.Tests.{ands}
 use Rattle.lists.specs.Lists.{any, every}
-use Rattle.lists.specs.Trims.{sift}
+use Rattle.lists.specs.Trims.{filter}
 use Rattle.register.specs.Limits.{hopLimit}
 use Rattle.register.specs.Register.{Same}
 use Rattle.register.specs.Chain.{latest, chain, above, hopsOf, chainOf}
@@ -39,7 +39,7 @@ strike-sound = striking.strike-sound
 
 -- 3b. Those that go are those with a named claim on their chain, themselves included, and the others keep their order.
 pub strike-natural : (w : World) (P : Claim → Bool) (L : List Claim) → soundClaims w L ≡ true
-    → strike (λ c. c .id) (λ c. c .parent) P L ≡ sift (λ c. any P (chain (λ d. d .id) (λ d. d .parent) L (c .id))) L
+    → strike (λ c. c .id) (λ c. c .parent) P L ≡ filter (λ c. not (any P (chain (λ d. d .id) (λ d. d .parent) L (c .id)))) L
 strike-natural w P L h = striking.strike-natural (λ c. c .id) (λ c. c .parent) P L (striking.sound-distinct w L h)
 
 -- 3c. What is left has the chain that it had.

@@ -1,90 +1,52 @@
--- Things with distinct ids: what is asked of the one numbered x is asked of what stands at its place. Assumes nothing.
-use mathlib.Core.Path.{_≡_, refl, sym, ap, _∙_}
-use mathlib.Core.Bool.{Bool, true, false, not, _&&_, _||_, or-false}
-use mathlib.Core.List.{List, [], _∷_, _++_, map, map-append}
-use Prim.Native.Nat.{ℕ, zero, suc, _≤_, _<_}
-use native.Mathlib.Omega.{arith}
-use borrow.Author.Tests.{ne-eqb, eqb-true, eqb-false, ltb-true, ltb-false, not-true}
-use lib.Dec.{eqb, ltb}
-use lib.ListN.{length, take, getD, length-map, List·getD-map}
-use lib.Seq.{take-suc, take-all}
-use Rattle.lists.specs.Tests.{cases, and-left, and-right, or-left, or-right}
+-- Distinct numbers with one more behind them. Assumes nothing.
+use mathlib.Core.Path.{_≡_, refl, sym, _∙_}
+use mathlib.Core.Bool.{Bool, true, false, not, _&&_, _||_, and-false, or-true, or-false}
+use mathlib.Core.List.{List, [], _∷_, _++_}
+use Prim.Native.Nat.{ℕ}
+use borrow.Author.Tests.{eq-eqb, eqb-true, not-true}
+use lib.Dec.{eqb}
+use Rattle.lists.specs.Tests.{cases, clash, and-left, and-right, or-other, eqb-turned}
 use Rattle.lists.specs.Lists.{any, any-append}
-use Rattle.lists.specs.Each.{any-map, none-weaken}
-use Rattle.columns.specs.Columns.{latestPlace}
-use Rattle.columns.specs.Laws.{place-none, place-hit, place-miss, place-past}
-use Rattle.columns.specs.declared.Place.{Place}
-use Rattle.columns.specs.declared.Place.the-variants.{At, Nowhere}
 use Rattle.rules.specs.Sound.{distinct}
-use Rattle.rules.specs.Registers.{distinct-nil, distinct-cons}
+use Rattle.rules.specs.Registers.{distinct-cons}
 
--- ids that are distinct with a last one are distinct without it, and the last is none of them
+-- they are distinct where they were and it is none of them
+pub distinct-more : (l : List ℕ) (x : ℕ) → distinct (l ++ (x ∷ [])) ≡ distinct l && not (any (eqb x) l)
+unfolding distinct
+distinct-more [] x = refl
+distinct-more (a ∷ l) x =
+    rw (distinct-more l x, any-append (eqb a) l (x ∷ []), or-false (eqb a x), eqb-turned a x)
+    (joined (any (eqb a) l) (eqb x a) (distinct l) (any (eqb x) l))
+  where
+    joined : (p q d r : Bool) → not (p || q) && (d && not r) ≡ (not p && d) && not (q || r)
+    joined true q d r = refl
+    joined false true true r = refl
+    joined false true false r = refl
+    joined false false d r = refl
+
+-- so ids that are distinct with a last one are distinct without it, and the last is none of them
 pub record LastApart (l : List ℕ) (x : ℕ) : Type 0 where
   pub before : distinct l ≡ true
   pub other : any (eqb x) l ≡ false
 
 pub last-apart : (l : List ℕ) (x : ℕ) → distinct (l ++ (x ∷ [])) ≡ true → LastApart l x
-last-apart [] x h = record { before = distinct-nil; other = refl }
-last-apart (y ∷ l) x h =
-    let told = sym (distinct-cons y (l ++ (x ∷ []))) ∙ h in
-    let behind = last-apart l x (and-right (not (any (eqb y) (l ++ (x ∷ [])))) (distinct (l ++ (x ∷ []))) told) in
-    let fresh = not-true (any (eqb y) (l ++ (x ∷ []))) (and-left (not (any (eqb y) (l ++ (x ∷ [])))) (distinct (l ++ (x ∷ []))) told) in
-    let parts : any (eqb y) l || (eqb y x || false) ≡ false = sym (any-append (eqb y) l (x ∷ [])) ∙ fresh in
-    let none : any (eqb y) l ≡ false = or-left (any (eqb y) l) (eqb y x || false) parts in
-    let apart : eqb y x ≡ false = or-left (eqb y x) false (or-right (any (eqb y) l) (eqb y x || false) parts) in
-    let turned : eqb x y ≡ false = ne-eqb x y (λ same. eqb-false y x apart (sym same)) in
-    record { before = distinct-cons y l ∙ rw (none, behind .before); other = rw (turned, behind .other) }
+last-apart l x h =
+    let told = sym (distinct-more l x) ∙ h in
+    record {
+      before = and-left (distinct l) (not (any (eqb x) l)) told;
+      other = not-true (any (eqb x) l) (and-right (distinct l) (not (any (eqb x) l)) told);
+    }
 
--- what is asked of the thing at a place, and of nothing where there is none
-abbrev pub askedAt : {A : Type 0} → A → List A → (A → Bool) → Place → Bool
-askedAt d l q (At j) = q (getD l j d)
-askedAt d l q Nowhere = false
+-- and stay distinct with a last one that is none of them
+pub distinct-last : (l : List ℕ) (x : ℕ) → distinct l ≡ true → any (eqb x) l ≡ false → distinct (l ++ (x ∷ [])) ≡ true
+distinct-last l x h none = distinct-more l x ∙ rw (h, none)
 
-last-hit : (a b c : Bool) → a ≡ false → b ≡ true → a || ((b && c) || false) ≡ c
-last-hit a b c h k = rw (h, k) (or-false c)
-
-last-miss : (a b c : Bool) → b ≡ false → a || ((b && c) || false) ≡ a
-last-miss a b c k = rw k (or-false a)
-
-module _ {A : Type 0} (id : A → ℕ) (d : A) (zeroed : id d ≡ 0) (l : List A) (x : ℕ) (q : A → Bool) where
-  abbrev asked : A → Bool
-  asked a = eqb x (id a) && q a
-
-  one-more : (n : ℕ) → n < length l → any asked (take (suc n) l) ≡ any asked (take n l) || (asked (getD l n d) || false)
-  one-more n inside = rw (take-suc l n d) (any-append asked (take n l) (getD l n d ∷ []))
-
-  ids-last : (n : ℕ) → n < length l → distinct (map id (take (suc n) l)) ≡ true → LastApart (map id (take n l)) (id (getD l n d))
-  ids-last n inside h =
-      last-apart (map id (take n l)) (id (getD l n d))
-      (rw (map-append id (take n l) (getD l n d ∷ [])) at (rw (take-suc l n d) at h))
-
-  column-at : (n : ℕ) → getD (map id l) n 0 ≡ id (getD l n d)
-  column-at n = rw zeroed at (List·getD-map id l n d)
-
-  -- some of the first n has the number x and passes a test where the one at the place of x does
-  pub asked-natural : (n : ℕ) → distinct (map id (take n l)) ≡ true
-      → any (λ a. eqb x (id a) && q a) (take n l) ≡ askedAt d l q (latestPlace (map id l) n x)
-  asked-natural zero h = rw (place-none (map id l) x)
-  asked-natural (suc n) h =
-      cases (ltb n (length l))
-      (λ t. let inside : n < length l = ltb-true n (length l) t in
-      let there : n < length (map id l) = omega (arith, length-map l id) in
-      let apart = ids-last n inside h in
-      cases (eqb x (id (getD l n d)))
-      (λ e. let same : x ≡ id (getD l n d) = eqb-true x (id (getD l n d)) e in
-      let none : any (λ a. eqb x (id a)) (take n l) ≡ false =
-      sym (any-map id (eqb x) (take n l)) ∙ ap (λ y. any (eqb y) (map id (take n l))) same ∙ apart .other in
-      let before : any asked (take n l) ≡ false = none-weaken asked (λ a. eqb x (id a)) (λ a. and-left (eqb x (id a)) (q a)) (take n l) none in
-      one-more n inside
-      ∙ last-hit (any asked (take n l)) (eqb x (id (getD l n d))) (q (getD l n d)) before e
-      ∙ sym (ap (askedAt d l q) (place-hit (map id l) x n there (column-at n ∙ sym same))))
-      (λ e. one-more n inside
-      ∙ last-miss (any asked (take n l)) (eqb x (id (getD l n d))) (q (getD l n d)) e
-      ∙ asked-natural n (apart .before)
-      ∙ sym (ap (askedAt d l q) (place-miss (map id l) x n there (λ same. eqb-false x (id (getD l n d)) e (sym same ∙ column-at n))))))
-      (λ t. let past : length l ≤ n = ltb-false n (length l) t in
-      let ended : length (map id l) ≤ n = omega (arith, length-map l id) in
-      let whole : take (suc n) l ≡ take n l = take-all (suc n) l (omega arith) ∙ sym (take-all n l past) in
-      ap (any asked) whole
-      ∙ asked-natural n (rw whole at h)
-      ∙ sym (ap (askedAt d l q) (place-past (map id l) x n ended)))
+-- and are not where one of them comes again
+pub distinct-again : (l : List ℕ) (x : ℕ) (more : List ℕ) → any (eqb x) l ≡ true → distinct (l ++ (x ∷ more)) ≡ false
+distinct-again [] x more h = clash false h refl
+distinct-again (y ∷ l) x more h =
+    cases (eqb x y)
+    (λ e. let turned : eqb y x ≡ true = eq-eqb y x (sym (eqb-true x y e)) in
+    distinct-cons y (l ++ (x ∷ more)) ∙ rw (any-append (eqb y) l (x ∷ more), turned, or-true (any (eqb y) l)))
+    (λ e. distinct-cons y (l ++ (x ∷ more))
+    ∙ rw (distinct-again l x more (or-other (eqb x y) (any (eqb x) l) h e)) (and-false (not (any (eqb y) (l ++ (x ∷ more))))))

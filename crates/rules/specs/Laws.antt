@@ -15,7 +15,7 @@ use Rattle.register.specs.Limits.{isId, ranged, hopLimit, idLimit, weightLimit,
 use Rattle.register.specs.Chain.{above, circling}
 use Rattle.register.specs.Laws.{chain-zero}
 use Rattle.register.specs.declared.Claim.{Claim}
-use Rattle.rules.specs.Sound.{World, claimFits, namesStand, rootKept, drawnFrom, machineMay, overChain, drawn, fresh, alone, over, acceptable}
+use Rattle.rules.specs.Sound.{World, claimFits, namesStand, rootKept, drawnFrom, machineMay, withinHops, overChain, drawn, fresh, alone, over, acceptable}
 
 -- a claim's fields are in their ranges
 pub record Fits (c : Claim) : Type 0 where
@@ -109,11 +109,11 @@ root-kept-in w c kept =
     (λ e. rw e)
 
 -- (c), of a claim that a machine grants
-pub record Granted (w : World) (c : Claim) : Type 0 where
+pub record MachineGranted (w : World) (c : Claim) : Type 0 where
   pub owned : w .ownerless (c .grantor) ≡ false
   pub free : barsMachine (c .rights) ≡ false
 
-pub machine-may-out : (w : World) (c : Claim) → machineMay w c ≡ true → w .machine (c .grantor) ≡ true → Granted w c
+pub machine-may-out : (w : World) (c : Claim) → machineMay w c ≡ true → w .machine (c .grantor) ≡ true → MachineGranted w c
 unfolding machineMay
 machine-may-out w c h machine =
     let told = or-other (not (w .machine (c .grantor))) (not (w .ownerless (c .grantor)) && not (barsMachine (c .rights))) h (rw machine) in
@@ -122,7 +122,7 @@ machine-may-out w c h machine =
       free = not-true (barsMachine (c .rights)) (and-right (not (w .ownerless (c .grantor))) (not (barsMachine (c .rights))) told);
     }
 
-pub machine-may-in : (w : World) (c : Claim) → (w .machine (c .grantor) ≡ true → Granted w c) → machineMay w c ≡ true
+pub machine-may-in : (w : World) (c : Claim) → (w .machine (c .grantor) ≡ true → MachineGranted w c) → machineMay w c ≡ true
 unfolding machineMay
 machine-may-in w c may = cases (w .machine (c .grantor)) (λ e. let granted = may e in rw (e, granted .owned, granted .free)) (λ e. rw e)
 
@@ -160,7 +160,7 @@ pub record OverChain (p : Claim) (higher : List Claim) (c : Claim) : Type 0 wher
 pub over-chain-out : (p : Claim) (higher : List Claim) (c : Claim) → overChain (p ∷ higher) c ≡ true → OverChain p higher c
 unfolding overChain
 over-chain-out p higher c h =
-    let told = ands-out (drawnFrom p c ∷ leb (length (p ∷ higher)) hopLimit
+    let told = ands-out (drawnFrom p c ∷ withinHops (p ∷ higher)
     ∷ not (circling (λ d. d .grantor) (λ d. d .holder) (p ∷ higher) (c .holder)) ∷ []) h in
     record {
       drawnFromParent = drawn-from-out p c (told .0);

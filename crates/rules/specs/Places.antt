@@ -7,7 +7,7 @@ use Prim.Native.Nat.{ℕ, _≤_}
 use borrow.Author.Tests.{eqb-false}
 use lib.Dec.{eqb}
 use lib.ListN.{take, drop, take-append-drop}
-use Rattle.lists.specs.Tests.{cases, clash, and-left, and-right, and-both}
+use Rattle.lists.specs.Tests.{cases, and-left, and-right, and-both}
 use Rattle.lists.specs.Lists.{any}
 use Rattle.lists.specs.Each.{all-imp, all-append-right, none-all}
 use Rattle.register.specs.Limits.{hopLimit}
@@ -77,9 +77,3 @@ module _ (w : World) where
       (λ h. absurd ((all-append-right (λ e. c .id ≡ e .id → ⊥) M (d ∷ N)
       (fresh-out (M ++ d ∷ N) c (place-acceptable L c (M ++ d ∷ N) h .overEarlier .apart))) .0 same))
       (λ e. e)
-
-  -- a claim is never sound whose parent's number is not 0 and is no earlier claim's: it stands later, on a circle, or nowhere
-  pub parentless-unsound : (L : List Claim) (c : Claim) (M : List Claim) → (c .parent ≡ 0 → ⊥) → any (λ d. eqb (c .parent) (d .id)) M ≡ false
-      → soundClaims w (L ++ c ∷ M) ≡ false
-  parentless-unsound L c M other none =
-      cases (soundClaims w (L ++ c ∷ M)) (λ h. clash (any (λ d. eqb (c .parent) (d .id)) M) (place-parent L c M h other) none) (λ e. e)

@@ -8,7 +8,7 @@ use Rattle.lists.specs.Tests.{ands}
 use Rattle.lists.specs.Lists.{any, every}
 use Rattle.lists.specs.Each.{any-map, every-map}
 use Rattle.register.specs.Limits.{isId, ranged, pathLimit, pathByteLeast, pathByteGreatest}
-use Rattle.register.specs.Register.{actorsOf, resourcesOf, claimsOf, Standing, standing, Same}
+use Rattle.register.specs.Register.{actorsOf, resourcesOf, claimsOf, Standing, resourceStanding, Same}
 use Rattle.register.specs.Chain.{latest}
 use Rattle.register.specs.declared.Actor.{Actor}
 use Rattle.register.specs.declared.Resource.{Resource}
@@ -26,20 +26,20 @@ standingFits human o = ands (
     ∷ every (ranged pathByteLeast pathByteGreatest) (o .path)
     ∷ [])
 
-fits-standing : (human : ℕ → Bool) (resources : List Resource) → every (resourceFits human) resources ≡ every (standingFits human) (map standing resources)
+fits-standing : (human : ℕ → Bool) (resources : List Resource) → every (resourceFits human) resources ≡ every (standingFits human) (map resourceStanding resources)
 unfolding resourceFits standingFits
-fits-standing human resources = sym (every-map standing (standingFits human) resources)
+fits-standing human resources = sym (every-map resourceStanding (standingFits human) resources)
 
-ids-standing : (resources : List Resource) → map (λ o. o .id) resources ≡ map (λ o. o .id) (map standing resources)
+ids-standing : (resources : List Resource) → map (λ o. o .id) resources ≡ map (λ o. o .id) (map resourceStanding resources)
 ids-standing [] = refl
 ids-standing (o ∷ resources) = rw (ids-standing resources)
 
-listed-standing : (resources : List Resource) (x : ℕ) → any (λ o. eqb x (o .id)) resources ≡ any (λ o. eqb x (o .id)) (map standing resources)
-listed-standing resources x = sym (any-map standing (λ o. eqb x (o .id)) resources)
+listed-standing : (resources : List Resource) (x : ℕ) → any (λ o. eqb x (o .id)) resources ≡ any (λ o. eqb x (o .id)) (map resourceStanding resources)
+listed-standing resources x = sym (any-map resourceStanding (λ o. eqb x (o .id)) resources)
 
 keeps-standing : (resources : List Resource) (g x : ℕ)
-    → any (λ o. eqb x (o .id) && eqb g (o .keeper)) resources ≡ any (λ o. eqb x (o .id) && eqb g (o .keeper)) (map standing resources)
-keeps-standing resources g x = sym (any-map standing (λ o. eqb x (o .id) && eqb g (o .keeper)) resources)
+    → any (λ o. eqb x (o .id) && eqb g (o .keeper)) resources ≡ any (λ o. eqb x (o .id) && eqb g (o .keeper)) (map resourceStanding resources)
+keeps-standing resources g x = sym (any-map resourceStanding (λ o. eqb x (o .id) && eqb g (o .keeper)) resources)
 
 world-with : List Actor → (ℕ → Bool) → (ℕ → ℕ → Bool) → World
 world-with actors listed keeps = record {
@@ -51,7 +51,7 @@ world-with actors listed keeps = record {
 }
 
 -- the world of resources is that of the resources as they stand
-pub world-same : (actors : List Actor) (resources others : List Resource) → map standing resources ≡ map standing others
+pub world-same : (actors : List Actor) (resources others : List Resource) → map resourceStanding resources ≡ map resourceStanding others
     → worldOf actors resources ≡ worldOf actors others
 unfolding world-with
 world-same actors resources others e =
@@ -60,7 +60,7 @@ world-same actors resources others e =
     ∙ ap (λ f. world-with actors (worldOf actors others .listed) f) (fun-ext (λ g. fun-ext (λ x. keeps-standing resources g x
     ∙ ap (λ l. any (λ o. eqb x (o .id) && eqb g (o .keeper)) l) e ∙ sym (keeps-standing others g x))))
 
-pub sound-resources-same : (actors : List Actor) (resources others : List Resource) → map standing resources ≡ map standing others
+pub sound-resources-same : (actors : List Actor) (resources others : List Resource) → map resourceStanding resources ≡ map resourceStanding others
     → soundResources actors resources ≡ soundResources actors others
 unfolding soundResources
 sound-resources-same actors resources others e =

@@ -7,8 +7,8 @@ use lib.ListN.{length}
 use Rattle.lists.specs.Tests.{ands}
 use Rattle.lists.specs.Lists.{any, every}
 use Rattle.rights.specs.Rights.{delegating, isRights, hasRight, hasRights, barsMachine}
-use Rattle.register.specs.Limits.{actorLimit, resourceLimit, claimLimit, hopLimit, pathLimit, idLimit, weightLimit, momentEnd}
-use Rattle.register.specs.Limits.{pathByteLeast, pathByteGreatest, humanKind, machineKind, ranged, isId}
+use Rattle.register.specs.Limits.{actorLimit, resourceLimit, claimLimit, hopLimit, pathLimit, idLimit, weightLimit, momentEnd, pathByteLeast, pathByteGreatest, humanKind}
+use Rattle.register.specs.Limits.{machineKind, ranged, isId}
 use Rattle.register.specs.Register.{actorsOf, resourcesOf, claimsOf, pathOf}
 use Rattle.register.specs.Chain.{latest, above, circling}
 use Rattle.register.specs.declared.Actor.{Actor}
@@ -21,9 +21,12 @@ unfoldable pub distinct : List ℕ → Bool
 distinct [] = true
 distinct (x ∷ l) = not (any (eqb x) l) && distinct l
 
--- whether x is a human of the register
+-- whether x is a human of the register; whether it is a machine
 abbrev pub human : List Actor → ℕ → Bool
 human actors x = any (λ a. eqb x (a .id) && eqb humanKind (a .kind)) actors
+
+abbrev pub isMachine : List Actor → ℕ → Bool
+isMachine actors x = any (λ a. eqb x (a .id) && eqb machineKind (a .kind)) actors
 
 -- What claims are judged among: whether a number is an actor's, a machine's, that of an actor without an owner, a resource's; and
 -- whether the first keeps the second.
@@ -38,7 +41,7 @@ pub record World : Type 0 where
 abbrev pub worldOf : List Actor → List Resource → World
 worldOf actors resources = record {
   known = λ x. any (λ a. eqb x (a .id)) actors;
-  machine = λ x. any (λ a. eqb x (a .id) && eqb machineKind (a .kind)) actors;
+  machine = isMachine actors;
   ownerless = λ x. any (λ a. eqb x (a .id) && eqb 0 (a .owner)) actors;
   listed = λ x. any (λ o. eqb x (o .id)) resources;
   keeps = λ g x. any (λ o. eqb x (o .id) && eqb g (o .keeper)) resources;
@@ -102,13 +105,17 @@ drawnFrom p c = ands (
 unfoldable pub machineMay : World → Claim → Bool
 machineMay w c = not (w .machine (c .grantor)) || (not (w .ownerless (c .grantor)) && not (barsMachine (c .rights)))
 
+-- (d) at most 16 hops: a claim has as many as there are claims above it on its chain
+abbrev pub withinHops : List Claim → Bool
+withinHops higher = leb (length higher) hopLimit
+
 -- (b), (d) and (e) of a claim with a parent, over the chain above it, whose first member is the parent: there is a parent, the claim is
 -- drawn from it, there are at most 16 hops, and the claim's holder holds no claim higher on the chain and isn't the root's grantor
 unfoldable pub overChain : List Claim → Claim → Bool
 overChain [] c = false
 overChain (p ∷ higher) c = ands (
     drawnFrom p c
-    ∷ leb (length (p ∷ higher)) hopLimit
+    ∷ withinHops (p ∷ higher)
     ∷ not (circling (λ d. d .grantor) (λ d. d .holder) (p ∷ higher) (c .holder))
     ∷ [])
 

@@ -1,13 +1,13 @@
 -- Striking what a test names with all that is drawn from it: the rest keeps its order, its chains and its soundness. Assumes nothing.
 use mathlib.Core.Path.{_≡_, ap, sym, _∙_}
-use mathlib.Core.Bool.{Bool, true, false, _||_, or-true, or-false}
+use mathlib.Core.Bool.{Bool, true, false, not, _||_, or-true, or-false}
 use mathlib.Core.List.{List, [], _∷_, reverse-reverse}
 use Prim.Native.Nat.{ℕ, _≤_, _<_}
 use lib.ListN.{length}
 use Rattle.lists.specs.Tests.{cases, or-left, or-right, or-middle}
 use Rattle.lists.specs.Lists.{any}
 use Rattle.lists.specs.Each.{Each, All, each-all, each-imp, each-both, all-imp, each-behind, any-same, any-either, all-none}
-use Rattle.lists.specs.Trims.{trim, sift, trim-nil, trim-hit, trim-miss, trim-ind, all-trim, trim-length, trim-none, trim-same, trim-trim, sift-reverse}
+use Rattle.lists.specs.Trims.{trim, filter, trim-nil, trim-hit, trim-miss, trim-ind, all-trim, trim-length, trim-none, trim-same, trim-trim, filter-not, filter-reverse}
 use Rattle.register.specs.Chain.{latest, chain}
 use Rattle.register.specs.Laws.{chain-nil, chain-hit, chain-miss, chain-ind, all-chain, chain-absent, numbered-own, numbered-id, numbered-other}
 use Rattle.register.specs.declared.Claim.{Claim}
@@ -90,13 +90,14 @@ module _ {C : Type 0} (id up : C → ℕ) where
   )
 
   -- so what goes is what has something named on its chain among all, itself included
-  pub strike-natural : (P : C → Bool) (L : List C) → Distinct L → strike P L ≡ sift (λ c. any P (chain id up L (id c))) L
+  pub strike-natural : (P : C → Bool) (L : List C) → Distinct L → strike P L ≡ filter (λ c. not (any P (chain id up L (id c)))) L
   strike-natural P L h = trim-same (struck P) (λ M c. any P (chain id up L (id c))) L (each-imp _ _ (λ M c e. ap (λ H. any P H) (sym e)) L (chain-own L h))
+      ∙ sym (filter-not (λ c. any P (chain id up L (id c))) L)
 
   -- the same in the order of a register
   pub strike-latest : (P : C → Bool) (cs : List C) → Distinct (latest cs)
-      → latest (strike P (latest cs)) ≡ sift (λ c. any P (chain id up (latest cs) (id c))) cs
-  strike-latest P cs h = ap latest (strike-natural P (latest cs) h ∙ sift-reverse (λ c. any P (chain id up (latest cs) (id c))) cs) ∙ reverse-reverse _
+      → latest (strike P (latest cs)) ≡ filter (λ c. not (any P (chain id up (latest cs) (id c)))) cs
+  strike-latest P cs h = ap latest (strike-natural P (latest cs) h ∙ filter-reverse (λ c. not (any P (chain id up (latest cs) (id c)))) cs) ∙ reverse-reverse _
 
 module _ (w : World) where
   -- in a sound list ids are above 0 and distinct

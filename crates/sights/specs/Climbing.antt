@@ -12,7 +12,7 @@ use Rattle.register.specs.Limits.{hopLimit, claimLimit}
 use Rattle.columns.specs.Columns.{latestPlace, chainPlaces}
 use Rattle.columns.specs.Laws.{place-cases, place-found, chain-places-zero, chain-places-at, chain-places-nowhere}
 use Rattle.columns.specs.declared.Place.the-variants.{At}
-use Rattle.finding.specs.Finding.{numberOf, asked, earlierPlaces}
+use Rattle.finding.specs.Finding.{placeNumber, asked, earlierPlaces}
 use Rattle.finding.specs.Laws.{earlier-at}
 use Rattle.use_judging.specs.Uses.{climbed, hopsFrom}
 
@@ -26,7 +26,7 @@ module _ (ids parents : List ℕ) (n : ℕ) (few : n ≤ claimLimit) (long : n �
   -- a step up from the number p among the first m, where the steps behind it are known
   step : (left m p : ℕ) → m ≤ n
       → ((i : ℕ) → i < m → climbed parents ups left i ≡ min left (length (chainPlaces ids parents i (getD parents i 0))))
-      → cond (not (eqb p 0) && ltb (numberOf claimLimit (latestPlace ids m p)) claimLimit) (suc (climbed parents ups left (numberOf claimLimit (latestPlace ids m p)))) 0
+      → cond (not (eqb p 0) && ltb (placeNumber claimLimit (latestPlace ids m p)) claimLimit) (suc (climbed parents ups left (placeNumber claimLimit (latestPlace ids m p)))) 0
       ≡ min (suc left) (length (chainPlaces ids parents m p))
   step left m p below known =
       cases (eqb p 0)

@@ -10,7 +10,7 @@ use lib.Seq.{split-at, getD-take, take-take}
 use Rattle.lists.specs.Lists.{any}
 use Rattle.lists.specs.Each.{all-imp}
 use Rattle.register.specs.Limits.{claimLimit, machineKind}
-use Rattle.register.specs.Register.{actorsOf, resourcesOf, claimsOf, noActor, noClaim}
+use Rattle.register.specs.Register.{actorsOf, resourcesOf, claimsOf, noActor, noClaim, Shaped}
 use Rattle.register.specs.Chain.{latest, hopsOf}
 use Rattle.register.specs.declared.Actor.{Actor}
 use Rattle.register.specs.declared.Register.{Register}
@@ -18,24 +18,24 @@ use Rattle.columns.specs.Columns.{actorId, ownerOf, publicOf, claimId, parentOf
 use Rattle.columns.specs.Laws.{chain-natural}
 use Rattle.columns.specs.declared.Place.{Place}
 use Rattle.columns.specs.declared.Place.the-variants.{At, Nowhere}
+use Rattle.finding.specs.Asked.{askedAt, asked-natural}
 use Rattle.rules.specs.Sound.{World, worldOf, soundClaims, sound}
 use Rattle.rules.specs.Registers.{sound-out}
 use Rattle.rules.specs.Chains.{place-hops-whole}
 use Rattle.actions.specs.declared.Usage.{Usage}
 use Rattle.actions.specs.declared.Violation.the-variants.{NotCovered as UseNotCovered, OwnerNotCovering as UseOwnerNotCovering}
-use Rattle.verdicts.specs.Gate.{covers, isMachine, ownerLacks, useViolation, hopsIn, hopsFor}
-use Rattle.verdicts.specs.Places.{Place as Stands, latest-split}
+use Rattle.verdicts.specs.Gate.{covers, ownerLacks, useViolation, hopsIn, hopsFor}
+use Rattle.verdicts.specs.Places.{latest-split, IsIn}
 use Rattle.verdicts.specs.Coverage.{sound-place}
 use Rattle.verdicts.specs.Trace.{place-hops-most}
 use Rattle.use_judging.specs.Uses.{openTo, hopsFrom, coveredBy, faultOf, reliedOn, useJudged}
 use Rattle.gathering.specs.Gathering.{coverPlaces}
-use Rattle.sights.specs.Sights.{Typed, ownerAt, ownerIn, ownedIn, upsOf, sightOf, spotFor, faultAt}
-use Rattle.rules.specs.Distinct.{askedAt, asked-natural}
+use Rattle.sights.specs.Sights.{ownerAt, ownerIn, ownedIn, upsOf, sightOf, spotFor, faultAt}
 use Rattle.sights.specs.Climbing.{hops-climbed}
-use Rattle.sights.specs.Relying.{aloneAt, claimAt, claimPlaces, firstPlace, first-any, places-within, relied-natural, place-natural, covers-natural}
+use Rattle.sights.specs.Relying.{claimAt, claimPlaces, firstPlace, first-any, places-within, relied-natural, place-natural, covers-natural, onlyAt}
 
 -- ---- the claim relied on: its hops
-module _ (r : Register) (typed : Typed r) (h : sound r ≡ true) where
+module _ (r : Register) (shaped : Shaped r) (h : sound r ≡ true) where
   abbrev ids : List ℕ
   ids = map claimId (r .claims .list)
 
@@ -49,7 +49,7 @@ module _ (r : Register) (typed : Typed r) (h : sound r ≡ true) where
   few = sound-out r h .limits .claimCount
 
   long : r .claims .count ≤ length parents
-  long = omega (arith, few, typed .claimsLong, length-map (r .claims .list) parentOf)
+  long = omega (arith, few, shaped .claims, length-map (r .claims .list) parentOf)
 
   parent-at : (j : ℕ) → getD parents j 0 ≡ claimAt r j .parent
   parent-at j = List·getD-map parentOf (r .claims .list) j noClaim
@@ -58,7 +58,7 @@ module _ (r : Register) (typed : Typed r) (h : sound r ≡ true) where
   below j inside = omega (arith, length-take (r .claims .count) (r .claims .list))
 
   -- the claim at a place of the register stands there, behind the claims at the places below
-  abbrev stands-at : (j : ℕ) → j < length (claimsOf (r .claims)) → Stands (claimsOf (r .claims)) (claimAt r j)
+  abbrev stands-at : (j : ℕ) → j < length (claimsOf (r .claims)) → IsIn (claimsOf (r .claims)) (claimAt r j)
   stands-at j inside =
       let before = take-take j (r .claims .count) (r .claims .list) (omega (arith, below j inside)) in
       let here = getD-take (r .claims .count) (r .claims .list) j noClaim (below j inside) in
@@ -76,7 +76,7 @@ module _ (r : Register) (typed : Typed r) (h : sound r ≡ true) where
   sound-at j inside = sound-place r h (claimAt r j) (stands-at j inside)
 
   -- the claim at a place of the register has as many hops as its chain by columns has steps
-  hops-at : (j : ℕ) → j < length (claimsOf (r .claims)) → hopsIn r (aloneAt (claimAt r) (At j)) ≡ hopsFrom parents (upsOf r) (At j)
+  hops-at : (j : ℕ) → j < length (claimsOf (r .claims)) → hopsIn r (onlyAt (claimAt r) (At j)) ≡ hopsFrom parents (upsOf r) (At j)
   hops-at j inside =
       let at = stands-at j inside in
       let whole : hopsOf (latest (claimsOf (r .claims))) (claimAt r j) ≡ hopsOf (latest (take j (r .claims .list))) (claimAt r j) =
@@ -93,9 +93,9 @@ module _ (r : Register) (typed : Typed r) (h : sound r ≡ true) where
   unfolding hopsFor
   hops-natural now x u =
       ap (hopsIn r) (relied-natural r now x u)
-      ∙ first-any (λ p. hopsIn r (aloneAt (claimAt r) p) ≡ hopsFrom parents (upsOf r) p) _ (claimPlaces r) refl
+      ∙ first-any (λ p. hopsIn r (onlyAt (claimAt r) p) ≡ hopsFrom parents (upsOf r) p) _ (claimPlaces r) refl
       (all-imp (λ j. j < length (claimsOf (r .claims)))
-      (λ j. hopsIn r (aloneAt (claimAt r) (At j)) ≡ hopsFrom parents (upsOf r) (At j)) hops-at (claimPlaces r) (places-within r))
+      (λ j. hopsIn r (onlyAt (claimAt r) (At j)) ≡ hopsFrom parents (upsOf r) (At j)) hops-at (claimPlaces r) (places-within r))
 
 -- ---- the actor: whether it is a machine, and its owner
 module _ (r : Register) (h : sound r ≡ true) (x : ℕ) where
@@ -109,23 +109,23 @@ module _ (r : Register) (h : sound r ≡ true) (x : ℕ) where
 
   -- what is asked of a machine and of its owner, place by place
   owner-asked : (f : ℕ → Bool) (p : Place)
-      → askedAt noActor (r .actors .list) (λ a. eqb (a .kind) machineKind && (not (eqb (a .owner) 0) && not (f (a .owner)))) p
-      ≡ (askedAt noActor (r .actors .list) (λ a. eqb (a .kind) machineKind) p && not (eqb (ownerAt (map ownerOf (r .actors .list)) p) 0))
+      → askedAt noActor (r .actors .list) (λ a. eqb machineKind (a .kind) && (not (eqb (a .owner) 0) && not (f (a .owner)))) p
+      ≡ (askedAt noActor (r .actors .list) (λ a. eqb machineKind (a .kind)) p && not (eqb (ownerAt (map ownerOf (r .actors .list)) p) 0))
       && not (f (ownerAt (map ownerOf (r .actors .list)) p))
   owner-asked f Nowhere = refl
   owner-asked f (At j) =
       rw (List·getD-map ownerOf (r .actors .list) j noActor)
-      (sym (and-assoc (eqb (getD (r .actors .list) j noActor .kind) machineKind) (not (eqb (getD (r .actors .list) j noActor .owner) 0))
+      (sym (and-assoc (eqb machineKind (getD (r .actors .list) j noActor .kind)) (not (eqb (getD (r .actors .list) j noActor .owner) 0))
       (not (f (getD (r .actors .list) j noActor .owner)))))
 
   -- the owner lacks where x is a machine with an owner and the owner does not cover the use
   pub owner-natural : (now : ℕ) (u : Usage)
       → ownerLacks r now x u ≡ ownedIn r x && not (covers r now (ownerIn r x) u)
-  unfolding ownerLacks isMachine
+  unfolding ownerLacks
   owner-natural now u =
-      asked-actor (λ a. eqb (a .kind) machineKind && (not (eqb (a .owner) 0) && not (covers r now (a .owner) u)))
+      asked-actor (λ a. eqb machineKind (a .kind) && (not (eqb (a .owner) 0) && not (covers r now (a .owner) u)))
       ∙ owner-asked (λ y. covers r now y u) actorPlace
-      ∙ sym (ap (λ b. (b && not (eqb (ownerIn r x) 0)) && not (covers r now (ownerIn r x) u)) (asked-actor (λ a. eqb (a .kind) machineKind)))
+      ∙ sym (ap (λ b. (b && not (eqb (ownerIn r x) 0)) && not (covers r now (ownerIn r x) u)) (asked-actor (λ a. eqb machineKind (a .kind))))
 
 -- ---- the judgement
 
@@ -141,7 +141,7 @@ asked-where : {A : Type 0} (q : A → Bool) (b : Bool) (there none : A) → b &&
 asked-where q true there none = refl
 asked-where q false there none = refl
 
-module _ (r : Register) (typed : Typed r) (h : sound r ≡ true) (now x : ℕ) (u : Usage) where
+module _ (r : Register) (shaped : Shaped r) (h : sound r ≡ true) (now x : ℕ) (u : Usage) where
   -- the use is open
   abbrev freely : Bool
   freely = openTo (map publicOf (r .resources .list)) (spotFor r u) (u .right)
@@ -151,7 +151,7 @@ module _ (r : Register) (typed : Typed r) (h : sound r ≡ true) (now x : ℕ) (
   place y = reliedOn (sightOf r now x) (coverPlaces (r .claims) y now) (spotFor r u) (u .right)
 
   covered-natural : (y : ℕ) → coveredBy freely (place y) ≡ covers r now y u
-  covered-natural y = ap (coveredBy freely) (place-natural r typed h now y u x) ∙ sym (covers-natural r typed h now y u)
+  covered-natural y = ap (coveredBy freely) (place-natural r shaped h now y u x) ∙ sym (covers-natural r shaped h now y u)
 
   lacking-natural : ownedIn r x && not (coveredBy freely (reliedOn (sightOf r now x) (sightOf r now x .theirs) (spotFor r u) (u .right)))
       ≡ ownerLacks r now x u
@@ -169,10 +169,10 @@ module _ (r : Register) (typed : Typed r) (h : sound r ≡ true) (now x : ℕ) (
   pub hop-natural : useJudged (sightOf r now x) (spotFor r u) (u .right) .hops ≡ hopsFor r now x u
   unfolding useJudged
   hop-natural =
-      ap (hopsFrom (map parentOf (r .claims .list)) (upsOf r)) (place-natural r typed h now x u x) ∙ sym (hops-natural r typed h now x u)
+      ap (hopsFrom (map parentOf (r .claims .list)) (upsOf r)) (place-natural r shaped h now x u x) ∙ sym (hops-natural r shaped h now x u)
 
 -- a use judged by columns is the use as the gate judges it: its violations and its hop count
-pub use-natural : (r : Register) → Typed r → sound r ≡ true → (now x n : ℕ) (u : Usage)
+pub use-natural : (r : Register) → Shaped r → sound r ≡ true → (now x n : ℕ) (u : Usage)
     → (faultAt n (useJudged (sightOf r now x) (spotFor r u) (u .right) .fault) ≡ useViolation r now x n u)
     × (useJudged (sightOf r now x) (spotFor r u) (u .right) .hops ≡ hopsFor r now x u)
-use-natural r typed h now x n u = (fault-natural r typed h now x u n, hop-natural r typed h now x u)
+use-natural r shaped h now x n u = (fault-natural r shaped h now x u n, hop-natural r shaped h now x u)

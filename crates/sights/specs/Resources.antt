@@ -12,13 +12,14 @@ use Rattle.lists.specs.Lists.{any}
 use Rattle.rights.specs.Rights.{reading}
 use Rattle.paths.specs.Containment.{contained}
 use Rattle.register.specs.Limits.{resourceLimit}
-use Rattle.register.specs.Register.{resourcesOf, pathOf, noResource}
+use Rattle.register.specs.Register.{resourcesOf, pathOf, noResource, Shaped}
 use Rattle.register.specs.declared.Resource.{Resource}
 use Rattle.register.specs.declared.Register.{Register}
 use Rattle.columns.specs.Columns.{resourceId, publicOf, latestPlace}
 use Rattle.columns.specs.Laws.{place-found}
 use Rattle.columns.specs.declared.Place.{Place}
 use Rattle.columns.specs.declared.Place.the-variants.{At, Nowhere}
+use Rattle.finding.specs.Asked.{askedAt, asked-natural}
 use Rattle.rules.specs.Sound.{sound}
 use Rattle.rules.specs.Registers.{sound-out}
 use Rattle.actions.specs.declared.Usage.{Usage}
@@ -26,8 +27,7 @@ use Rattle.verdicts.specs.Gate.{publicRead, contains}
 use Rattle.gathering.specs.Gathering.{spotOf, spotIn}
 use Rattle.coverage.specs.Laws.{containing}
 use Rattle.use_judging.specs.Uses.{openTo}
-use Rattle.sights.specs.Sights.{Typed, spotFor}
-use Rattle.rules.specs.Distinct.{askedAt, asked-natural}
+use Rattle.sights.specs.Sights.{spotFor}
 
 -- what is asked at a place below the limit is asked at its spot
 asked-limited : {A : Type 0} (d : A) (l : List A) (q : A → Bool) (p : Place) → ((j : ℕ) → p ≡ At j → j < resourceLimit)
@@ -59,15 +59,15 @@ module _ (r : Register) (h : sound r ≡ true) where
       (asked-spot y (λ i. contained (pathOf (getD (r .resources .list) (spotBy r x) noResource)) (pathOf i)))
 
   -- past the spots nothing is public
-  public-spot : Typed r → (j : ℕ)
+  public-spot : Shaped r → (j : ℕ)
       → ltb j resourceLimit && eqb (getD (r .resources .list) j noResource .public) 1 ≡ eqb (getD (map publicOf (r .resources .list)) j 0) 1
-  public-spot typed j =
+  public-spot shaped j =
       cases (ltb j resourceLimit) (λ e. rw (e, List·getD-map publicOf (r .resources .list) j noResource))
-      (λ e. let past : length (r .resources .list) ≤ j = omega (arith, typed .resourcesLong, ltb-false j resourceLimit e) in
+      (λ e. let past : length (r .resources .list) ≤ j = omega (arith, shaped .resources, ltb-false j resourceLimit e) in
       rw (e, List·getD-map publicOf (r .resources .list) j noResource, List·getD-eq-default (r .resources .list) noResource past))
 
   -- a public resource read is one open at its spot
-  pub public-natural : Typed r → (u : Usage) → publicRead r u ≡ openTo (map publicOf (r .resources .list)) (spotFor r u) (u .right)
+  pub public-natural : Shaped r → (u : Usage) → publicRead r u ≡ openTo (map publicOf (r .resources .list)) (spotFor r u) (u .right)
   unfolding publicRead
-  public-natural typed u =
-      ap (λ b. eqb (u .right) reading && b) (asked-spot (u .resource) (λ o. eqb (o .public) 1) ∙ public-spot typed (spotFor r u))
+  public-natural shaped u =
+      ap (λ b. eqb (u .right) reading && b) (asked-spot (u .resource) (λ o. eqb (o .public) 1) ∙ public-spot shaped (spotFor r u))

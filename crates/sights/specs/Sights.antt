@@ -1,33 +1,25 @@
 -- What the gate sees of a register for an actor at a moment, by columns: what `use_judging` is handed.
-use mathlib.Core.Path.{_≡_}
 use mathlib.Core.Bool.{Bool, not, _&&_, cond}
 use mathlib.Core.List.{List, [], _∷_, map}
 use Prim.Native.Nat.{ℕ}
 use lib.Dec.{eqb}
-use lib.ListN.{length, getD}
-use Rattle.lists.specs.Each.{All}
-use Rattle.register.specs.Limits.{actorLimit, resourceLimit, claimLimit, pathLimit}
+use lib.ListN.{getD}
+use Rattle.register.specs.Limits.{resourceLimit, claimLimit}
+use Rattle.register.specs.Register.{actorsOf}
 use Rattle.register.specs.declared.Register.{Register}
+use Rattle.rules.specs.Sound.{isMachine}
 use Rattle.columns.specs.Columns.{actorId, ownerOf, resourceId, publicOf, claimId, parentOf, claimedOf, rightsOf, latestPlace}
 use Rattle.columns.specs.declared.Place.{Place}
 use Rattle.columns.specs.declared.Place.the-variants.{At, Nowhere}
 use Rattle.actions.specs.declared.Usage.{Usage}
 use Rattle.actions.specs.declared.Violation.{Violation}
 use Rattle.actions.specs.declared.Violation.the-variants.{NotCovered as UseNotCovered, OwnerNotCovering as UseOwnerNotCovering}
-use Rattle.verdicts.specs.Gate.{isMachine}
 use Rattle.finding.specs.Finding.{placesOf, earlierPlaces}
 use Rattle.gathering.specs.Gathering.{spotIn, coverPlaces}
 use Rattle.flat_paths.specs.Laid.{laid}
 use Rattle.use_judging.specs.Uses.{Sight}
 use Rattle.use_judging.specs.declared.Fault.{Fault}
 use Rattle.use_judging.specs.declared.Fault.the-variants.{Nothing, NotCovered, OwnerNotCovering}
-
--- the arrays of a register have their lengths
-pub record Typed (r : Register) : Type 0 where
-  pub actorsLong : length (r .actors .list) ≡ actorLimit
-  pub resourcesLong : length (r .resources .list) ≡ resourceLimit
-  pub claimsLong : length (r .claims .list) ≡ claimLimit
-  pub pathsLong : All (λ o. length (o .path) ≡ pathLimit) (r .resources .list)
 
 -- the owner's number of the actor at a place, 0 for none
 abbrev pub ownerAt : List ℕ → Place → ℕ
@@ -40,7 +32,7 @@ ownerIn r x = ownerAt (map ownerOf (r .actors .list)) (latestPlace (map actorId 
 
 -- whether the actor numbered x is a machine with an owner
 abbrev pub ownedIn : Register → ℕ → Bool
-ownedIn r x = isMachine r x && not (eqb (ownerIn r x) 0)
+ownedIn r x = isMachine (actorsOf (r .actors)) x && not (eqb (ownerIn r x) 0)
 
 -- the place of each claim's resource
 abbrev pub spotsOf : Register → List ℕ

@@ -19,18 +19,18 @@ use Rattle.columns.specs.Columns.{claimId, parentOf, grantorOf, holderOf, lates
 use Rattle.columns.specs.Laws.{place-found, chain-places-zero}
 use Rattle.columns.specs.declared.Place.{Place}
 use Rattle.columns.specs.declared.Place.the-variants.{At, Nowhere}
-use Rattle.finding.specs.Finding.{numberOf, earlierPlaces}
+use Rattle.finding.specs.Finding.{placeNumber, earlierPlaces}
 use Rattle.finding.specs.Laws.{earlier-at}
 use Rattle.rules.specs.Sound.{over}
 use Rattle.over.specs.Judged.{overAt, standOver}
-use Rattle.over.specs.Laws.{Kept, higher, doubled, root-stands, parent-nowhere, hops-natural, over-within, over-natural, stand-nil, stand-cons}
+use Rattle.over.specs.Laws.{KeptPlaces, higher, doubled, root-stands, parent-nowhere, hops-natural, over-within, over-natural, stand-nil, stand-cons}
 
 -- a place told by its number: below the limit it is that, and the limit is none
-number-at : (p : Place) (x : ℕ) → x ≡ numberOf claimLimit p → x < claimLimit → p ≡ At x
+number-at : (p : Place) (x : ℕ) → x ≡ placeNumber claimLimit p → x < claimLimit → p ≡ At x
 number-at (At j) x e h = ap At (sym e)
 number-at Nowhere x e h = absurd (omega arith)
 
-number-none : (p : Place) (x : ℕ) → x ≡ numberOf claimLimit p → ((j : ℕ) → p ≡ At j → j < claimLimit) → claimLimit ≤ x → p ≡ Nowhere
+number-none : (p : Place) (x : ℕ) → x ≡ placeNumber claimLimit p → ((j : ℕ) → p ≡ At j → j < claimLimit) → claimLimit ≤ x → p ≡ Nowhere
 number-none (At j) x e below h = absurd (omega (arith, below j refl))
 number-none Nowhere x e below h = refl
 
@@ -91,21 +91,21 @@ module _ {cs : List Claim} {n : ℕ} {grantors holders ups twins : List ℕ} (t 
   asked-inside : (f : Claim → ℕ) → i < min n (min claimLimit (length (map f cs)))
   asked-inside f = omega (arith, inside, t .short, t .long, length-map cs f)
 
-  pub ups-at : getD ups i 0 ≡ numberOf claimLimit (latestPlace (map claimId cs) i (getD cs i noClaim .parent))
+  pub ups-at : getD ups i 0 ≡ placeNumber claimLimit (latestPlace (map claimId cs) i (getD cs i noClaim .parent))
   ups-at =
       rw (t .parents) (earlier-at (map claimId cs) (map parentOf cs) n claimLimit i 0 (asked-inside parentOf))
-      ∙ ap (λ x. numberOf claimLimit (latestPlace (map claimId cs) i x)) (List·getD-map parentOf cs i noClaim)
+      ∙ ap (λ x. placeNumber claimLimit (latestPlace (map claimId cs) i x)) (List·getD-map parentOf cs i noClaim)
 
-  twins-at : getD twins i 0 ≡ numberOf claimLimit (latestPlace (map claimId cs) i (getD cs i noClaim .id))
+  twins-at : getD twins i 0 ≡ placeNumber claimLimit (latestPlace (map claimId cs) i (getD cs i noClaim .id))
   twins-at =
       rw (t .doubles) (earlier-at (map claimId cs) (map claimId cs) n claimLimit i 0 (asked-inside claimId))
-      ∙ ap (λ x. numberOf claimLimit (latestPlace (map claimId cs) i x)) (List·getD-map claimId cs i noClaim)
+      ∙ ap (λ x. placeNumber claimLimit (latestPlace (map claimId cs) i x)) (List·getD-map claimId cs i noClaim)
 
   -- the places of the parents are kept of the claims before it
-  kept-ups : Kept (map claimId cs) (map parentOf cs) ups i
+  kept-ups : KeptPlaces (map claimId cs) (map parentOf cs) ups i
   kept-ups j k before e =
       rw (t .parents) (earlier-at (map claimId cs) (map parentOf cs) n claimLimit j 0 (omega (arith, before, inside, t .short, t .long, length-map cs parentOf)))
-      ∙ ap (numberOf claimLimit) e
+      ∙ ap (placeNumber claimLimit) e
 
   below : (x j : ℕ) → latestPlace (map claimId cs) i x ≡ At j → j < claimLimit
   below x j q = let found = place-found (map claimId cs) x i j q in omega (arith, found .0, inside, t .short)

@@ -17,7 +17,7 @@ use Rattle.register.specs.Chain.{latest}
 use Rattle.register.specs.declared.Actor.{Actor}
 use Rattle.register.specs.declared.Resource.{Resource}
 use Rattle.register.specs.declared.Claim.{Claim}
-use Rattle.columns.specs.Columns.{actorId, kindOf, ownerOf, resourceId, keeperOf, grantorOf, holderOf, claimedOf}
+use Rattle.columns.specs.Columns.{actorId, actorKind, ownerOf, resourceId, keeperOf, grantorOf, holderOf, claimedOf}
 use Rattle.finding.specs.Finding.{placesOf}
 use Rattle.finding.specs.Laws.{places-at}
 use Rattle.rules.specs.Sound.{World, worldOf, distinct, alone, over, acceptable, soundClaims}
@@ -80,7 +80,7 @@ pub record Looked (actors : List Actor) (a : ℕ) (resources : List Resource) (o
   pub apart : distinct (map actorId (take a actors)) ≡ true
   pub scant : o ≤ claimLimit
   pub distant : distinct (map resourceId (take o resources)) ≡ true
-  pub kinded : kinds ≡ map kindOf actors
+  pub kinded : kinds ≡ map actorKind actors
   pub owned : owners ≡ map ownerOf actors
   pub kept : keepers ≡ map keeperOf resources
   pub granted : granting ≡ placesOf (map actorId actors) a (map grantorOf cs) n claimLimit

@@ -12,25 +12,26 @@ use lib.Seq.{length-take-le}
 use Rattle.lists.specs.Tests.{and-left, and-right, and-both}
 use Rattle.lists.specs.Lists.{every}
 use Rattle.lists.specs.Each.{All, all-imp, every-all, all-every, ands-out}
+use Rattle.lists.specs.Fills.{full-length}
 use Rattle.register.specs.Limits.{idLimit, momentEnd}
 use Rattle.rights.specs.Rights.{rightCount, isRight}
 use Rattle.rules.specs.Laws.{ranged-in, ranged-greatest}
 use Rattle.actions.specs.Actions.{useLimit, governLimit, flagCount, usesOf, governsOf, actionFits}
 use Rattle.actions.specs.declared.Usage.{Usage}
 use Rattle.actions.specs.declared.Action.{Action}
-use Rattle.changes.specs.declared.Outcome.the-variants.{Accepted, Refused}
-use Rattle.changes.specs.declared.Refusal.{Refusal}
+use Rattle.refusals.specs.declared.Outcome.the-variants.{Accepted, Refused}
+use Rattle.refusals.specs.declared.Refusal.{Refusal}
 use Rattle.lines.specs.Reading.{State, going, Read, closed}
 use Rattle.texts.specs.Keys.{usesKey, governsKey}
 use Rattle.texts.specs.Records.{values, passed, linesText, linesFit, sectionText}
-use Rattle.texts.specs.Actions.{headForms, headNumbers, useForms, useNumbers, useText, governForm, governText, noUse, noAction}
-use Rattle.texts.specs.Actions.{actionFrom, ShapedAction, SameAction, readUses, readGoverns, actionOf, actionText, actionAnswer, actionRead}
+use Rattle.texts.specs.Actions.{headForms, headNumbers, useForms, useNumbers, useText, governForm, governText, noUse, noAction, actionFrom, ShapedAction, SameAction}
+use Rattle.texts.specs.Actions.{readUses, readGoverns, actionOf, actionText, actionRead, actionEnding}
 use Rattle.texts.specs.Fitting.{lines-fit-none, lines-fit-more, lines-fit-first, lines-fit-others, take-few}
 use Rattle.texts.specs.declared.ActionRead.{ActionRead}
 use Rattle.texts.proofs.Things.{Codec, Pair, pair}
 use Rattle.texts.proofs.Forms.{lines, sectioned}
 use Rattle.texts.proofs.Entries.{usage, use-fits, govern, govern-fits}
-use Rattle.texts.proofs.Holding.{held-entries, full-length}
+use Rattle.texts.proofs.Holding.{held-entries}
 use Rattle.texts.proofs.Answering.{going-same, closed-going, accepted-action, refused-action}
 
 -- an action of which each number may stand in its line, with no more entries than the limits
@@ -143,9 +144,9 @@ written-answer a h =
     let reads = parts .reads (partsOf a) [] 1 (parts-fit a (action-lines-out a h)) in
     let whole = parts .text (partsOf a) ++ [] in
     let text : actionText a ≡ whole = text-parts a ∙ sym (append-nil (parts .text (partsOf a))) in
-    ap (λ (x : Read Action). actionAnswer (x .value) (x .state)) (ap actionOf text ∙ from-parts whole)
-    ∙ ap (λ (p : Lists). actionAnswer (holding p) (closed (parts .read (going whole 1) .state))) (reads .value)
-    ∙ ap (λ (st : State). actionAnswer (holding (partsOf a)) (closed st)) (reads .state)
+    ap (λ (x : Read Action). actionEnding (x .value) (x .state)) (ap actionOf text ∙ from-parts whole)
+    ∙ ap (λ (p : Lists). actionEnding (holding p) (closed (parts .read (going whole 1) .state))) (reads .value)
+    ∙ ap (λ (st : State). actionEnding (holding (partsOf a)) (closed st)) (reads .state)
 
 pub written-accepted : (a : Action) → actionFits a ≡ true → actionRead (actionText a) .outcome ≡ Accepted
 written-accepted a h = ap (λ (x : ActionRead). x .outcome) (written-answer a h)

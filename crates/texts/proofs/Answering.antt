@@ -7,13 +7,13 @@ use native.Mathlib.Omega.{arith}
 use Rattle.register.specs.Register.{emptyRegister}
 use Rattle.register.specs.declared.Register.{Register}
 use Rattle.rules.specs.Sound.{sound}
-use Rattle.changes.specs.declared.Outcome.the-variants.{Accepted, Refused}
-use Rattle.changes.specs.declared.Refusal.{Refusal}
-use Rattle.changes.specs.declared.Refusal.the-variants.{Unsound}
+use Rattle.refusals.specs.declared.Outcome.the-variants.{Accepted, Refused}
+use Rattle.refusals.specs.declared.Refusal.{Refusal}
+use Rattle.refusals.specs.declared.Refusal.the-variants.{Unsound}
 use Rattle.actions.specs.declared.Action.{Action}
 use Rattle.lines.specs.Reading.{State, going, failed, closed}
-use Rattle.texts.specs.Registers.{registerAnswer}
-use Rattle.texts.specs.Actions.{actionAnswer, noAction}
+use Rattle.texts.specs.Registers.{registerEnding}
+use Rattle.texts.specs.Actions.{noAction, actionEnding}
 use Rattle.texts.specs.declared.RegisterRead.{RegisterRead}
 
 -- an outcome is not both
@@ -36,13 +36,13 @@ pub record Accepting (r : Register) (st : State) : Type 0 where
   pub at : ℕ
   pub goes : st ≡ going rest at
   pub fine : sound r ≡ true
-  pub same : registerAnswer r st .register ≡ r
+  pub same : registerEnding r st .register ≡ r
 
 -- the answer for a reading that goes on, by the judgement of the register
 abbrev pub judged : Register → Bool → RegisterRead
 judged r b = cond b (record { register = r; outcome = Accepted; line = 0 }) (record { register = emptyRegister; outcome = Refused Unsound; line = 0 })
 
-pub accepted-answer : (r : Register) (st : State) → registerAnswer r st .outcome ≡ Accepted → Accepting r st
+pub accepted-answer : (r : Register) (st : State) → registerEnding r st .outcome ≡ Accepted → Accepting r st
 accepted-answer r (failed why l) h = outcome-clash h
 accepted-answer r (going t l) h = let told = go (sound r) refl h in record { rest = t; at = l; goes = refl; fine = told .0; same = told .1 }
   where
@@ -51,7 +51,7 @@ accepted-answer r (going t l) h = let told = go (sound r) refl h in record { res
     go false e k = outcome-clash k
 
 -- a refused answer holds the empty register
-pub refused-answer : (r : Register) (st : State) (why : Refusal) → registerAnswer r st .outcome ≡ Refused why → registerAnswer r st .register ≡ emptyRegister
+pub refused-answer : (r : Register) (st : State) (why : Refusal) → registerEnding r st .outcome ≡ Refused why → registerEnding r st .register ≡ emptyRegister
 refused-answer r (failed code l) why h = refl
 refused-answer r (going t l) why h = go (sound r) h
   where
@@ -60,7 +60,7 @@ refused-answer r (going t l) why h = go (sound r) h
     go false k = refl
 
 -- the answer for a reading that goes on, of a sound register
-pub sound-answer : (r : Register) (t : List ℕ) (l : ℕ) → sound r ≡ true → registerAnswer r (going t l) ≡ record { register = r; outcome = Accepted; line = 0 }
+pub sound-answer : (r : Register) (t : List ℕ) (l : ℕ) → sound r ≡ true → registerEnding r (going t l) ≡ record { register = r; outcome = Accepted; line = 0 }
 sound-answer r t l h = rw h
 
 -- the same of an action
@@ -68,12 +68,12 @@ pub record AcceptingAction (a : Action) (st : State) : Type 0 where
   pub rest : List ℕ
   pub at : ℕ
   pub goes : st ≡ going rest at
-  pub same : actionAnswer a st .action ≡ a
+  pub same : actionEnding a st .action ≡ a
 
-pub accepted-action : (a : Action) (st : State) → actionAnswer a st .outcome ≡ Accepted → AcceptingAction a st
+pub accepted-action : (a : Action) (st : State) → actionEnding a st .outcome ≡ Accepted → AcceptingAction a st
 accepted-action a (failed why l) h = outcome-clash h
 accepted-action a (going t l) h = record { rest = t; at = l; goes = refl; same = refl }
 
-pub refused-action : (a : Action) (st : State) (why : Refusal) → actionAnswer a st .outcome ≡ Refused why → actionAnswer a st .action ≡ noAction
+pub refused-action : (a : Action) (st : State) (why : Refusal) → actionEnding a st .outcome ≡ Refused why → actionEnding a st .action ≡ noAction
 refused-action a (failed code l) why h = refl
 refused-action a (going t l) why h = let never : _≡_ {A = ℕ} 0 1 = cc in absurd (omega arith)

@@ -15,13 +15,14 @@ use Rattle.register.specs.declared.Resource.{Resource}
 use Rattle.register.specs.declared.Claim.{Claim}
 use Rattle.register.specs.declared.Register.{Register}
 use Rattle.rights.specs.Rights.{hasRight, hasRights, barsMachine}
-use Rattle.rules.specs.Sound.{distinct, actorFits, resourceFits, claimFits, namesStand, rootKept, drawnFrom, machineMay, overChain, drawn, fresh, alone, over, acceptable, soundClaims, soundActors, soundResources, withinLimits, sound}
+use Rattle.rules.specs.Sound.{distinct, actorFits, resourceFits, claimFits, namesStand, rootKept, drawnFrom, machineMay, overChain, drawn, fresh, alone, over, acceptable}
+use Rattle.rules.specs.Sound.{soundClaims, soundActors, soundResources, withinLimits, sound}
 use Rattle.actions.specs.declared.Usage.{Usage}
 use Rattle.actions.specs.declared.Action.{Action}
-use Rattle.changes.specs.declared.Refusal.{Refusal}
-use Rattle.changes.specs.declared.Refusal.the-variants.{Unsound, BadForm, CountAbove}
-use Rattle.changes.specs.declared.Outcome.the-variants.{Accepted, Refused}
-use Rattle.decimals.specs.Decimals.{digits, digitsWith, run, after, value, canonical, parse}
+use Rattle.refusals.specs.declared.Refusal.{Refusal}
+use Rattle.refusals.specs.declared.Refusal.the-variants.{Unsound, BadForm, CountAbove}
+use Rattle.refusals.specs.declared.Outcome.the-variants.{Accepted, Refused}
+use Rattle.decimals.specs.Decimals.{digits, digitsWith, after, value, canonical, parse, digitRun}
 use Rattle.lines.specs.Lines.{begins, ended, parseLimited, atLeast, decimalLine, parseKind, kindLine, pathOn, parseScope, scopeLine}
 use Rattle.texts.specs.Records.{values, passed, linesText, many, texts}
 use Rattle.texts.specs.Registers.{readActors, readResources, readClaims, registerFrom, registerText, registerRead}
@@ -60,7 +61,7 @@ abbrev pub caseText : List ℕ
 caseText = lined "register=1 actors=2 actor=1 kind=human owner=0 actor=2 kind=machine owner=1 resources=1 resource=10 public=0 keeper=1 scope=site/a claims=2 claim=1 parent=0 grantor=1 holder=1 resource=10 rights=19 weight=1000 expiry=0 claim=2 parent=1 grantor=1 holder=2 resource=10 rights=1 weight=600 expiry=2000"
 
 register-case-read : registerRead caseText ≡ record { register = caseR; outcome = Accepted; line = 0 }
-unfolding registerRead registerFrom readActors readResources readClaims values passed many parseLimited atLeast begins ended parse canonical run after value parseKind parseScope pathOn sound withinLimits soundActors soundResources soundClaims acceptable alone over fresh drawn overChain machineMay drawnFrom rootKept namesStand claimFits resourceFits actorFits distinct chain circling rootGranted hasRight hasRights barsMachine
+unfolding registerRead registerFrom readActors readResources readClaims values passed many parseLimited atLeast begins ended parse canonical digitRun after value parseKind parseScope pathOn sound withinLimits soundActors soundResources soundClaims acceptable alone over fresh drawn overChain machineMay drawnFrom rootKept namesStand claimFits resourceFits actorFits distinct chain circling rootGranted hasRight hasRights barsMachine
 register-case-read = refl
 
 register-case-written : registerText caseR ≡ caseText
@@ -96,7 +97,7 @@ register-case-refused : map registerRead (
     ∷ refusedAt CountAbove 2 ∷ refusedAt BadForm 2 ∷ refusedAt CountAbove 2 ∷ refusedAt BadForm 2
     ∷ refusedAt BadForm 3 ∷ refusedAt BadForm 5 ∷ refusedAt BadForm 4 ∷ refusedAt BadForm 12 ∷ refusedAt BadForm 7
     ∷ refusedAt BadForm 31 ∷ refusedAt BadForm 31 ∷ [])
-unfolding registerRead registerFrom readActors readResources readClaims values passed many parseLimited atLeast begins ended parse canonical run after value parseKind parseScope pathOn sound withinLimits soundActors soundResources soundClaims acceptable alone over fresh drawn overChain machineMay drawnFrom rootKept namesStand claimFits resourceFits actorFits distinct chain circling rootGranted hasRight hasRights barsMachine
+unfolding registerRead registerFrom readActors readResources readClaims values passed many parseLimited atLeast begins ended parse canonical digitRun after value parseKind parseScope pathOn sound withinLimits soundActors soundResources soundClaims acceptable alone over fresh drawn overChain machineMay drawnFrom rootKept namesStand claimFits resourceFits actorFits distinct chain circling rootGranted hasRight hasRights barsMachine
 register-case-refused = refl
 
 -- soundness comes last, with line 0: a human's owner is 0, and a keeper stands
@@ -105,7 +106,7 @@ register-case-unsound : map registerRead (
     ∷ lined "register=1 actors=1 actor=1 kind=human owner=0 resources=1 resource=10 public=0 keeper=9 scope=site/a claims=0"
     ∷ [])
     ≡ (refusedAt Unsound 0 ∷ refusedAt Unsound 0 ∷ [])
-unfolding registerRead registerFrom readActors readResources readClaims values passed many parseLimited atLeast begins ended parse canonical run after value parseKind parseScope pathOn sound withinLimits soundActors soundResources soundClaims acceptable alone over fresh drawn overChain machineMay drawnFrom rootKept namesStand claimFits resourceFits actorFits distinct chain circling rootGranted hasRight hasRights barsMachine
+unfolding registerRead registerFrom readActors readResources readClaims values passed many parseLimited atLeast begins ended parse canonical digitRun after value parseKind parseScope pathOn sound withinLimits soundActors soundResources soundClaims acceptable alone over fresh drawn overChain machineMay drawnFrom rootKept namesStand claimFits resourceFits actorFits distinct chain circling rootGranted hasRight hasRights barsMachine
 register-case-unsound = refl
 
 -- the action of case R
@@ -127,7 +128,7 @@ abbrev pub actionCase : List ℕ
 actionCase = lined "now=1999 actor=2 flags=0 uses=2 use=10 right=0 use=10 right=1 governs=0"
 
 action-case-read : actionRead actionCase ≡ record { action = actionR; outcome = Accepted; line = 0 }
-unfolding actionRead actionOf readUses readGoverns values passed many parseLimited atLeast begins ended parse canonical run after value
+unfolding actionRead actionOf readUses readGoverns values passed many parseLimited atLeast begins ended parse canonical digitRun after value
 action-case-read = refl
 
 action-case-written : actionText actionR ≡ actionCase
@@ -150,5 +151,5 @@ action-case-refused : map actionRead (
     ∷ [])
     ≡ (actionRefusedAt BadForm 1 ∷ actionRefusedAt BadForm 2 ∷ actionRefusedAt BadForm 3 ∷ actionRefusedAt CountAbove 4 ∷ actionRefusedAt BadForm 6
     ∷ actionRefusedAt CountAbove 5 ∷ actionRefusedAt BadForm 6 ∷ actionRefusedAt BadForm 10 ∷ [])
-unfolding actionRead actionOf readUses readGoverns values passed many parseLimited atLeast begins ended parse canonical run after value
+unfolding actionRead actionOf readUses readGoverns values passed many parseLimited atLeast begins ended parse canonical digitRun after value
 action-case-refused = refl

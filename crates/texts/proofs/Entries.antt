@@ -7,7 +7,7 @@ use mathlib.Core.Bool.{true}
 use lib.ListN.{length, getD, take, replicate}
 use lib.Seq.{take-append-seam, length-take-le}
 use Rattle.register.specs.Limits.{pathLimit}
-use Rattle.register.specs.Register.{pathOf, standing}
+use Rattle.register.specs.Register.{pathOf, resourceStanding}
 use Rattle.register.specs.declared.Actor.{Actor}
 use Rattle.register.specs.declared.Resource.{Resource}
 use Rattle.register.specs.declared.Claim.{Claim}
@@ -106,7 +106,7 @@ pub cleaned-text : (o : Resource) → resourceText (cleaned o) ≡ resourceText 
 cleaned-text o = ap (pair (lines resourceForms) scope .text) (cleaned-parts o)
 
 -- and it stands as it did, where its array has room for the path
-pub cleaned-standing : (o : Resource) → o .len ≤ length (o .path) → standing (cleaned o) ≡ standing o
+pub cleaned-standing : (o : Resource) → o .len ≤ length (o .path) → resourceStanding (cleaned o) ≡ resourceStanding o
 cleaned-standing o room =
     ap (λ (n : ℕ). record { id = o .id; public = o .public; keeper = o .keeper; len = n; path = take (length (pathOf o)) (heldPath (pathOf o)) }) (length-take-le (o .len) (o .path) room)
     ∙ ap (λ (p : List ℕ). record { id = o .id; public = o .public; keeper = o .keeper; len = o .len; path = p }) (held-path (pathOf o))

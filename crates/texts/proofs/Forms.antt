@@ -10,7 +10,7 @@ use Rattle.lists.specs.Lists.{every}
 use Rattle.lists.specs.Each.{All}
 use Rattle.register.specs.Limits.{pathLimit, pathByteLeast, pathByteGreatest, ranged}
 use Rattle.rules.specs.Laws.{ranged-greatest, ranged-in}
-use Rattle.lines.specs.Lines.{Line, line, over, fault, scopeLine, parseScope, parseDecimal, parseKind}
+use Rattle.lines.specs.Lines.{Line, line, beyond, fault, scopeLine, parseScope, parseDecimal, parseKind}
 use Rattle.lines.specs.Reading.{State, going, failed, Read, Form, decimal, kind, count, taken, readForm, formLine, formFits, readScope, formRefusal}
 use Rattle.lines.specs.Laws.{decimal-reads, decimal-read, kind-reads, kind-read, scope-reads, scope-read}
 use Rattle.texts.specs.Records.{values, passed, linesText, linesFit, many, texts, section, sectionText}
@@ -25,7 +25,7 @@ failed-going-clash e = let never : _≡_ {A = ℕ} 0 1 = cc in absurd (omega ari
 taken-line : {A : Type 0} (none : A) (above l : ℕ) (p : Line A) (rest : List ℕ) (m : ℕ) → taken none above l p .state ≡ going rest m →
     p ≡ line (taken none above l p .value) rest
 taken-line none above l (line a t) rest m h = let same : t ≡ rest = cc in ap (line a) same
-taken-line none above l over rest m h = failed-going-clash h
+taken-line none above l beyond rest m h = failed-going-clash h
 taken-line none above l fault rest m h = failed-going-clash h
 
 -- a line of a form

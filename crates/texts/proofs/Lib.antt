@@ -7,5 +7,6 @@ pub mod RegisterLaws
 pub mod ActionLaws
 pub mod Sameness
 pub mod Naming
+pub mod Numbering
 pub mod Theorems
 pub mod Cases

@@ -12,15 +12,16 @@ use Rattle.register.specs.declared.Register.{Register}
 use Rattle.rules.specs.Sound.{sound}
 use Rattle.actions.specs.Actions.{useLimit, governLimit}
 use Rattle.actions.specs.declared.Action.{Action}
-use Rattle.changes.specs.declared.Outcome.the-variants.{Refused}
-use Rattle.changes.specs.declared.Refusal.{Refusal}
-use Rattle.changes.specs.declared.Refusal.the-variants.{Unsound, BadForm, CountAbove}
-use Rattle.lines.specs.Lines.{Line, line, over, fault, parseScope}
+use Rattle.refusals.specs.declared.Outcome.the-variants.{Refused}
+use Rattle.refusals.specs.declared.Refusal.{Refusal}
+use Rattle.refusals.specs.declared.Refusal.the-variants.{Unsound, BadForm, CountAbove}
+use Rattle.lines.specs.Lines.{Line, line, fault, parseScope, beyond}
 use Rattle.lines.specs.Reading.{State, going, failed, Read, Form, count, taken, readForm, parseForm, aboveRefusal, readScope, closed, formRefusal, countRefusal}
 use Rattle.texts.specs.Keys.{actorsKey, resourcesKey, claimsKey, usesKey, governsKey}
 use Rattle.texts.specs.Records.{passed, many, section}
-use Rattle.texts.specs.Registers.{actorForms, resourceForms, claimForms, readActor, readResource, readClaim, readActors, readResources, readClaims, versionForm, registerFrom, textRefusal, registerAnswer, registerRead}
-use Rattle.texts.specs.Actions.{headForms, useForms, governForm, readUse, readGovern, readUses, readGoverns, actionOf, actionAnswer, actionRead}
+use Rattle.texts.specs.Registers.{actorForms, resourceForms, claimForms, readActor, readResource, readClaim, readActors, readResources, readClaims, versionForm}
+use Rattle.texts.specs.Registers.{registerFrom, textRefusal, registerRead, registerEnding}
+use Rattle.texts.specs.Actions.{headForms, useForms, governForm, readUse, readGovern, readUses, readGoverns, actionOf, actionRead, actionEnding}
 use Rattle.texts.proofs.Answering.{judged}
 
 -- the line that a reading stands at, or failed at
@@ -34,7 +35,7 @@ Forward read = (st : State) → lineOf st ≤ lineOf (read st .state)
 
 taken-forward : {A : Type 0} (none : A) (above l : ℕ) (p : Line A) → l ≤ lineOf (taken none above l p .state)
 taken-forward none above l (line a rest) = omega arith
-taken-forward none above l over = omega arith
+taken-forward none above l beyond = omega arith
 taken-forward none above l fault = omega arith
 
 form-forward : (f : Form) → Forward (readForm f)
@@ -99,7 +100,7 @@ action-line t =
     )
 
 -- a text that is not of the form is refused with 19 or 20
-refused-same : (v w : Refusal) → Refused v ≡ Refused w → w ≡ v
+pub refused-same : (v w : Refusal) → Refused v ≡ Refused w → w ≡ v
 refused-same v w e = cc
 
 text-refused : (code : ℕ) (why : Refusal) → Refused (textRefusal code) ≡ Refused why → (why ≡ BadForm) ⊎ (why ≡ CountAbove)
@@ -109,8 +110,8 @@ text-refused code why h = go (eqb code countRefusal) h
     go true k = inr (refused-same CountAbove why k)
     go false k = inl (refused-same BadForm why k)
 
-answer-line : (r : Register) (st : State) (why : Refusal) → 1 ≤ lineOf st → registerAnswer r st .outcome ≡ Refused why →
-    ((why ≡ Unsound) × (registerAnswer r st .line ≡ 0)) ⊎ (((why ≡ BadForm) ⊎ (why ≡ CountAbove)) × (1 ≤ registerAnswer r st .line))
+answer-line : (r : Register) (st : State) (why : Refusal) → 1 ≤ lineOf st → registerEnding r st .outcome ≡ Refused why →
+    ((why ≡ Unsound) × (registerEnding r st .line ≡ 0)) ⊎ (((why ≡ BadForm) ⊎ (why ≡ CountAbove)) × (1 ≤ registerEnding r st .line))
 answer-line r (failed code l) why named h = inr (text-refused code why h, named)
 answer-line r (going t l) why named h = inl (go (sound r) h)
   where
@@ -118,8 +119,8 @@ answer-line r (going t l) why named h = inl (go (sound r) h)
     go true k = let never : _≡_ {A = ℕ} 0 1 = cc in absurd (omega arith)
     go false k = (refused-same Unsound why k, refl)
 
-action-answer-line : (a : Action) (st : State) (why : Refusal) → 1 ≤ lineOf st → actionAnswer a st .outcome ≡ Refused why →
-    ((why ≡ BadForm) ⊎ (why ≡ CountAbove)) × (1 ≤ actionAnswer a st .line)
+action-answer-line : (a : Action) (st : State) (why : Refusal) → 1 ≤ lineOf st → actionEnding a st .outcome ≡ Refused why →
+    ((why ≡ BadForm) ⊎ (why ≡ CountAbove)) × (1 ≤ actionEnding a st .line)
 action-answer-line a (failed code l) why named h = (text-refused code why h, named)
 action-answer-line a (going t l) why named h = let never : _≡_ {A = ℕ} 0 1 = cc in absurd (omega arith)
 

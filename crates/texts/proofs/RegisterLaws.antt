@@ -8,8 +8,10 @@ use native.Mathlib.Omega.{arith}
 use lib.ListN.{length, replicate, length-map}
 use lib.Seq.{length-take-le}
 use Rattle.lists.specs.Each.{All, all-imp, all-both, all-append, all-map, every-all}
+use Rattle.lists.specs.Fills.{full-length, all-replicate}
 use Rattle.register.specs.Limits.{actorLimit, resourceLimit, claimLimit, pathLimit, ranged}
-use Rattle.register.specs.Register.{actorsOf, resourcesOf, claimsOf, pathOf, standing, Same, noActor, noResource, noClaim, emptyRegister}
+use Rattle.register.specs.Register.{actorsOf, resourcesOf, claimsOf, pathOf, Same, noActor, noResource, noClaim, emptyRegister, resourceStanding, Shaped}
+use Rattle.register.specs.Laws.{empty-shaped}
 use Rattle.register.specs.declared.Actor.{Actor}
 use Rattle.register.specs.declared.Resource.{Resource}
 use Rattle.register.specs.declared.Claim.{Claim}
@@ -18,19 +20,20 @@ use Rattle.rules.specs.Sound.{sound, human, resourceFits}
 use Rattle.rules.specs.Sameness.{sound-same}
 use Rattle.rules.specs.Laws.{ranged-least, ranged-greatest}
 use Rattle.rules.specs.Registers.{sound-out, resource-fits-out}
-use Rattle.changes.specs.declared.Outcome.the-variants.{Accepted, Refused}
-use Rattle.changes.specs.declared.Refusal.{Refusal}
+use Rattle.refusals.specs.Laws.{outcome-cases}
+use Rattle.refusals.specs.declared.Outcome.the-variants.{Accepted, Refused}
+use Rattle.refusals.specs.declared.Refusal.{Refusal}
 use Rattle.lines.specs.Reading.{State, going, Read, closed}
 use Rattle.texts.specs.Keys.{actorsKey, resourcesKey, claimsKey}
 use Rattle.texts.specs.Records.{linesFit, texts, sectionText}
-use Rattle.texts.specs.Registers.{actorForms, actorNumbers, resourceText, claimForms, claimNumbers, heldActors, heldResources, heldClaims}
-use Rattle.texts.specs.Registers.{Shaped, readActors, readResources, readClaims, versionForm, registerFrom, registerText, registerAnswer, registerRead}
+use Rattle.texts.specs.Registers.{actorForms, actorNumbers, resourceText, claimForms, claimNumbers, heldActors, heldResources, heldClaims, readActors, readResources}
+use Rattle.texts.specs.Registers.{readClaims, versionForm, registerFrom, registerText, registerRead, registerEnding}
 use Rattle.texts.specs.declared.RegisterRead.{RegisterRead}
 use Rattle.texts.specs.Fitting.{ResourceLines, RegisterLines, register-lines-fit}
 use Rattle.texts.proofs.Things.{Codec, Pair, pair}
 use Rattle.texts.proofs.Forms.{form, sectioned}
 use Rattle.texts.proofs.Entries.{actor, actor-fits, claim, claim-fits, resource, cleaned, cleaned-fits, cleaned-text, cleaned-standing}
-use Rattle.texts.proofs.Holding.{held-entries, full-length, all-take, all-replicate}
+use Rattle.texts.proofs.Holding.{held-entries, all-take}
 use Rattle.texts.proofs.Answering.{going-same, closed-going, accepted-answer, refused-answer, sound-answer}
 
 -- the parts of a register, in the order of its text
@@ -116,7 +119,7 @@ whole-read r h =
     }
 
 -- a register and the register of its parts are the same
-cleaned-standings : (l : List Resource) → All (λ o. o .len ≤ length (o .path)) l → map standing (map cleaned l) ≡ map standing l
+cleaned-standings : (l : List Resource) → All (λ o. o .len ≤ length (o .path)) l → map resourceStanding (map cleaned l) ≡ map resourceStanding l
 cleaned-standings [] h = refl
 cleaned-standings (o ∷ l) h = rw (cleaned-standing o (h .0), cleaned-standings l (h .1))
 
@@ -137,7 +140,7 @@ holding-same r h shaped =
       actors = held-entries (actorsOf (r .actors)) (actorLimit - length (actorsOf (r .actors))) noActor;
       resourceCount = length-map (resourcesOf (r .resources)) cleaned
           ∙ length-take-le (r .resources .count) (r .resources .list) (omega (arith, limits .resourceCount, shaped .resources));
-      resources = ap (map standing) (held-entries kept (resourceLimit - length kept) noResource) ∙ cleaned-standings (resourcesOf (r .resources)) (room r h shaped);
+      resources = ap (map resourceStanding) (held-entries kept (resourceLimit - length kept) noResource) ∙ cleaned-standings (resourcesOf (r .resources)) (room r h shaped);
       claimCount = length-take-le (r .claims .count) (r .claims .list) (omega (arith, limits .claimCount, shaped .claims));
       claims = held-entries (claimsOf (r .claims)) (claimLimit - length (claimsOf (r .claims))) noClaim;
     }
@@ -147,7 +150,7 @@ written-answer : (r : Register) → sound r ≡ true → Shaped r → registerRe
 unfolding registerRead
 written-answer r h shaped =
     let read = whole-read r h in
-    ap (λ (x : Read Register). registerAnswer (x .value) (x .state)) (read .from)
+    ap (λ (x : Read Register). registerEnding (x .value) (x .state)) (read .from)
     ∙ sound-answer (holding (partsOf r)) [] (read .at) (sound-same (holding (partsOf r)) r (holding-same r h shaped) ∙ h)
 
 pub written-accepted : (r : Register) → sound r ≡ true → Shaped r → registerRead (registerText r) .outcome ≡ Accepted
@@ -216,3 +219,7 @@ accepted-text t h =
 pub refused-register : (t : List ℕ) (why : Refusal) → registerRead t .outcome ≡ Refused why → registerRead t .register ≡ emptyRegister
 unfolding registerRead
 refused-register t why h = refused-answer (registerFrom t .value) (registerFrom t .state) why h
+
+pub read-shaped : (t : List ℕ) → Shaped (registerRead t .register)
+read-shaped t = outcome-cases (registerRead t .outcome) (λ e. accepted-text t e .shaped)
+    (λ why e. subst Shaped (sym (refused-register t why e)) empty-shaped)

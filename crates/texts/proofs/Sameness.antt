@@ -5,7 +5,7 @@ use mathlib.Core.Bool.{true}
 use mathlib.Core.List.{List, [], _∷_, _++_, map}
 use lib.ListN.{length, length-map}
 use Rattle.register.specs.Limits.{actorLimit, resourceLimit, claimLimit}
-use Rattle.register.specs.Register.{resourcesOf, Standing, standing, Same}
+use Rattle.register.specs.Register.{resourcesOf, Standing, resourceStanding, Same, Shaped}
 use Rattle.register.specs.declared.Resource.{Resource}
 use Rattle.register.specs.declared.Register.{Register}
 use Rattle.rules.specs.Sound.{sound}
@@ -15,7 +15,7 @@ use Rattle.lines.specs.Lines.{scopeLine}
 use Rattle.lines.specs.Reading.{count, formLine}
 use Rattle.texts.specs.Keys.{actorsKey, resourcesKey, claimsKey}
 use Rattle.texts.specs.Records.{linesText, texts, sectionText}
-use Rattle.texts.specs.Registers.{actorText, resourceForms, resourceText, claimText, Shaped, versionForm, registerText, registerRead}
+use Rattle.texts.specs.Registers.{actorText, resourceForms, resourceText, claimText, versionForm, registerText, registerRead}
 use Rattle.texts.specs.Keys.{usesKey, governsKey}
 use Rattle.texts.specs.Actions.{headForms, useText, governText, ShapedAction, SameAction, actionText, actionRead}
 use Rattle.texts.proofs.RegisterLaws.{read-written}
@@ -45,16 +45,16 @@ same-trans q r s one other = record {
 abbrev standingText : Standing → List ℕ
 standingText o = linesText resourceForms (o .id ∷ o .public ∷ o .keeper ∷ []) ++ scopeLine (o .path)
 
-standing-texts : (l : List Resource) → texts resourceText l ≡ texts standingText (map standing l)
+standing-texts : (l : List Resource) → texts resourceText l ≡ texts standingText (map resourceStanding l)
 unfolding texts
 standing-texts [] = refl
 standing-texts (o ∷ l) = ap (λ (t : List ℕ). resourceText o ++ t) (standing-texts l)
 
 standing-section : (l : List Resource) →
-    sectionText resourcesKey resourceLimit resourceText l ≡ sectionText resourcesKey resourceLimit standingText (map standing l)
+    sectionText resourcesKey resourceLimit resourceText l ≡ sectionText resourcesKey resourceLimit standingText (map resourceStanding l)
 standing-section l =
     ap (λ (t : List ℕ). formLine (count resourcesKey resourceLimit) (length l) ++ t) (standing-texts l)
-    ∙ ap (λ (n : ℕ). formLine (count resourcesKey resourceLimit) n ++ texts standingText (map standing l)) (sym (length-map l standing))
+    ∙ ap (λ (n : ℕ). formLine (count resourcesKey resourceLimit) n ++ texts standingText (map resourceStanding l)) (sym (length-map l resourceStanding))
 
 -- the same registers have one text
 pub same-text : (r s : Register) → Same r s → registerText r ≡ registerText s

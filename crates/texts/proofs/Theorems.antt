@@ -7,21 +7,24 @@ use mathlib.Core.Bool.{true}
 use mathlib.Core.List.{List}
 use mathlib.Core.Logic.{_⊎_}
 use lib.ListN.{length}
-use Rattle.register.specs.Register.{Same, emptyRegister}
+use Rattle.register.specs.Register.{Same, emptyRegister, Shaped}
 use Rattle.register.specs.declared.Register.{Register}
 use Rattle.rules.specs.Sound.{sound}
 use Rattle.actions.specs.Actions.{actionFits}
 use Rattle.actions.specs.declared.Action.{Action}
-use Rattle.changes.specs.declared.Refusal.{Refusal}
-use Rattle.changes.specs.declared.Refusal.the-variants.{Unsound, BadForm, CountAbove}
-use Rattle.changes.specs.declared.Outcome.the-variants.{Accepted, Refused}
-use Rattle.texts.specs.Registers.{Shaped, registerText, registerRead}
-use Rattle.texts.specs.Actions.{ShapedAction, SameAction, actionText, actionRead, noAction}
+use Rattle.refusals.specs.Refusals.{numberOf}
+use Rattle.refusals.specs.declared.Refusal.{Refusal}
+use Rattle.refusals.specs.declared.Refusal.the-variants.{Unsound, BadForm, CountAbove}
+use Rattle.refusals.specs.declared.Outcome.the-variants.{Accepted, Refused}
+use Rattle.lines.specs.Reading.{failed}
+use Rattle.texts.specs.Registers.{registerFrom, registerText, registerRead}
+use Rattle.texts.specs.Actions.{ShapedAction, SameAction, actionOf, actionText, actionRead, noAction}
 use Rattle.texts.specs.Lengths as lengths
 use Rattle.texts.proofs.RegisterLaws as registers
 use Rattle.texts.proofs.ActionLaws as actions
 use Rattle.texts.proofs.Sameness as sameness
 use Rattle.texts.proofs.Naming as naming
+use Rattle.texts.proofs.Numbering as numbering
 
 -- 1a. The text of every sound register is accepted.
 pub register-accepted : (r : Register) → sound r ≡ true → Shaped r → registerRead (registerText r) .outcome ≡ Accepted
@@ -42,6 +45,10 @@ register-written-read t h = registers.accepted-text t h .text
 -- 3b. What was read is sound.
 pub register-read-sound : (t : List ℕ) → registerRead t .outcome ≡ Accepted → sound (registerRead t .register) ≡ true
 register-read-sound t h = registers.accepted-text t h .fine
+
+-- 3c. What reading hands back has its shape, refused or not.
+pub register-read-shaped : (t : List ℕ) → Shaped (registerRead t .register)
+register-read-shaped = registers.read-shaped
 
 -- 4a. No register has two texts: registers that are the same have one.
 pub register-one-text : (r s : Register) → Same r s → registerText r ≡ registerText s
@@ -72,6 +79,14 @@ refused-line = naming.refused-line
 pub action-refused-line : (t : List ℕ) (why : Refusal) → actionRead t .outcome ≡ Refused why
     → ((why ≡ BadForm) ⊎ (why ≡ CountAbove)) × (1 ≤ actionRead t .line)
 action-refused-line = naming.action-refused-line
+
+-- 6e. The number that a failing line has, 19 or 20, is 01's number of the refusal that is answered.
+pub refused-number : (t : List ℕ) (n l : ℕ) (why : Refusal) → registerFrom t .state ≡ failed n l → registerRead t .outcome ≡ Refused why → numberOf why ≡ n
+refused-number = numbering.refused-number
+
+-- 6f. So with an action.
+pub action-refused-number : (t : List ℕ) (n l : ℕ) (why : Refusal) → actionOf t .state ≡ failed n l → actionRead t .outcome ≡ Refused why → numberOf why ≡ n
+action-refused-number = numbering.action-refused-number
 
 -- 7a. The text of every action in its ranges is accepted.
 pub action-accepted : (a : Action) → actionFits a ≡ true → actionRead (actionText a) .outcome ≡ Accepted

@@ -8,7 +8,7 @@ use Rattle.rights.specs.Rights.{rightCount}
 use Rattle.actions.specs.Actions.{useLimit, governLimit, flagCount, usesOf, governsOf}
 use Rattle.actions.specs.declared.Usage.{Usage}
 use Rattle.actions.specs.declared.Action.{Action}
-use Rattle.changes.specs.declared.Outcome.the-variants.{Accepted, Refused}
+use Rattle.refusals.specs.declared.Outcome.the-variants.{Accepted, Refused}
 use Rattle.lines.specs.Reading.{State, going, failed, Read, Form, number, readForm, closed}
 use Rattle.texts.specs.Keys.{nowKey, actorKey, flagsKey, usesKey, useKey, rightKey, governsKey, governKey}
 use Rattle.texts.specs.Records.{values, passed, linesText, section, sectionText}
@@ -106,10 +106,10 @@ actionText a =
     ++ (sectionText usesKey useLimit useText (usesOf a) ++ sectionText governsKey governLimit governText (governsOf a))
 
 -- a refused reading gives the action of all zeros
-abbrev pub actionAnswer : Action → State → ActionRead
-actionAnswer a (going t l) = record { action = a; outcome = Accepted; line = 0 }
-actionAnswer a (failed why l) = record { action = noAction; outcome = Refused (textRefusal why); line = l }
+abbrev pub actionEnding : Action → State → ActionRead
+actionEnding a (going t l) = record { action = a; outcome = Accepted; line = 0 }
+actionEnding a (failed why l) = record { action = noAction; outcome = Refused (textRefusal why); line = l }
 
 -- the reading of a text as an action
 unfoldable pub actionRead : List ℕ → ActionRead
-actionRead t = let read = actionOf t in actionAnswer (read .value) (read .state)
+actionRead t = let read = actionOf t in actionEnding (read .value) (read .state)

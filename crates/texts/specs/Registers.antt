@@ -1,12 +1,10 @@
 -- The text of a register, and how a text is read as one, in 01's words. Assumes nothing.
 use Prim.Native.Nat.{ℕ, _-_, _^_}
-use mathlib.Core.Path.{_≡_}
 use mathlib.Core.List.{List, [], _∷_, _++_}
 use mathlib.Core.Bool.{cond}
 use lib.ListN.{length, getD, replicate}
 use lib.Dec.{eqb}
-use Rattle.lists.specs.Each.{All}
-use Rattle.register.specs.Limits.{actorLimit, resourceLimit, claimLimit, pathLimit, idLimit, weightLimit, momentEnd}
+use Rattle.register.specs.Limits.{actorLimit, resourceLimit, claimLimit, idLimit, weightLimit, momentEnd}
 use Rattle.register.specs.Register.{actorsOf, resourcesOf, claimsOf, pathOf, noActor, noResource, noClaim, emptyRegister}
 use Rattle.register.specs.declared.Actor.{Actor}
 use Rattle.register.specs.declared.Resource.{Resource}
@@ -17,14 +15,14 @@ use Rattle.register.specs.declared.Claims.{Claims}
 use Rattle.register.specs.declared.Register.{Register}
 use Rattle.rights.specs.Rights.{rightCount}
 use Rattle.rules.specs.Sound.{sound}
-use Rattle.changes.specs.declared.Outcome.the-variants.{Accepted, Refused}
-use Rattle.changes.specs.declared.Refusal.{Refusal}
-use Rattle.changes.specs.declared.Refusal.the-variants.{Unsound, BadForm, CountAbove}
+use Rattle.refusals.specs.declared.Outcome.the-variants.{Accepted, Refused}
+use Rattle.refusals.specs.declared.Refusal.{Refusal}
+use Rattle.refusals.specs.declared.Refusal.the-variants.{Unsound, BadForm, CountAbove}
 use Rattle.lines.specs.Lines.{scopeLine}
 use Rattle.lines.specs.Reading.{State, going, failed, Read, Form, number, kind, readForm, formLine, readScope, closed, countRefusal}
 use Rattle.lines.specs.Answers.{heldPath}
-use Rattle.texts.specs.Keys.{registerKey, actorsKey, actorKey, ownerKey, resourcesKey, resourceKey, publicKey, keeperKey}
-use Rattle.texts.specs.Keys.{claimsKey, claimKey, parentKey, grantorKey, holderKey, rightsKey, weightKey, expiryKey}
+use Rattle.texts.specs.Keys.{registerKey, actorsKey, actorKey, ownerKey, resourcesKey, resourceKey, publicKey, keeperKey, claimsKey, claimKey, parentKey, grantorKey}
+use Rattle.texts.specs.Keys.{holderKey, rightsKey, weightKey, expiryKey}
 use Rattle.texts.specs.Records.{values, passed, linesText, section, sectionText}
 use Rattle.texts.specs.declared.RegisterRead.{RegisterRead}
 
@@ -114,13 +112,6 @@ heldResources l = record { list = l ++ replicate (resourceLimit - length l) noRe
 abbrev pub heldClaims : List Claim → Claims
 heldClaims l = record { list = l ++ replicate (claimLimit - length l) noClaim; count = length l }
 
--- The arrays of a register have as many places as the limits say. Every register of the program has this by its type.
-pub record Shaped (r : Register) : Type 0 where
-  pub actors : length (r .actors .list) ≡ actorLimit
-  pub resources : length (r .resources .list) ≡ resourceLimit
-  pub paths : All (λ o. length (o .path) ≡ pathLimit) (r .resources .list)
-  pub claims : length (r .claims .list) ≡ claimLimit
-
 -- Lines `register=1`; `actors=` and the actors; `resources=` and the resources; `claims=` and the claims.
 unfoldable pub readActors : State → Read (List Actor)
 readActors st = section actorsKey actorLimit readActor st
@@ -163,11 +154,11 @@ abbrev pub textRefusal : ℕ → Refusal
 textRefusal why = cond (eqb why countRefusal) CountAbove BadForm
 
 -- soundness comes last, with 1 and line 0; a refused reading gives the empty register
-abbrev pub registerAnswer : Register → State → RegisterRead
-registerAnswer r (going t l) =
+abbrev pub registerEnding : Register → State → RegisterRead
+registerEnding r (going t l) =
     cond (sound r) (record { register = r; outcome = Accepted; line = 0 }) (record { register = emptyRegister; outcome = Refused Unsound; line = 0 })
-registerAnswer r (failed why l) = record { register = emptyRegister; outcome = Refused (textRefusal why); line = l }
+registerEnding r (failed why l) = record { register = emptyRegister; outcome = Refused (textRefusal why); line = l }
 
 -- the reading of a text as a register
 unfoldable pub registerRead : List ℕ → RegisterRead
-registerRead t = let read = registerFrom t in registerAnswer (read .value) (read .state)
+registerRead t = let read = registerFrom t in registerEnding (read .value) (read .state)

@@ -3,9 +3,9 @@
 ghost use mathlib.Core.Path.{_≡_};
 ghost use Rattle.texts.specs.Registers.{textRefusal};
 use actions::Action;
-use changes::Outcome;
-use changes::Refusal;
 use lines::COUNT_REFUSAL;
+use refusals::Outcome;
+use refusals::Refusal;
 use register::Register;
 
 // No text of a sound register is longer.

@@ -2,13 +2,14 @@
 -- nothing.
 use Prim.Native.Nat.{ℕ}
 use mathlib.Core.Path.{_≡_, refl, sym, ap, _∙_}
-use mathlib.Core.List.{List, [], _∷_, _++_}
+use mathlib.Core.List.{List, [], _++_}
 use native.Mathlib.Omega.{arith}
 use lib.ListN.{length, getD}
-use Rattle.changes.specs.Refusals.{outcomeOf}
-use Rattle.changes.specs.Laws.{outcome-cases}
-use Rattle.changes.specs.declared.Outcome.the-variants.{Accepted, Refused as RefusedFor}
-use Rattle.changes.specs.declared.Refusal.{Refusal}
+use Rattle.lists.specs.Bytes.{bytes}
+use Rattle.refusals.specs.Refusals.{outcomeOf}
+use Rattle.refusals.specs.Laws.{outcome-cases}
+use Rattle.refusals.specs.declared.Outcome.the-variants.{Accepted, Refused as RefusedFor}
+use Rattle.refusals.specs.declared.Refusal.{Refusal}
 use Rattle.actions.specs.declared.Violation.{Violation}
 use Rattle.actions.specs.declared.Violations.{Violations}
 use Rattle.actions.specs.declared.Decision.{Decision}
@@ -21,13 +22,13 @@ use Rattle.lines.specs.Lines.{decimalLine}
 use Rattle.texts.specs.Records.{texts}
 use Rattle.texts.specs.Registers.{registerRead}
 use Rattle.texts.specs.Actions.{actionRead}
-use Rattle.verdict_text.specs.Printed.{permittedLine, refusedLine, violationsKey, pairText, listText, stoppedText, verdictLines, verdictText, printed}
+use Rattle.verdict_text.specs.Printed.{refusedLine, violationsKey, pairText, listText, stoppedText, verdictLines, verdictText, printed}
 use Rattle.verdict_text.specs.Lengths.{listed-in}
 use Rattle.verdict_text.proofs.Composing as composing
 
--- "verdict=permitted", "violations=0", each ended by LF
+-- the text of a permission
 abbrev pub permission : List ℕ
-permission = permittedLine ++ (violationsKey ++ (48 ∷ 10 ∷ []))
+permission = bytes "verdict=permitted\nviolations=0\n"
 
 -- both texts are read
 pub record Heard (register action : List ℕ) : Type 0 where

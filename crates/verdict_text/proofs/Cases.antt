@@ -6,11 +6,13 @@ use Rattle.lists.specs.Trims.{trim}
 use Rattle.paths.specs.Containment.{same, components, climbing, trimmed, starting, contained}
 use Rattle.rights.specs.Rights.{hasRight, hasRights, barsMachine}
 use Rattle.register.specs.Chain.{chain, rootGranted, circling}
-use Rattle.rules.specs.Sound.{distinct, actorFits, resourceFits, claimFits, namesStand, rootKept, drawnFrom, machineMay, overChain, drawn, fresh, alone, over, acceptable, soundClaims, soundActors, soundResources, withinLimits, sound}
-use Rattle.changes.specs.Refusals.{outcomeOf}
+use Rattle.rules.specs.Sound.{distinct, actorFits, resourceFits, claimFits, namesStand, rootKept, drawnFrom, machineMay, overChain, drawn, fresh, alone, over, acceptable}
+use Rattle.rules.specs.Sound.{soundClaims, soundActors, soundResources, withinLimits, sound}
+use Rattle.refusals.specs.Refusals.{outcomeOf}
 use Rattle.actions.specs.Actions.{actionFits}
-use Rattle.verdicts.specs.Gate.{publicRead, contains, covering, covers, isMachine, isOwnerless, ownerLacks, firstOf, flagsSet, governed, useViolation, useViolations, violationsOf, actionTests, gateTests, gated}
-use Rattle.decimals.specs.Decimals.{digits, digitsWith, run, after, value, canonical, parse}
+use Rattle.verdicts.specs.Gate.{publicRead, contains, covering, covers, isOwnerless, ownerLacks, firstOf, flagsSet, governed, useViolation, useViolations, violationsOf}
+use Rattle.verdicts.specs.Gate.{actionTests, gateTests, gated}
+use Rattle.decimals.specs.Decimals.{digits, digitsWith, after, value, canonical, parse, digitRun}
 use Rattle.lines.specs.Lines.{begins, ended, parseLimited, atLeast, decimalLine, parseKind, pathOn, parseScope}
 use Rattle.texts.specs.Records.{values, passed, many, texts}
 use Rattle.texts.specs.Registers.{readActors, readResources, readClaims, registerFrom, registerRead}
@@ -28,7 +30,7 @@ printed-in-R : map (printed caseText) (
     ∷ lined "verdict=permitted violations=0"
     ∷ lined "verdict=refused violations=4 violation=1 at=0 violation=1 at=9 violation=3 at=0 violation=3 at=1"
     ∷ []
-unfolding printed verdictText listText pairText stoppedText texts decimalLine digits digitsWith registerRead registerFrom readActors readResources readClaims actionRead actionOf readUses readGoverns values passed many parseLimited atLeast begins ended parse canonical run after value parseKind parseScope pathOn gated gateTests actionTests outcomeOf actionFits violationsOf flagsSet trim isOwnerless isMachine governed useViolations useViolation covers covering publicRead contains ownerLacks firstOf contained climbing components same trimmed starting sound withinLimits soundActors soundResources soundClaims acceptable alone over fresh drawn overChain machineMay drawnFrom rootKept namesStand claimFits resourceFits actorFits distinct chain circling rootGranted hasRight hasRights barsMachine
+unfolding printed verdictText listText pairText stoppedText texts decimalLine digits digitsWith registerRead registerFrom readActors readResources readClaims actionRead actionOf readUses readGoverns values passed many parseLimited atLeast begins ended parse canonical digitRun after value parseKind parseScope pathOn gated gateTests actionTests outcomeOf actionFits violationsOf flagsSet trim isOwnerless governed useViolations useViolation covers covering publicRead contains ownerLacks firstOf contained climbing components same trimmed starting sound withinLimits soundActors soundResources soundClaims acceptable alone over fresh drawn overChain machineMay drawnFrom rootKept namesStand claimFits resourceFits actorFits distinct chain circling rootGranted hasRight hasRights barsMachine
 printed-in-R = refl
 
 abbrev nobody : List ℕ
@@ -41,10 +43,10 @@ printed-stopped :
     × (printed [] [] ≡ lined "verdict=stopped refusal=19")
     × (printed nobody [] ≡ lined "verdict=stopped refusal=19")
     × (printed nobody (lined "now=0 actor=2 flags=0 uses=33") ≡ lined "verdict=stopped refusal=20")
-unfolding printed verdictText stoppedText decimalLine digits digitsWith registerRead registerFrom readActors readResources readClaims actionRead actionOf readUses readGoverns values passed many parseLimited atLeast begins ended parse canonical run after value parseKind parseScope pathOn gated gateTests actionTests outcomeOf actionFits sound withinLimits soundActors soundResources soundClaims actorFits resourceFits distinct hasRight
+unfolding printed verdictText stoppedText decimalLine digits digitsWith registerRead registerFrom readActors readResources readClaims actionRead actionOf readUses readGoverns values passed many parseLimited atLeast begins ended parse canonical digitRun after value parseKind parseScope pathOn gated gateTests actionTests outcomeOf actionFits sound withinLimits soundActors soundResources soundClaims actorFits resourceFits distinct hasRight
 printed-stopped = (refl, refl, refl, refl, refl)
 
 -- the first refusal is printed: a register that is refused with 20, whatever is wrong with the action
 printed-first : printed (lined "register=1 actors=65") [] ≡ lined "verdict=stopped refusal=20"
-unfolding printed stoppedText decimalLine digits digitsWith registerRead registerFrom readActors readResources readClaims values passed many parseLimited atLeast begins ended parse canonical run after value
+unfolding printed stoppedText decimalLine digits digitsWith registerRead registerFrom readActors readResources readClaims values passed many parseLimited atLeast begins ended parse canonical digitRun after value
 printed-first = refl

@@ -2,18 +2,19 @@
 -- `verdict_text` cites. Assumes nothing.
 use Prim.Native.Nat.{ℕ, _≤_}
 use mathlib.Core.Path.{_≡_}
-use mathlib.Core.List.{List, [], _∷_, _++_}
+use mathlib.Core.List.{List, _++_}
 use lib.ListN.{length}
-use Rattle.changes.specs.Refusals.{outcomeOf}
-use Rattle.changes.specs.declared.Outcome.the-variants.{Accepted, Refused as RefusedFor}
-use Rattle.changes.specs.declared.Refusal.{Refusal}
+use Rattle.lists.specs.Bytes.{bytes}
+use Rattle.refusals.specs.Refusals.{outcomeOf}
+use Rattle.refusals.specs.declared.Outcome.the-variants.{Accepted, Refused as RefusedFor}
+use Rattle.refusals.specs.declared.Refusal.{Refusal}
 use Rattle.actions.specs.declared.Decision.the-variants.{Permitted, Refused}
 use Rattle.verdicts.specs.Gate.{violationsOf, gateTests, gated}
 use Rattle.lines.specs.Lines.{decimalLine}
 use Rattle.texts.specs.Records.{texts}
 use Rattle.texts.specs.Registers.{registerRead}
 use Rattle.texts.specs.Actions.{actionRead}
-use Rattle.verdict_text.specs.Printed.{permittedLine, refusedLine, violationsKey, pairText, stoppedText, printed}
+use Rattle.verdict_text.specs.Printed.{refusedLine, violationsKey, pairText, stoppedText, printed}
 use Rattle.verdict_text.specs.Lengths as lengths
 use Rattle.verdict_text.proofs.Answers as answers
 use Rattle.verdict_text.proofs.Answers.{Heard}
@@ -35,11 +36,11 @@ module _ (register action : List ℕ) where
 
   -- 2a. Of an action that the gate permits "verdict=permitted" and "violations=0" are printed, each ended by LF, and nothing else.
   pub permitted-printed : Heard register action → gated (registerRead register .register) (actionRead action .action) .decision ≡ Permitted
-      → printed register action ≡ permittedLine ++ (violationsKey ++ (48 ∷ 10 ∷ []))
+      → printed register action ≡ bytes "verdict=permitted\nviolations=0\n"
   permitted-printed = answers.permitted-printed register action
 
   -- 2b. They are printed of no other: both texts were read, and the gate permits.
-  pub printed-permitted : printed register action ≡ permittedLine ++ (violationsKey ++ (48 ∷ 10 ∷ []))
+  pub printed-permitted : printed register action ≡ bytes "verdict=permitted\nviolations=0\n"
       → Heard register action × (gated (registerRead register .register) (actionRead action .action) .decision ≡ Permitted)
   printed-permitted = answers.printed-permitted register action
 

@@ -2,24 +2,23 @@
 -- Assumes nothing.
 use Prim.Native.Nat.{ℕ, suc, _+_, _-_, _/_, _%_, _^_, _≤_, _<_}
 use mathlib.Core.Path.{_≡_, refl, ap}
-use mathlib.Core.Bool.{Bool, true, false, cond}
+use mathlib.Core.Bool.{Bool, true, false, cond, not}
 use mathlib.Core.List.{List, [], _∷_, _++_, map}
 use native.Mathlib.Omega.{arith}
 use lib.Dec.{eqb}
 use lib.ListN.{length, take, replicate, length-append, length-take}
 use Rattle.lists.specs.Each.{All, all-imp, all-append, all-map}
 use Rattle.lists.specs.Counts.{counted, counted-below}
-use Rattle.lists.specs.Trims.{sift, all-trim}
+use Rattle.lists.specs.Trims.{all-trim, filter}
 use Rattle.register.specs.Limits.{idLimit}
+use Rattle.register.specs.Register.{actorsOf}
 use Rattle.register.specs.declared.Register.{Register}
-use Rattle.changes.specs.Refusals.{numberOf, outcomeOf}
-use Rattle.changes.specs.Laws.{outcome-cases}
-use Rattle.changes.specs.declared.Outcome.{Outcome}
-use Rattle.changes.specs.declared.Outcome.the-variants.{Accepted, Refused as RefusedFor}
-use Rattle.changes.specs.declared.Refusal.{Refusal}
-use Rattle.changes.specs.declared.Refusal.the-variants.{Unsound, OutOfRange, Unknown, IdStands, Full, NotKeeper, Ownerless, MachineBarred, ParentAbsent}
-use Rattle.changes.specs.declared.Refusal.the-variants.{ParentNotHeld, ParentDead, NoDelegate, RightLacking, WeightAbove, TooManyHops, Circle, ClaimAbsent, NoGrantor}
-use Rattle.changes.specs.declared.Refusal.the-variants.{BadForm, CountAbove, BufferShort, BadJson, BeyondJson}
+use Rattle.rules.specs.Sound.{isMachine}
+use Rattle.refusals.specs.Refusals.{numberOf, outcomeOf}
+use Rattle.refusals.specs.Laws.{number-bounds, outcome-cases}
+use Rattle.refusals.specs.declared.Outcome.{Outcome}
+use Rattle.refusals.specs.declared.Outcome.the-variants.{Accepted, Refused as RefusedFor}
+use Rattle.refusals.specs.declared.Refusal.{Refusal}
 use Rattle.actions.specs.Actions.{violationLimit, flagCount, usesOf, governsOf, kindOf, valueOf, actionFits}
 use Rattle.actions.specs.declared.Usage.{Usage}
 use Rattle.actions.specs.declared.Action.{Action}
@@ -29,8 +28,7 @@ use Rattle.actions.specs.declared.Violated.{Violated}
 use Rattle.actions.specs.declared.Violations.{Violations}
 use Rattle.actions.specs.declared.Decision.{Decision}
 use Rattle.actions.specs.declared.Decision.the-variants.{Permitted, Refused, Stopped}
-use Rattle.verdicts.specs.Gate.{covers, isMachine, isOwnerless, ownerLacks, flagsSet, governed, useViolation, useViolations, violationsOf}
-use Rattle.verdicts.specs.Gate.{gateTests, listed, decided, gated}
+use Rattle.verdicts.specs.Gate.{covers, isOwnerless, ownerLacks, flagsSet, governed, useViolation, useViolations, violationsOf, gateTests, listed, decided, gated}
 use Rattle.verdicts.specs.Kinds.{kinds-five}
 use Rattle.verdicts.specs.Laws.{action-fits-out, gate-tests-out, gated-judged, gated-stopped, governed-nil, governed-cons, use-violations-nil, use-violations-cons}
 use Rattle.verdicts.specs.Bounds.{violations-most}
@@ -45,9 +43,9 @@ use Rattle.texts.specs.Actions.{actionRead}
 use Rattle.texts.specs.Lengths.{texts-length}
 use Rattle.texts.specs.declared.RegisterRead.{RegisterRead}
 use Rattle.texts.specs.declared.ActionRead.{ActionRead}
-use Rattle.verdict_text.specs.Printed.{permittedLine, refusedLine, stoppedLine, violationsKey, violationKey, atKey, refusalKey, violationsIn}
-use Rattle.verdict_text.specs.Printed.{pairText, listText, stoppedText, verdictLines, verdictText, actionLines, registerLines, printed, printedLimit}
-use Rattle.verdict_text.specs.Printed.{jsonLines, clockRefusal, clockRead, clockLines, registerJson, jsonPrinted}
+use Rattle.verdict_text.specs.Printed.{permittedLine, refusedLine, stoppedLine, violationsKey, violationKey, atKey, refusalKey, violationsIn, pairText, listText}
+use Rattle.verdict_text.specs.Printed.{stoppedText, verdictLines, verdictText, actionLines, registerLines, printed, printedLimit, jsonLines, clockRefusal, clockRead}
+use Rattle.verdict_text.specs.Printed.{clockLines, registerJson, jsonPrinted}
 
 -- a violation names a number of 16 bits
 abbrev pub Small : Violation → Type 0
@@ -60,9 +58,9 @@ chosen-small false vs h = tt
 flags-small : (flags : ℕ) → All Small (flagsSet flags)
 unfolding flagsSet
 flags-small flags =
-    let unset : ℕ → Bool = λ i. eqb (flags / 2 ^ i % 2) 0 in
-    all-map (λ i. FlagSet i) Small (sift unset (counted 0 flagCount))
-    (all-trim (λ M i. unset i) (λ i. i ≤ idLimit) (counted 0 flagCount)
+    let raised : ℕ → Bool = λ i. eqb (flags / 2 ^ i % 2) 1 in
+    all-map (λ i. FlagSet i) Small (filter raised (counted 0 flagCount))
+    (all-trim (λ M i. not (raised i)) (λ i. i ≤ idLimit) (counted 0 flagCount)
     (all-imp (λ i. i < 0 + flagCount) (λ i. i ≤ idLimit) (λ i h. omega arith) (counted 0 flagCount) (counted-below 0 flagCount)))
 
 governed-small : (n : ℕ) (entries : List ℕ) → n + length entries ≤ idLimit → All Small (governed n entries)
@@ -89,12 +87,12 @@ unfolding violationsOf
 violations-small r a h =
     let told = action-fits-out a h in
     let owners : List Violation = cond (isOwnerless r (a .actor)) (NoOwner (a .actor) ∷ []) [] in
-    let governing : List Violation = cond (isMachine r (a .actor)) (governed 0 (governsOf a)) [] in
+    let governing : List Violation = cond (isMachine (actorsOf (r .actors)) (a .actor)) (governed 0 (governsOf a)) [] in
     let uses = useViolations r (a .now) (a .actor) 0 (usesOf a) in
     all-append Small (flagsSet (a .flags)) (owners ++ (governing ++ uses)) (flags-small (a .flags))
     (all-append Small owners (governing ++ uses) (chosen-small (isOwnerless r (a .actor)) (NoOwner (a .actor) ∷ []) (told .actorGreatest, tt))
     (all-append Small governing uses
-    (chosen-small (isMachine r (a .actor)) (governed 0 (governsOf a))
+    (chosen-small (isMachine (actorsOf (r .actors)) (a .actor)) (governed 0 (governsOf a))
     (governed-small 0 (governsOf a) (omega (arith, length-take (a .governed) (a .governs), told .governedMost))))
     (uses-small r (a .now) (a .actor) 0 (usesOf a) (omega (arith, length-take (a .used) (a .uses), told .usesMost)))))
 
@@ -135,31 +133,6 @@ list-length vs few small =
       pairs,
     )
 
-number-most : (why : Refusal) → numberOf why ≤ 25
-number-most Unsound = omega arith
-number-most OutOfRange = omega arith
-number-most Unknown = omega arith
-number-most IdStands = omega arith
-number-most Full = omega arith
-number-most NotKeeper = omega arith
-number-most Ownerless = omega arith
-number-most MachineBarred = omega arith
-number-most ParentAbsent = omega arith
-number-most ParentNotHeld = omega arith
-number-most ParentDead = omega arith
-number-most NoDelegate = omega arith
-number-most RightLacking = omega arith
-number-most WeightAbove = omega arith
-number-most TooManyHops = omega arith
-number-most Circle = omega arith
-number-most ClaimAbsent = omega arith
-number-most NoGrantor = omega arith
-number-most BadForm = omega arith
-number-most CountAbove = omega arith
-number-most BufferShort = omega arith
-number-most BadJson = omega arith
-number-most BeyondJson = omega arith
-
 pub stopped-length : (why : Refusal) → length (stoppedText why) ≤ printedLimit
 unfolding stoppedText
 stopped-length why =
@@ -167,7 +140,7 @@ stopped-length why =
       arith,
       length-append stoppedLine (decimalLine refusalKey (numberOf why)),
       decimal-line-length refusalKey (numberOf why),
-      length-under 1 (numberOf why) (omega (arith, number-most why)),
+      length-under 1 (numberOf why) (omega (arith, number-bounds why .1)),
     )
 
 lines-length : (d : Decision) (vs : Violations) → length (listText vs) ≤ 1085 → length (verdictLines d vs) ≤ printedLimit

@@ -1,16 +1,17 @@
 -- The lines that 01's program prints, of the two texts that it reads. Assumes nothing.
 use Prim.Native.Nat.{ℕ, _-_}
-use mathlib.Core.List.{List, [], _∷_, _++_, map}
+use mathlib.Core.List.{List, _++_, map}
 use mathlib.Core.Bool.{cond}
 use lib.Dec.{eqb}
 use lib.ListN.{take}
+use Rattle.lists.specs.Bytes.{bytes}
 use Rattle.register.specs.Limits.{momentEnd}
 use Rattle.register.specs.declared.Register.{Register}
-use Rattle.changes.specs.Refusals.{numberOf}
-use Rattle.changes.specs.declared.Outcome.{Outcome}
-use Rattle.changes.specs.declared.Outcome.the-variants.{Accepted, Refused as RefusedFor}
-use Rattle.changes.specs.declared.Refusal.{Refusal}
-use Rattle.changes.specs.declared.Refusal.the-variants.{OutOfRange, BadForm}
+use Rattle.refusals.specs.Refusals.{numberOf}
+use Rattle.refusals.specs.declared.Outcome.{Outcome}
+use Rattle.refusals.specs.declared.Outcome.the-variants.{Accepted, Refused as RefusedFor}
+use Rattle.refusals.specs.declared.Refusal.{Refusal}
+use Rattle.refusals.specs.declared.Refusal.the-variants.{OutOfRange, BadForm}
 use Rattle.actions.specs.Actions.{kindOf, valueOf}
 use Rattle.actions.specs.declared.Action.{Action}
 use Rattle.actions.specs.declared.Violation.{Violation}
@@ -29,33 +30,27 @@ use Rattle.texts.specs.declared.RegisterRead.{RegisterRead}
 use Rattle.texts.specs.declared.ActionRead.{ActionRead}
 use Rattle.json_actions.specs.Actions.{jsonRead}
 
--- "verdict=permitted" and LF
+-- the fixed lines, and the keys of the others
 abbrev pub permittedLine : List ℕ
-permittedLine = 118 ∷ 101 ∷ 114 ∷ 100 ∷ 105 ∷ 99 ∷ 116 ∷ 61 ∷ 112 ∷ 101 ∷ 114 ∷ 109 ∷ 105 ∷ 116 ∷ 116 ∷ 101 ∷ 100 ∷ 10 ∷ []
+permittedLine = bytes "verdict=permitted\n"
 
--- "verdict=refused" and LF
 abbrev pub refusedLine : List ℕ
-refusedLine = 118 ∷ 101 ∷ 114 ∷ 100 ∷ 105 ∷ 99 ∷ 116 ∷ 61 ∷ 114 ∷ 101 ∷ 102 ∷ 117 ∷ 115 ∷ 101 ∷ 100 ∷ 10 ∷ []
+refusedLine = bytes "verdict=refused\n"
 
--- "verdict=stopped" and LF
 abbrev pub stoppedLine : List ℕ
-stoppedLine = 118 ∷ 101 ∷ 114 ∷ 100 ∷ 105 ∷ 99 ∷ 116 ∷ 61 ∷ 115 ∷ 116 ∷ 111 ∷ 112 ∷ 112 ∷ 101 ∷ 100 ∷ 10 ∷ []
+stoppedLine = bytes "verdict=stopped\n"
 
--- "violations="
 abbrev pub violationsKey : List ℕ
-violationsKey = 118 ∷ 105 ∷ 111 ∷ 108 ∷ 97 ∷ 116 ∷ 105 ∷ 111 ∷ 110 ∷ 115 ∷ 61 ∷ []
+violationsKey = bytes "violations="
 
--- "violation="
 abbrev pub violationKey : List ℕ
-violationKey = 118 ∷ 105 ∷ 111 ∷ 108 ∷ 97 ∷ 116 ∷ 105 ∷ 111 ∷ 110 ∷ 61 ∷ []
+violationKey = bytes "violation="
 
--- "at="
 abbrev pub atKey : List ℕ
-atKey = 97 ∷ 116 ∷ 61 ∷ []
+atKey = bytes "at="
 
--- "refusal="
 abbrev pub refusalKey : List ℕ
-refusalKey = 114 ∷ 101 ∷ 102 ∷ 117 ∷ 115 ∷ 97 ∷ 108 ∷ 61 ∷ []
+refusalKey = bytes "refusal="
 
 -- the violations of a verdict
 abbrev pub violationsIn : Violations → List Violation

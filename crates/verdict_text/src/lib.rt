@@ -16,9 +16,9 @@ use actions::Decision;
 use actions::Verdict;
 use actions::Violation;
 use actions::Violations;
-use changes::Outcome;
-use changes::Refusal;
 use lines::COUNT_REFUSAL;
+use refusals::Outcome;
+use refusals::Refusal;
 use register::Register;
 use texts::Written;
 
@@ -64,7 +64,7 @@ fn put_stopped(buf: &mut [u8], why: Refusal) -> usize
     ensures behind { λ r. ⌜ r ≡ length (stoppedText why) ⌝ }
     ensures written { λ _. ⌜ now (buf .exit) ≡ splice 0 (stoppedText why) (now (buf .entry)) ⌝ }
 {
-    let number = changes::number(why);
+    let number = refusals::number(why);
     let refusal_at = sheets::put_bytes(buf, 0, b"verdict=stopped\n");
     sheets::put_line(buf, refusal_at, b"refusal=", number as u64)
 }

@@ -12,11 +12,11 @@ use Rattle.register.specs.Register.{actorsOf, resourcesOf, claimsOf, Same}
 use Rattle.register.specs.declared.Actor.{Actor}
 use Rattle.register.specs.declared.Claim.{Claim}
 use Rattle.register.specs.declared.Register.{Register}
-use Rattle.rules.specs.Sound.{sound}
-use Rattle.changes.specs.Refusals.{outcomeOf}
-use Rattle.changes.specs.declared.Refusal.{Refusal}
-use Rattle.changes.specs.declared.Refusal.the-variants.{Unsound, OutOfRange}
-use Rattle.changes.specs.declared.Outcome.the-variants.{Accepted, Refused as RefusedFor}
+use Rattle.rules.specs.Sound.{sound, isMachine}
+use Rattle.refusals.specs.Refusals.{outcomeOf}
+use Rattle.refusals.specs.declared.Refusal.{Refusal}
+use Rattle.refusals.specs.declared.Refusal.the-variants.{Unsound, OutOfRange}
+use Rattle.refusals.specs.declared.Outcome.the-variants.{Accepted, Refused as RefusedFor}
 use Rattle.actions.specs.Actions.{actionLimit, violationLimit, flagCount, usesOf, governsOf, actionFits, kindOf}
 use Rattle.actions.specs.declared.Usage.{Usage}
 use Rattle.actions.specs.declared.Action.{Action}
@@ -25,9 +25,9 @@ use Rattle.actions.specs.declared.Violation.{Violation}
 use Rattle.actions.specs.declared.Violation.the-variants.{NotCovered}
 use Rattle.actions.specs.declared.Decision.the-variants.{Permitted, Refused, Stopped}
 use Rattle.actions.specs.declared.Judgement.the-variants.{Permitted as Agreed, Refused as Denied, Cancelled}
-use Rattle.verdicts.specs.Gate.{covering, covers, isMachine, isOwnerless, useViolation, violationsOf, hopsFor, hopCounts, gateTests, actionTests, listed, padded, decided, gated}
+use Rattle.verdicts.specs.Gate.{covering, covers, isOwnerless, useViolation, violationsOf, hopsFor, hopCounts, gateTests, actionTests, listed, padded, decided, gated}
 use Rattle.verdicts.specs.Plans.{actionsOf, judged, held, stopped, planned}
-use Rattle.verdicts.specs.Places.{Place}
+use Rattle.verdicts.specs.Places.{IsIn}
 use Rattle.verdicts.specs.Laws.{Passed}
 use Rattle.verdicts.specs.Authority.{Authority}
 use Rattle.verdicts.specs.Laws as laws
@@ -53,17 +53,17 @@ gated-judged = laws.gated-judged
 
 -- 2a. Whatever is permitted rests, use by use, on a public READ or on a live claim of the actor whose chain only weakens from a root granted by the
 -- resource's keeper; and a machine's owner, who is a human of the register, has as much.
-pub traceable-authority : (r : Register) (a : Action) → gated r a .decision ≡ Permitted → (u : Usage) → Place (usesOf a) u → Authority r a u
+pub traceable-authority : (r : Register) (a : Action) → gated r a .decision ≡ Permitted → (u : Usage) → IsIn (usesOf a) u → Authority r a u
 traceable-authority = authority.permitted-authority
 
 -- 2b. The actor of what is permitted stands.
-pub permitted-actor : (r : Register) (a : Action) → gated r a .decision ≡ Permitted → (b : Actor) × Place (actorsOf (r .actors)) b × (b .id ≡ a .actor)
+pub permitted-actor : (r : Register) (a : Action) → gated r a .decision ≡ Permitted → (b : Actor) × IsIn (actorsOf (r .actors)) b × (b .id ≡ a .actor)
 permitted-actor = authority.permitted-actor
 
 -- 2c. Such authority is enough: an action that no test stops is permitted where it has no flag, is by no machine that governs or lacks an owner, and has
 -- authority for each use.
 pub authority-permits : (r : Register) (a : Action) → Passed r a → a .flags ≡ 0 → isOwnerless r (a .actor) ≡ false
-    → (isMachine r (a .actor) ≡ true → governsOf a ≡ []) → ((u : Usage) → Place (usesOf a) u → Authority r a u) → gated r a .decision ≡ Permitted
+    → (isMachine (actorsOf (r .actors)) (a .actor) ≡ true → governsOf a ≡ []) → ((u : Usage) → IsIn (usesOf a) u → Authority r a u) → gated r a .decision ≡ Permitted
 authority-permits = permission.authority-permits
 
 -- 3a. A permitted action has no flag set.
@@ -79,7 +79,7 @@ pub ownerless-never : (r : Register) (a : Action) → isOwnerless r (a .actor) �
 ownerless-never = machines.ownerless-never
 
 -- 4b. A machine that governs is never permitted.
-pub governing-never : (r : Register) (a : Action) → isMachine r (a .actor) ≡ true → 0 < length (governsOf a) → gated r a .decision ≡ Permitted → ⊥
+pub governing-never : (r : Register) (a : Action) → isMachine (actorsOf (r .actors)) (a .actor) ≡ true → 0 < length (governsOf a) → gated r a .decision ≡ Permitted → ⊥
 governing-never = machines.governing-never
 
 -- 4c. A governed count above 0 is a governed entry, where the list has one.
@@ -125,8 +125,8 @@ pub planned-same : (r s : Register) → Same r s → (p : Plan) → planned r p 
 planned-same = sameness.planned-same
 
 -- 8a. In a sound register every claim by which anyone covers a use, and that has a parent, has one that stands.
-pub parent-stands : (r : Register) → sound r ≡ true → (now x : ℕ) (u : Usage) (c : Claim) → Place (claimsOf (r .claims)) c → covering r now x u c ≡ true
-    → (c .parent ≡ 0 → ⊥) → (d : Claim) × Place (claimsOf (r .claims)) d × (d .id ≡ c .parent)
+pub parent-stands : (r : Register) → sound r ≡ true → (now x : ℕ) (u : Usage) (c : Claim) → IsIn (claimsOf (r .claims)) c → covering r now x u c ≡ true
+    → (c .parent ≡ 0 → ⊥) → (d : Claim) × IsIn (claimsOf (r .claims)) d × (d .id ≡ c .parent)
 parent-stands r h now x u c at covers = coverage.parent-stands r h c at
 
 -- 8b. The kind of every violation is 1 to 5.
@@ -153,7 +153,7 @@ pub judged-refused : (r : Register) (a : Action) → gated r a .decision ≡ Ref
 judged-refused = cancelling.judged-refused
 
 -- 9e. The gate stops no action of a plan that is not stopped.
-pub plan-gated : (r : Register) (p : Plan) → planned r p .outcome ≡ Accepted → (a : Action) → Place (actionsOf p) a
+pub plan-gated : (r : Register) (p : Plan) → planned r p .outcome ≡ Accepted → (a : Action) → IsIn (actionsOf p) a
     → gated r a ≡ record { decision = decided (violationsOf r a); violations = listed (violationsOf r a); hops = padded (hopCounts r a) }
 plan-gated = cancelling.plan-gated
 

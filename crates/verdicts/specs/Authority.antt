@@ -26,7 +26,7 @@ use Rattle.actions.specs.declared.Usage.{Usage}
 use Rattle.actions.specs.declared.Action.{Action}
 use Rattle.actions.specs.declared.Decision.the-variants.{Permitted}
 use Rattle.verdicts.specs.Gate.{publicRead, contains, covering, covers, isOwnerless, ownerLacks, gated}
-use Rattle.verdicts.specs.Places.{Place, any-place, all-place, none-place}
+use Rattle.verdicts.specs.Places.{IsIn, any-place, all-place, none-place}
 use Rattle.verdicts.specs.Laws.{UseClean, permitted-out, use-violations-out}
 use Rattle.verdicts.specs.Trace.{higherThan, Attenuates, root-resource, root-rights, root-weight, place-climbing, place-higher, place-attenuating, place-hops-most, place-rooted, place-keeper}
 use Rattle.verdicts.specs.Coverage.{covering-out, covers-cases}
@@ -35,19 +35,19 @@ use Rattle.verdicts.specs.Coverage.{covering-out, covers-cases}
 -- its chain, each claim of which stands and is drawn from the next, of at most 16 hops, up to a root granted by that resource's keeper
 pub record Traced (r : Register) (now x : ℕ) (u : Usage) : Type 0 where
   pub claim : Claim
-  pub standing : Place (claimsOf (r .claims)) claim
+  pub standing : IsIn (claimsOf (r .claims)) claim
   pub held : claim .holder ≡ x
   pub lives : live now claim ≡ true
   pub right : hasRight (claim .rights) (u .right) ≡ true
   pub outer : Resource
-  pub outerStanding : Place (resourcesOf (r .resources)) outer
+  pub outerStanding : IsIn (resourcesOf (r .resources)) outer
   pub outerClaimed : outer .id ≡ claim .resource
   pub inner : Resource
-  pub innerStanding : Place (resourcesOf (r .resources)) inner
+  pub innerStanding : IsIn (resourcesOf (r .resources)) inner
   pub innerUsed : inner .id ≡ u .resource
   pub containing : contained (pathOf outer) (pathOf inner) ≡ true
   pub climbing : Climbs (claim .parent) (higherThan r claim)
-  pub higherStanding : All (λ d. Place (claimsOf (r .claims)) d) (higherThan r claim)
+  pub higherStanding : All (λ d. IsIn (claimsOf (r .claims)) d) (higherThan r claim)
   pub attenuating : Attenuates claim (higherThan r claim)
   pub hops : hopsOf (latest (claimsOf (r .claims))) claim ≤ hopLimit
   pub root : Claim
@@ -62,7 +62,7 @@ pub record Traced (r : Register) (now x : ℕ) (u : Usage) : Type 0 where
 pub record PublicRead (r : Register) (u : Usage) : Type 0 where
   pub reads : u .right ≡ reading
   pub resource : Resource
-  pub standing : Place (resourcesOf (r .resources)) resource
+  pub standing : IsIn (resourcesOf (r .resources)) resource
   pub used : resource .id ≡ u .resource
   pub isPublic : resource .public ≡ 1
 
@@ -79,15 +79,15 @@ pub record Owned (r : Register) (now : ℕ) (machine : Actor) (u : Usage) : Type
 -- the authority for a use of an action
 pub record Authority (r : Register) (a : Action) (u : Usage) : Type 0 where
   pub actorRests : Rests r (a .now) (a .actor) u
-  pub machineOwned : (b : Actor) → Place (actorsOf (r .actors)) b → b .id ≡ a .actor → b .kind ≡ machineKind → Owned r (a .now) b u
+  pub machineOwned : (b : Actor) → IsIn (actorsOf (r .actors)) b → b .id ≡ a .actor → b .kind ≡ machineKind → Owned r (a .now) b u
 
 -- containment, by the two resources
 pub record Contains (r : Register) (x y : ℕ) : Type 0 where
   pub outer : Resource
-  pub outerStanding : Place (resourcesOf (r .resources)) outer
+  pub outerStanding : IsIn (resourcesOf (r .resources)) outer
   pub outerNamed : outer .id ≡ x
   pub inner : Resource
-  pub innerStanding : Place (resourcesOf (r .resources)) inner
+  pub innerStanding : IsIn (resourcesOf (r .resources)) inner
   pub innerNamed : inner .id ≡ y
   pub containing : contained (pathOf outer) (pathOf inner) ≡ true
 
@@ -124,7 +124,7 @@ public-read-out r u h =
     }
 
 -- a covering claim is authority
-pub covering-traced : (r : Register) → sound r ≡ true → (now x : ℕ) (u : Usage) (c : Claim) → Place (claimsOf (r .claims)) c → covering r now x u c ≡ true
+pub covering-traced : (r : Register) → sound r ≡ true → (now x : ℕ) (u : Usage) (c : Claim) → IsIn (claimsOf (r .claims)) c → covering r now x u c ≡ true
     → Traced r now x u
 covering-traced r h now x u c at e =
     let told = covering-out r now x u c e in
@@ -167,22 +167,22 @@ and-false-right true b h e = h
 and-false-right false b h e = clash true refl (sym e)
 
 -- a machine for whose use there is no violation has an owner who covers the use
-owner-covers : (r : Register) (now x : ℕ) (u : Usage) → isOwnerless r x ≡ false → ownerLacks r now x u ≡ false → (b : Actor) → Place (actorsOf (r .actors)) b
+owner-covers : (r : Register) (now x : ℕ) (u : Usage) → isOwnerless r x ≡ false → ownerLacks r now x u ≡ false → (b : Actor) → IsIn (actorsOf (r .actors)) b
     → b .id ≡ x → b .kind ≡ machineKind → (b .owner ≡ 0 → ⊥) × (covers r now (b .owner) u ≡ true)
 unfolding isOwnerless ownerLacks
 owner-covers r now x u owned covered b at named machine =
     let here = eq-eqb x (b .id) (sym named) in
-    let kind = eq-eqb (b .kind) machineKind machine in
-    let some = and-false-right (eqb (b .kind) machineKind) (eqb (b .owner) 0) (and-false-right (eqb x (b .id)) (eqb (b .kind) machineKind && eqb (b .owner) 0)
-    (none-place (λ a. eqb x (a .id) && (eqb (a .kind) machineKind && eqb (a .owner) 0)) (actorsOf (r .actors)) owned b at) here) kind in
-    let lacks = and-false-right (eqb (b .kind) machineKind) (not (eqb (b .owner) 0) && not (covers r now (b .owner) u))
-    (and-false-right (eqb x (b .id)) (eqb (b .kind) machineKind && (not (eqb (b .owner) 0) && not (covers r now (b .owner) u)))
-    (none-place (λ a. eqb x (a .id) && (eqb (a .kind) machineKind && (not (eqb (a .owner) 0) && not (covers r now (a .owner) u)))) (actorsOf (r .actors)) covered b at)
+    let kind = eq-eqb machineKind (b .kind) (sym machine) in
+    let some = and-false-right (eqb machineKind (b .kind)) (eqb (b .owner) 0) (and-false-right (eqb x (b .id)) (eqb machineKind (b .kind) && eqb (b .owner) 0)
+    (none-place (λ a. eqb x (a .id) && (eqb machineKind (a .kind) && eqb (a .owner) 0)) (actorsOf (r .actors)) owned b at) here) kind in
+    let lacks = and-false-right (eqb machineKind (b .kind)) (not (eqb (b .owner) 0) && not (covers r now (b .owner) u))
+    (and-false-right (eqb x (b .id)) (eqb machineKind (b .kind) && (not (eqb (b .owner) 0) && not (covers r now (b .owner) u)))
+    (none-place (λ a. eqb x (a .id) && (eqb machineKind (a .kind) && (not (eqb (a .owner) 0) && not (covers r now (a .owner) u)))) (actorsOf (r .actors)) covered b at)
     here) kind in
     (eqb-false (b .owner) 0 some, not-false (covers r now (b .owner) u) (and-false-right (not (eqb (b .owner) 0)) (not (covers r now (b .owner) u)) lacks (rw some)))
 
 machine-owned : (r : Register) → sound r ≡ true → (now x : ℕ) (u : Usage) → isOwnerless r x ≡ false → ownerLacks r now x u ≡ false
-    → (b : Actor) → Place (actorsOf (r .actors)) b → b .id ≡ x → b .kind ≡ machineKind → Owned r now b u
+    → (b : Actor) → IsIn (actorsOf (r .actors)) b → b .id ≡ x → b .kind ≡ machineKind → Owned r now b u
 machine-owned r h now x u owned covered b at named machine =
     let told = owner-covers r now x u owned covered b at named machine in
     let fits = actor-fits-out (human (actorsOf (r .actors))) b
@@ -191,7 +191,7 @@ machine-owned r h now x u owned covered b at named machine =
     record { owned = told .0; ownerHuman = fits .ownerHuman (told .0); ownerRests = covers-rests r h now (b .owner) u (told .1) }
 
 -- whatever the gate permits rests, use by use, on traceable authority
-pub permitted-authority : (r : Register) (a : Action) → gated r a .decision ≡ Permitted → (u : Usage) → Place (usesOf a) u → Authority r a u
+pub permitted-authority : (r : Register) (a : Action) → gated r a .decision ≡ Permitted → (u : Usage) → IsIn (usesOf a) u → Authority r a u
 permitted-authority r a h u at =
     let told = permitted-out r a h in
     let clean = all-place (λ u. UseClean r (a .now) (a .actor) u) (usesOf a)
@@ -202,7 +202,7 @@ permitted-authority r a h u at =
     }
 
 -- and its actor stands
-pub permitted-actor : (r : Register) (a : Action) → gated r a .decision ≡ Permitted → (b : Actor) × Place (actorsOf (r .actors)) b × (b .id ≡ a .actor)
+pub permitted-actor : (r : Register) (a : Action) → gated r a .decision ≡ Permitted → (b : Actor) × IsIn (actorsOf (r .actors)) b × (b .id ≡ a .actor)
 permitted-actor r a h =
     let found = any-place (λ b. eqb (a .actor) (b .id)) (actorsOf (r .actors)) (permitted-out r a h .passed .known) in
     (found .0, found .1, sym (eqb-true (a .actor) (found .0 .id) (found .2)))

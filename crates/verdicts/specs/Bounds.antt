@@ -1,6 +1,6 @@
 -- How many violations and hop counts an answer has at most. Assumes nothing.
 use mathlib.Core.Path.{_≡_, refl, ap, _∙_}
-use mathlib.Core.Bool.{Bool, true, false, cond}
+use mathlib.Core.Bool.{Bool, true, false, not, cond}
 use mathlib.Core.List.{List, [], _∷_, _++_, map}
 use Prim.Native.Nat.{ℕ, suc, _-_, _≤_, _/_, _%_, _^_}
 use native.Mathlib.Omega.{arith}
@@ -9,18 +9,18 @@ use lib.ListN.{length, replicate, length-append, length-take, length-map, length
 use Rattle.lists.specs.Tests.{cases}
 use Rattle.lists.specs.Lists.{any}
 use Rattle.lists.specs.Counts.{counted}
-use Rattle.lists.specs.Trims.{sift, trim-length}
+use Rattle.lists.specs.Trims.{filter, trim-length}
 use Rattle.register.specs.Limits.{hopLimit}
-use Rattle.register.specs.Register.{claimsOf}
+use Rattle.register.specs.Register.{claimsOf, actorsOf}
 use Rattle.register.specs.declared.Register.{Register}
-use Rattle.rules.specs.Sound.{sound}
+use Rattle.rules.specs.Sound.{sound, isMachine}
 use Rattle.actions.specs.Actions.{useLimit, violationLimit, flagCount, usesOf, governsOf, actionFits}
 use Rattle.actions.specs.declared.Usage.{Usage}
 use Rattle.actions.specs.declared.Action.{Action}
 use Rattle.actions.specs.declared.Violation.{Violation}
 use Rattle.actions.specs.declared.Violated.{Violated}
 use Rattle.actions.specs.declared.Violation.the-variants.{FlagSet, NoOwner, NotCovered, OwnerNotCovering}
-use Rattle.verdicts.specs.Gate.{covering, covers, isMachine, isOwnerless, ownerLacks, flagsSet, governed, useViolation, useViolations, violationsOf, hopsFor, hopCounts, listed, padded}
+use Rattle.verdicts.specs.Gate.{covering, covers, isOwnerless, ownerLacks, flagsSet, governed, useViolation, useViolations, violationsOf, hopsFor, hopCounts, listed, padded}
 use Rattle.verdicts.specs.Places.{first-none, first-found}
 use Rattle.verdicts.specs.Laws.{action-fits-out, use-violations-nil, use-violations-cons}
 use Rattle.verdicts.specs.Trace.{place-hops-most}
@@ -30,8 +30,8 @@ unfolding flagsSet
 flags-most flags =
     omega (
       arith,
-      length-map (sift (λ i. eqb (flags / 2 ^ i % 2) 0) (counted 0 flagCount)) (λ i. FlagSet i),
-      trim-length (λ M i. eqb (flags / 2 ^ i % 2) 0) (counted 0 flagCount),
+      length-map (filter (λ i. eqb (flags / 2 ^ i % 2) 1) (counted 0 flagCount)) (λ i. FlagSet i),
+      trim-length (λ M i. not (eqb (flags / 2 ^ i % 2) 1)) (counted 0 flagCount),
     )
 
 owner-most : (b : Bool) (v : Violation) → length (cond b (v ∷ []) []) ≤ 1
@@ -67,10 +67,10 @@ unfolding violationsOf
 violations-most r a h =
     let flags = flagsSet (a .flags) in
     let owners : List Violation = cond (isOwnerless r (a .actor)) (NoOwner (a .actor) ∷ []) [] in
-    let governing : List Violation = cond (isMachine r (a .actor)) (governed 0 (governsOf a)) [] in
+    let governing : List Violation = cond (isMachine (actorsOf (r .actors)) (a .actor)) (governed 0 (governsOf a)) [] in
     let uses = useViolations r (a .now) (a .actor) 0 (usesOf a) in
     four-most flags owners governing uses (flags-most (a .flags)) (owner-most (isOwnerless r (a .actor)) (NoOwner (a .actor)))
-    (omega (arith, governed-most (isMachine r (a .actor)) (governsOf a), length-take (a .governed) (a .governs), action-fits-out a h .governedMost))
+    (omega (arith, governed-most (isMachine (actorsOf (r .actors)) (a .actor)) (governsOf a), length-take (a .governed) (a .governs), action-fits-out a h .governedMost))
     (omega (arith, uses-most r (a .now) (a .actor) 0 (usesOf a), length-take (a .used) (a .uses), action-fits-out a h .usesMost))
   where
     four-most : (flags owners governing uses : List Violation) → length flags ≤ 10 → length owners ≤ 1 → length governing ≤ 8 → length uses ≤ 32

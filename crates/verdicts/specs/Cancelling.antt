@@ -12,11 +12,11 @@ use lib.ListN.{length, replicate}
 use Rattle.lists.specs.Each.{All}
 use Rattle.register.specs.declared.Register.{Register}
 use Rattle.rules.specs.Sound.{sound}
-use Rattle.changes.specs.Refusals.{outcomeOf}
-use Rattle.changes.specs.Laws.{outcome-cases, outcome-clash}
-use Rattle.changes.specs.declared.Outcome.the-variants.{Accepted, Refused as RefusedFor}
-use Rattle.changes.specs.declared.Refusal.{Refusal}
-use Rattle.changes.specs.declared.Refusal.the-variants.{Unsound, OutOfRange}
+use Rattle.refusals.specs.Refusals.{outcomeOf}
+use Rattle.refusals.specs.Laws.{outcome-cases, outcome-clash}
+use Rattle.refusals.specs.declared.Outcome.the-variants.{Accepted, Refused as RefusedFor}
+use Rattle.refusals.specs.declared.Refusal.{Refusal}
+use Rattle.refusals.specs.declared.Refusal.the-variants.{Unsound, OutOfRange}
 use Rattle.actions.specs.Actions.{actionLimit}
 use Rattle.actions.specs.declared.Action.{Action}
 use Rattle.actions.specs.declared.Plan.{Plan}
@@ -26,7 +26,7 @@ use Rattle.actions.specs.declared.Decision.the-variants.{Permitted, Refused, St
 use Rattle.verdicts.specs.Gate.{actionTests, gateTests, violationsOf, hopCounts, listed, padded, decided, gated}
 use Rattle.verdicts.specs.Plans.{actionsOf, judged, judgements, Halt, runs, halts, haltOn, firstHalt, haltOf, held, stopped, planVerdict, planned}
 use Rattle.verdicts.specs.Laws.{Fit, action-tests-out, gate-tests-in, gated-judged, gated-stopped, permitted-out, violations-none-in}
-use Rattle.verdicts.specs.Places.{Place, all-place}
+use Rattle.verdicts.specs.Places.{all-place, IsIn}
 
 module _ (r : Register) where
   pub judgements-nil : (cancelled : Bool) → judgements r cancelled [] ≡ []
@@ -170,7 +170,7 @@ plan-unflagged r p h flagless =
     planned-runs r p (accepted-runs r p h) ∙ ap held (judgements-unflagged r (actionsOf p) flagless)
 
 -- the gate stops no action of a plan that is not stopped
-pub plan-gated : (r : Register) (p : Plan) → planned r p .outcome ≡ Accepted → (a : Action) → Place (actionsOf p) a
+pub plan-gated : (r : Register) (p : Plan) → planned r p .outcome ≡ Accepted → (a : Action) → IsIn (actionsOf p) a
     → gated r a ≡ record { decision = decided (violationsOf r a); violations = listed (violationsOf r a); hops = padded (hopCounts r a) }
 plan-gated r p h a at =
     let told = halt-runs r p (accepted-runs r p h) in

@@ -20,7 +20,7 @@ use Rattle.rules.specs.Registers.{sound-out}
 use Rattle.rules.specs.Places.{place-parent}
 use Rattle.actions.specs.declared.Usage.{Usage}
 use Rattle.actions.specs.declared.Violation.the-variants.{NotCovered}
-use Rattle.verdicts.specs.Places.{Place, any-place, latest-split, first-none}
+use Rattle.verdicts.specs.Places.{IsIn, any-place, latest-split, first-none}
 use Rattle.verdicts.specs.Gate.{publicRead, contains, covering, covers, useViolation, hopsFor}
 
 -- what a covering claim is
@@ -93,14 +93,14 @@ absent-as-not-held r now x n u v absent lacks =
     (not-covered-violation r now x n u none ∙ sym (not-covered-violation r now x n v lacks), not-covered-hops r now x u none ∙ sym (not-covered-hops r now x v lacks))
 
 -- the claims of a sound register are sound around each place
-pub sound-place : (r : Register) → sound r ≡ true → (c : Claim) (at : Place (claimsOf (r .claims)) c)
+pub sound-place : (r : Register) → sound r ≡ true → (c : Claim) (at : IsIn (claimsOf (r .claims)) c)
     → soundClaims (worldOf (actorsOf (r .actors)) (resourcesOf (r .resources))) (latest (at .after) ++ c ∷ latest (at .before)) ≡ true
 sound-place r h c at =
     rw (← latest-split (at .before) c (at .after)) (rw (at .split) at (sound-out r h .claims))
 
 -- the parent of a claim that stands in a sound register stands too
-pub parent-stands : (r : Register) → sound r ≡ true → (c : Claim) → Place (claimsOf (r .claims)) c → (c .parent ≡ 0 → ⊥)
-    → (d : Claim) × Place (claimsOf (r .claims)) d × (d .id ≡ c .parent)
+pub parent-stands : (r : Register) → sound r ≡ true → (c : Claim) → IsIn (claimsOf (r .claims)) c → (c .parent ≡ 0 → ⊥)
+    → (d : Claim) × IsIn (claimsOf (r .claims)) d × (d .id ≡ c .parent)
 parent-stands r h c at other =
     let w : World = worldOf (actorsOf (r .actors)) (resourcesOf (r .resources)) in
     let named : Claim → Bool = λ d. eqb (c .parent) (d .id) in

@@ -1,15 +1,14 @@
 -- A set flag always refuses. Assumes nothing.
-use mathlib.Core.Path.{_≡_, refl, sym, _∙_}
-use mathlib.Core.Bool.{Bool, true}
+use mathlib.Core.Path.{_≡_, refl}
+use mathlib.Core.Bool.{true, false}
 use mathlib.Core.List.{List, [], _∷_, map}
 use Prim.Native.Nat.{ℕ, _<_, _/_, _%_, _^_, zero-le}
 use native.Mathlib.Omega.{arith}
-use borrow.Author.Tests.{eqb-true}
+use borrow.Author.Tests.{eqb-true, eqb-false, eq-eqb}
 use lib.Dec.{eqb}
-use Rattle.lists.specs.Tests.{cases}
-use Rattle.lists.specs.Each.{All, cons-clash, all-every}
+use Rattle.lists.specs.Each.{cons-clash, all-imp, all-every}
 use Rattle.lists.specs.Counts.{counted, every-counted-sound}
-use Rattle.lists.specs.Trims.{sift, trim-hit, trim-miss, sift-every}
+use Rattle.lists.specs.Trims.{filter, filter-none, none-filter}
 use Rattle.register.specs.declared.Register.{Register}
 use Rattle.actions.specs.Actions.{flagCount}
 use Rattle.actions.specs.declared.Action.{Action}
@@ -22,18 +21,14 @@ map-none : {A C : Type 0} (f : A → C) (L : List A) → map f L ≡ [] → L �
 map-none f [] h = refl
 map-none f (c ∷ L) h = cons-clash h
 
--- where a test leaves none, it takes every element
-sift-none : {C : Type 0} (p : C → Bool) (L : List C) → sift p L ≡ [] → All (λ c. p c ≡ true) L
-sift-none p [] h = tt
-sift-none p (c ∷ L) h =
-    cases (p c) (λ e. (e, sift-none p L (sym (trim-hit (λ M c. p c) c L e) ∙ h))) (λ e. cons-clash (sym (trim-miss (λ M c. p c) c L e) ∙ h))
-
 -- where there is no violation by a flag, no flag is set
 pub flags-none-out : (flags : ℕ) → flagsSet flags ≡ [] → (i : ℕ) → i < flagCount → flags / 2 ^ i % 2 ≡ 0
 unfolding flagsSet
 flags-none-out flags h i below =
-    let unset = sift-none (λ i. eqb (flags / 2 ^ i % 2) 0) (counted 0 flagCount)
-    (map-none (λ i. FlagSet i) (sift (λ i. eqb (flags / 2 ^ i % 2) 0) (counted 0 flagCount)) h) in
+    let unset = all-imp (λ i. eqb (flags / 2 ^ i % 2) 1 ≡ false) (λ i. eqb (flags / 2 ^ i % 2) 0 ≡ true)
+    (λ i e. let other = eqb-false (flags / 2 ^ i % 2) 1 e in eq-eqb (flags / 2 ^ i % 2) 0 (omega arith)) (counted 0 flagCount)
+    (none-filter (λ i. eqb (flags / 2 ^ i % 2) 1) (counted 0 flagCount)
+    (map-none (λ i. FlagSet i) (filter (λ i. eqb (flags / 2 ^ i % 2) 1) (counted 0 flagCount)) h)) in
     eqb-true (flags / 2 ^ i % 2) 0 (every-counted-sound (λ i. eqb (flags / 2 ^ i % 2) 0) flagCount 0
     (all-every (λ i. eqb (flags / 2 ^ i % 2) 0) (counted 0 flagCount) unset) i zero-le below)
 
@@ -71,4 +66,4 @@ flags-refuse r a passed set =
 -- no flag is no violation
 pub flags-zero : flagsSet 0 ≡ []
 unfolding flagsSet
-flags-zero = rw (sift-every (λ i. eqb (0 / 2 ^ i % 2) 0) (counted 0 flagCount) (refl, (refl, (refl, (refl, (refl, (refl, (refl, (refl, (refl, (refl, tt)))))))))))
+flags-zero = rw (filter-none (λ i. eqb (0 / 2 ^ i % 2) 1) (counted 0 flagCount) (refl, (refl, (refl, (refl, (refl, (refl, (refl, (refl, (refl, (refl, tt)))))))))))

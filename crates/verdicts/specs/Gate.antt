@@ -7,7 +7,7 @@ use lib.ListN.{length, replicate}
 use Rattle.lists.specs.Tests.{ands}
 use Rattle.lists.specs.Lists.{any}
 use Rattle.lists.specs.Counts.{counted}
-use Rattle.lists.specs.Trims.{sift}
+use Rattle.lists.specs.Trims.{filter}
 use Rattle.rights.specs.Rights.{reading, hasRight}
 use Rattle.paths.specs.Containment.{contained}
 use Rattle.register.specs.Limits.{machineKind}
@@ -15,11 +15,11 @@ use Rattle.register.specs.Register.{actorsOf, resourcesOf, claimsOf, pathOf}
 use Rattle.register.specs.Chain.{latest, hopsOf, live}
 use Rattle.register.specs.declared.Claim.{Claim}
 use Rattle.register.specs.declared.Register.{Register}
-use Rattle.rules.specs.Sound.{sound}
-use Rattle.changes.specs.Refusals.{Test, outcomeOf}
-use Rattle.changes.specs.declared.Outcome.{Outcome}
-use Rattle.changes.specs.declared.Outcome.the-variants.{Accepted, Refused as RefusedFor}
-use Rattle.changes.specs.declared.Refusal.the-variants.{Unsound, OutOfRange, Unknown}
+use Rattle.rules.specs.Sound.{sound, isMachine}
+use Rattle.refusals.specs.Refusals.{Test, outcomeOf}
+use Rattle.refusals.specs.declared.Outcome.{Outcome}
+use Rattle.refusals.specs.declared.Outcome.the-variants.{Accepted, Refused as RefusedFor}
+use Rattle.refusals.specs.declared.Refusal.the-variants.{Unsound, OutOfRange, Unknown}
 use Rattle.actions.specs.Actions.{useLimit, violationLimit, flagCount, usesOf, governsOf, actionFits}
 use Rattle.actions.specs.declared.Usage.{Usage}
 use Rattle.actions.specs.declared.Action.{Action}
@@ -53,16 +53,13 @@ covering r now x u c = ands (
 unfoldable pub covers : Register → ℕ → ℕ → Usage → Bool
 covers r now x u = publicRead r u || any (covering r now x u) (claimsOf (r .claims))
 
--- whether x is a machine; a machine without owner; a machine with an owner who does not cover the use
-unfoldable pub isMachine : Register → ℕ → Bool
-isMachine r x = any (λ a. eqb x (a .id) && eqb (a .kind) machineKind) (actorsOf (r .actors))
-
+-- whether x is a machine without owner; a machine with an owner who does not cover the use
 unfoldable pub isOwnerless : Register → ℕ → Bool
-isOwnerless r x = any (λ a. eqb x (a .id) && (eqb (a .kind) machineKind && eqb (a .owner) 0)) (actorsOf (r .actors))
+isOwnerless r x = any (λ a. eqb x (a .id) && (eqb machineKind (a .kind) && eqb (a .owner) 0)) (actorsOf (r .actors))
 
 unfoldable pub ownerLacks : Register → ℕ → ℕ → Usage → Bool
 ownerLacks r now x u =
-    any (λ a. eqb x (a .id) && (eqb (a .kind) machineKind && (not (eqb (a .owner) 0) && not (covers r now (a .owner) u)))) (actorsOf (r .actors))
+    any (λ a. eqb x (a .id) && (eqb machineKind (a .kind) && (not (eqb (a .owner) 0) && not (covers r now (a .owner) u)))) (actorsOf (r .actors))
 
 -- the first that passes a test, alone in a list, or none
 unfoldable pub firstOf : {A : Type 0} → (A → Bool) → List A → List A
@@ -75,7 +72,7 @@ relied r now x u = firstOf (covering r now x u) (claimsOf (r .claims))
 
 -- 1: one for each set flag, lowest first; flag i is bit i
 unfoldable pub flagsSet : ℕ → List Violation
-flagsSet flags = map (λ i. FlagSet i) (sift (λ i. eqb (flags / 2 ^ i % 2) 0) (counted 0 flagCount))
+flagsSet flags = map (λ i. FlagSet i) (filter (λ i. eqb (flags / 2 ^ i % 2) 1) (counted 0 flagCount))
 
 -- 3: one for each governed entry, by its position from n
 unfoldable pub governed : ℕ → List ℕ → List Violation
@@ -96,7 +93,7 @@ unfoldable pub violationsOf : Register → Action → List Violation
 violationsOf r a =
     flagsSet (a .flags)
     ++ (cond (isOwnerless r (a .actor)) (NoOwner (a .actor) ∷ []) []
-    ++ (cond (isMachine r (a .actor)) (governed 0 (governsOf a)) []
+    ++ (cond (isMachine (actorsOf (r .actors)) (a .actor)) (governed 0 (governsOf a)) []
     ++ useViolations r (a .now) (a .actor) 0 (usesOf a)))
 
 -- the hop count of the first covering claim of the actor in register order, 0 when there is none

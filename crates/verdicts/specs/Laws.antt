@@ -16,19 +16,19 @@ use Rattle.rights.specs.Rights.{isRight}
 use Rattle.register.specs.Limits.{idLimit, momentEnd}
 use Rattle.register.specs.Register.{actorsOf}
 use Rattle.register.specs.declared.Register.{Register}
-use Rattle.rules.specs.Sound.{sound}
-use Rattle.changes.specs.Refusals.{outcomeOf}
-use Rattle.changes.specs.Laws.{outcome-cases, accepted-out, accepted-in}
-use Rattle.changes.specs.declared.Refusal.{Refusal}
-use Rattle.changes.specs.declared.Outcome.the-variants.{Accepted, Refused as RefusedFor}
+use Rattle.rules.specs.Sound.{sound, isMachine}
+use Rattle.refusals.specs.Refusals.{outcomeOf}
+use Rattle.refusals.specs.Laws.{outcome-cases, accepted-out, accepted-in}
+use Rattle.refusals.specs.declared.Refusal.{Refusal}
+use Rattle.refusals.specs.declared.Outcome.the-variants.{Accepted, Refused as RefusedFor}
 use Rattle.actions.specs.Actions.{useLimit, governLimit, flagCount, usesOf, governsOf, actionFits}
 use Rattle.actions.specs.declared.Usage.{Usage}
 use Rattle.actions.specs.declared.Action.{Action}
 use Rattle.actions.specs.declared.Violation.{Violation}
 use Rattle.actions.specs.declared.Violation.the-variants.{NoOwner, MachineGoverns, NotCovered, OwnerNotCovering}
 use Rattle.actions.specs.declared.Decision.the-variants.{Permitted, Refused, Stopped}
-use Rattle.verdicts.specs.Gate.{covers, isMachine, isOwnerless, ownerLacks, flagsSet, governed, useViolation, useViolations, violationsOf, hopCounts}
-use Rattle.verdicts.specs.Gate.{actionTests, gateTests, listed, padded, decided, verdictOn, gated}
+use Rattle.verdicts.specs.Gate.{covers, isOwnerless, ownerLacks, flagsSet, governed, useViolation, useViolations, violationsOf, hopCounts, actionTests, gateTests}
+use Rattle.verdicts.specs.Gate.{listed, padded, decided, verdictOn, gated}
 
 -- a stopped gate call gives no violations and no hop counts
 pub gated-stopped : (r : Register) (a : Action) (why : Refusal) → outcomeOf (gateTests r a) ≡ RefusedFor why
@@ -108,7 +108,7 @@ choice-none false c L h = refl
 pub record Clean (r : Register) (a : Action) : Type 0 where
   pub flagless : flagsSet (a .flags) ≡ []
   pub owned : isOwnerless r (a .actor) ≡ false
-  pub ungoverning : isMachine r (a .actor) ≡ true → governsOf a ≡ []
+  pub ungoverning : isMachine (actorsOf (r .actors)) (a .actor) ≡ true → governsOf a ≡ []
   pub covered : useViolations r (a .now) (a .actor) 0 (usesOf a) ≡ []
 
 pub governed-nil : (n : ℕ) → governed n [] ≡ []
@@ -135,7 +135,7 @@ unfolding violationsOf
 violations-none-out r a h =
     let flags = flagsSet (a .flags) in
     let owners : List Violation = cond (isOwnerless r (a .actor)) (NoOwner (a .actor) ∷ []) [] in
-    let governing = cond (isMachine r (a .actor)) (governed 0 (governsOf a)) [] in
+    let governing = cond (isMachine (actorsOf (r .actors)) (a .actor)) (governed 0 (governsOf a)) [] in
     let uses = useViolations r (a .now) (a .actor) 0 (usesOf a) in
     let past = append-none-right flags (owners ++ (governing ++ uses)) h in
     let further = append-none-right owners (governing ++ uses) past in
@@ -149,7 +149,7 @@ violations-none-out r a h =
 pub violations-none-in : (r : Register) (a : Action) → Clean r a → violationsOf r a ≡ []
 unfolding violationsOf governed
 violations-none-in r a h =
-    rw (h .flagless, h .owned, h .covered) (cases (isMachine r (a .actor)) (λ e. rw (e, h .ungoverning e)) (λ e. rw e))
+    rw (h .flagless, h .owned, h .covered) (cases (isMachine (actorsOf (r .actors)) (a .actor)) (λ e. rw (e, h .ungoverning e)) (λ e. rw e))
 
 -- what no violation says of a use by x
 pub record UseClean (r : Register) (now x : ℕ) (u : Usage) : Type 0 where

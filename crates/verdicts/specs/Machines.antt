@@ -5,11 +5,13 @@ use Prim.Native.Nat.{_<_}
 use native.Mathlib.Omega.{arith}
 use lib.ListN.{length, length-take}
 use Rattle.lists.specs.Tests.{clash}
+use Rattle.register.specs.Register.{actorsOf}
 use Rattle.register.specs.declared.Register.{Register}
+use Rattle.rules.specs.Sound.{isMachine}
 use Rattle.actions.specs.Actions.{governsOf}
 use Rattle.actions.specs.declared.Action.{Action}
 use Rattle.actions.specs.declared.Decision.the-variants.{Permitted, Refused}
-use Rattle.verdicts.specs.Gate.{isMachine, isOwnerless, gated}
+use Rattle.verdicts.specs.Gate.{isOwnerless, gated}
 use Rattle.verdicts.specs.Laws.{Passed, permitted-out, refused-in, violations-none-out}
 
 -- a machine without an owner that is not stopped is refused, so it is never permitted
@@ -24,11 +26,11 @@ pub ownerless-never : (r : Register) (a : Action) → isOwnerless r (a .actor) �
 ownerless-never r a e h = clash (isOwnerless r (a .actor)) e (permitted-owned r a h)
 
 -- a machine that governs and is not stopped is refused, so it is never permitted
-pub governing-refused : (r : Register) (a : Action) → Passed r a → isMachine r (a .actor) ≡ true → 0 < length (governsOf a) → gated r a .decision ≡ Refused
+pub governing-refused : (r : Register) (a : Action) → Passed r a → isMachine (actorsOf (r .actors)) (a .actor) ≡ true → 0 < length (governsOf a) → gated r a .decision ≡ Refused
 governing-refused r a passed e some =
     refused-in r a passed (λ none. omega (arith, ap length (violations-none-out r a none .ungoverning e)))
 
-pub governing-never : (r : Register) (a : Action) → isMachine r (a .actor) ≡ true → 0 < length (governsOf a) → gated r a .decision ≡ Permitted → ⊥
+pub governing-never : (r : Register) (a : Action) → isMachine (actorsOf (r .actors)) (a .actor) ≡ true → 0 < length (governsOf a) → gated r a .decision ≡ Permitted → ⊥
 governing-never r a e some h = omega (arith, ap length (permitted-out r a h .clean .ungoverning e))
 
 -- a count above 0 is a governed entry, where the list has room for it

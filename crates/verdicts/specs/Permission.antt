@@ -15,12 +15,13 @@ use Rattle.register.specs.Limits.{machineKind}
 use Rattle.register.specs.Register.{actorsOf, resourcesOf, claimsOf, pathOf}
 use Rattle.register.specs.declared.Actor.{Actor}
 use Rattle.register.specs.declared.Register.{Register}
+use Rattle.rules.specs.Sound.{isMachine}
 use Rattle.actions.specs.Actions.{usesOf, governsOf}
 use Rattle.actions.specs.declared.Usage.{Usage}
 use Rattle.actions.specs.declared.Action.{Action}
 use Rattle.actions.specs.declared.Decision.the-variants.{Permitted}
-use Rattle.verdicts.specs.Gate.{publicRead, contains, covering, covers, isMachine, isOwnerless, ownerLacks, gated}
-use Rattle.verdicts.specs.Places.{Place, place-any, each-place}
+use Rattle.verdicts.specs.Gate.{publicRead, contains, covering, covers, isOwnerless, ownerLacks, gated}
+use Rattle.verdicts.specs.Places.{IsIn, place-any, each-place}
 use Rattle.verdicts.specs.Laws.{Passed, UseClean, use-violations-in, permitted-in}
 use Rattle.verdicts.specs.Flags.{flags-zero}
 use Rattle.verdicts.specs.Coverage.{covering-in}
@@ -71,23 +72,23 @@ rests-covers r now x u =
     (place-any (covering r now x u) (claimsOf (r .claims)) (h .claim) (h .standing) (traced-covering r now x u h)))
 
 owner-not-lacking : (r : Register) (now x : ℕ) (u : Usage)
-    → ((b : Actor) → Place (actorsOf (r .actors)) b → b .id ≡ x → b .kind ≡ machineKind → Owned r now b u) → ownerLacks r now x u ≡ false
+    → ((b : Actor) → IsIn (actorsOf (r .actors)) b → b .id ≡ x → b .kind ≡ machineKind → Owned r now b u) → ownerLacks r now x u ≡ false
 unfolding ownerLacks
 owner-not-lacking r now x u owned =
-    let lacks : Actor → Bool = λ a. eqb x (a .id) && (eqb (a .kind) machineKind && (not (eqb (a .owner) 0) && not (covers r now (a .owner) u))) in
-    all-none lacks (actorsOf (r .actors)) (all-imp (λ b. Place (actorsOf (r .actors)) b) (λ b. lacks b ≡ false)
+    let lacks : Actor → Bool = λ a. eqb x (a .id) && (eqb machineKind (a .kind) && (not (eqb (a .owner) 0) && not (covers r now (a .owner) u))) in
+    all-none lacks (actorsOf (r .actors)) (all-imp (λ b. IsIn (actorsOf (r .actors)) b) (λ b. lacks b ≡ false)
     (λ b at. cases (lacks b)
-    (λ e. let rest = and-right (eqb x (b .id)) (eqb (b .kind) machineKind && (not (eqb (b .owner) 0) && not (covers r now (b .owner) u))) e in
-    let machine = eqb-true (b .kind) machineKind (and-left (eqb (b .kind) machineKind) (not (eqb (b .owner) 0) && not (covers r now (b .owner) u)) rest) in
-    let named = sym (eqb-true x (b .id) (and-left (eqb x (b .id)) (eqb (b .kind) machineKind && (not (eqb (b .owner) 0) && not (covers r now (b .owner) u))) e)) in
-    let last = and-right (eqb (b .kind) machineKind) (not (eqb (b .owner) 0) && not (covers r now (b .owner) u)) rest in
+    (λ e. let rest = and-right (eqb x (b .id)) (eqb machineKind (b .kind) && (not (eqb (b .owner) 0) && not (covers r now (b .owner) u))) e in
+    let machine = sym (eqb-true machineKind (b .kind) (and-left (eqb machineKind (b .kind)) (not (eqb (b .owner) 0) && not (covers r now (b .owner) u)) rest)) in
+    let named = sym (eqb-true x (b .id) (and-left (eqb x (b .id)) (eqb machineKind (b .kind) && (not (eqb (b .owner) 0) && not (covers r now (b .owner) u))) e)) in
+    let last = and-right (eqb machineKind (b .kind)) (not (eqb (b .owner) 0) && not (covers r now (b .owner) u)) rest in
     clash (covers r now (b .owner) u) (rests-covers r now (b .owner) u (owned b at named machine .ownerRests))
     (not-true (covers r now (b .owner) u) (and-right (not (eqb (b .owner) 0)) (not (covers r now (b .owner) u)) last)))
     (λ e. e)) (actorsOf (r .actors)) (each-place (actorsOf (r .actors))))
 
 -- what permission asks of an action that no test stops
 pub authority-permits : (r : Register) (a : Action) → Passed r a → a .flags ≡ 0 → isOwnerless r (a .actor) ≡ false
-    → (isMachine r (a .actor) ≡ true → governsOf a ≡ []) → ((u : Usage) → Place (usesOf a) u → Authority r a u) → gated r a .decision ≡ Permitted
+    → (isMachine (actorsOf (r .actors)) (a .actor) ≡ true → governsOf a ≡ []) → ((u : Usage) → IsIn (usesOf a) u → Authority r a u) → gated r a .decision ≡ Permitted
 authority-permits r a passed flagless owned ungoverning rests =
     permitted-in r a record {
       passed = passed;
@@ -95,7 +96,7 @@ authority-permits r a passed flagless owned ungoverning rests =
         flagless = rw flagless flags-zero;
         owned = owned;
         ungoverning = ungoverning;
-        covered = use-violations-in r (a .now) (a .actor) 0 (usesOf a) (all-imp (λ u. Place (usesOf a) u) (λ u. UseClean r (a .now) (a .actor) u)
+        covered = use-violations-in r (a .now) (a .actor) 0 (usesOf a) (all-imp (λ u. IsIn (usesOf a) u) (λ u. UseClean r (a .now) (a .actor) u)
             (λ u at. record {
               covered = rests-covers r (a .now) (a .actor) u (rests u at .actorRests);
               ownerCovers = owner-not-lacking r (a .now) (a .actor) u (rests u at .machineOwned);

@@ -10,50 +10,50 @@ use Rattle.register.specs.Chain.{latest}
 use Rattle.verdicts.specs.Gate.{firstOf}
 
 -- a place of a list: what stands before and after
-pub record Place {C : Type 0} (L : List C) (c : C) : Type 0 where
+pub record IsIn {C : Type 0} (L : List C) (c : C) : Type 0 where
   pub before : List C
   pub after : List C
   pub split : L ≡ before ++ c ∷ after
 
 module _ {C : Type 0} where
-  abbrev place-here : (c : C) (L : List C) → Place (c ∷ L) c
+  abbrev place-here : (c : C) (L : List C) → IsIn (c ∷ L) c
   place-here c L = record { before = []; after = L; split = refl }
 
-  abbrev place-later : (d : C) (L : List C) (c : C) → Place L c → Place (d ∷ L) c
+  abbrev place-later : (d : C) (L : List C) (c : C) → IsIn L c → IsIn (d ∷ L) c
   place-later d L c p = record { before = d ∷ p .before; after = p .after; split = ap (λ l. d ∷ l) (p .split) }
 
   -- where some element passes a test, there is a place at which one does
-  pub any-place : (p : C → Bool) (L : List C) → any p L ≡ true → (c : C) × Place L c × (p c ≡ true)
+  pub any-place : (p : C → Bool) (L : List C) → any p L ≡ true → (c : C) × IsIn L c × (p c ≡ true)
   any-place p [] h = clash false h refl
   any-place p (c ∷ L) h =
       cases (p c) (λ e. (c, place-here c L, e))
       (λ e. let found = any-place p L (rw e at h) in (found .0, place-later c L (found .0) (found .1), found .2))
 
-  pub place-any : (p : C → Bool) (L : List C) (c : C) → Place L c → p c ≡ true → any p L ≡ true
+  pub place-any : (p : C → Bool) (L : List C) (c : C) → IsIn L c → p c ≡ true → any p L ≡ true
   place-any p L c at e =
       rw (at .split, any-append p (at .before) (c ∷ at .after), e) (or-second (any p (at .before)) true refl)
 
   -- what holds of each holds at a place
-  pub all-place : (Q : C → Type 0) (L : List C) → All Q L → (c : C) → Place L c → Q c
+  pub all-place : (Q : C → Type 0) (L : List C) → All Q L → (c : C) → IsIn L c → Q c
   all-place Q L h c at = all-middle (at .before) (rw (at .split) at h)
     where
       all-middle : (K : List C) → All Q (K ++ c ∷ at .after) → Q c
       all-middle [] k = k .0
       all-middle (d ∷ K) k = all-middle K (k .1)
 
-  pub none-place : (p : C → Bool) (L : List C) → any p L ≡ false → (c : C) → Place L c → p c ≡ false
+  pub none-place : (p : C → Bool) (L : List C) → any p L ≡ false → (c : C) → IsIn L c → p c ≡ false
   none-place p L h = all-place (λ c. p c ≡ false) L (none-all p L h)
 
   -- each element stands at a place
-  pub each-place : (L : List C) → All (λ c. Place L c) L
+  pub each-place : (L : List C) → All (λ c. IsIn L c) L
   each-place [] = tt
-  each-place (c ∷ L) = (place-here c L, all-imp (λ d. Place L d) (λ d. Place (c ∷ L) d) (λ d at. place-later c L d at) L (each-place L))
+  each-place (c ∷ L) = (place-here c L, all-imp (λ d. IsIn L d) (λ d. IsIn (c ∷ L) d) (λ d at. place-later c L d at) L (each-place L))
 
   -- a place is the first, or one behind it
-  pub place-cases : (d : C) (L : List C) (c : C) → Place (d ∷ L) c → (c ≡ d) ⊎ Place L c
-  place-cases d L c at = where-split (at .before) (at .split)
+  pub is-in-cases : (d : C) (L : List C) (c : C) → IsIn (d ∷ L) c → (c ≡ d) ⊎ IsIn L c
+  is-in-cases d L c at = where-split (at .before) (at .split)
     where
-      where-split : (K : List C) → d ∷ L ≡ K ++ c ∷ at .after → (c ≡ d) ⊎ Place L c
+      where-split : (K : List C) → d ∷ L ≡ K ++ c ∷ at .after → (c ≡ d) ⊎ IsIn L c
       where-split [] e = inl cc
       where-split (b ∷ K) e = inr record { before = K; after = at .after; split = cc }
 
@@ -79,7 +79,7 @@ module _ {C : Type 0} where
 
 -- the first that passes a test: it stands, it passes, and none before it does
 pub record First {C : Type 0} (p : C → Bool) (L : List C) (c : C) : Type 0 where
-  pub place : Place L c
+  pub place : IsIn L c
   pub passes : p c ≡ true
   pub noneBefore : any p (place .before) ≡ false
   pub alone : firstOf p L ≡ c ∷ []

@@ -9,42 +9,43 @@ use Rattle.lists.specs.Each.{each-all, any-map, any-same}
 use Rattle.paths.specs.Containment.{contained}
 use Rattle.rights.specs.Rights.{reading}
 use Rattle.register.specs.Limits.{machineKind}
-use Rattle.register.specs.Register.{actorsOf, resourcesOf, pathOf, Standing, standing, Same}
+use Rattle.register.specs.Register.{actorsOf, resourcesOf, pathOf, Standing, Same, resourceStanding}
 use Rattle.register.specs.Chain.{latest, hopsOf}
 use Rattle.register.specs.declared.Claim.{Claim}
 use Rattle.register.specs.declared.Register.{Register}
 use Rattle.rules.specs.Sameness.{sound-same}
-use Rattle.changes.specs.Refusals.{outcomeOf}
-use Rattle.changes.specs.declared.Outcome.{Outcome}
-use Rattle.changes.specs.declared.Outcome.the-variants.{Accepted, Refused as RefusedFor}
+use Rattle.rules.specs.Sound.{isMachine}
+use Rattle.refusals.specs.Refusals.{outcomeOf}
+use Rattle.refusals.specs.declared.Outcome.{Outcome}
+use Rattle.refusals.specs.declared.Outcome.the-variants.{Accepted, Refused as RefusedFor}
 use Rattle.actions.specs.Actions.{usesOf}
 use Rattle.actions.specs.declared.Usage.{Usage}
 use Rattle.actions.specs.declared.Action.{Action}
 use Rattle.actions.specs.declared.Plan.{Plan}
-use Rattle.verdicts.specs.Gate.{publicRead, contains, covering, covers, isMachine, isOwnerless, ownerLacks, relied, useViolation, useViolations}
-use Rattle.verdicts.specs.Gate.{violationsOf, hopsIn, hopsFor, hopCounts, actionTests, gateTests, verdictOn, gated}
+use Rattle.verdicts.specs.Gate.{publicRead, contains, covering, covers, isOwnerless, ownerLacks, relied, useViolation, useViolations, violationsOf, hopsIn, hopsFor}
+use Rattle.verdicts.specs.Gate.{hopCounts, actionTests, gateTests, verdictOn, gated}
 use Rattle.verdicts.specs.Plans.{actionsOf, judgements, Halt, runs, halts, haltOn, firstHalt, haltOf, held, planVerdict, planned}
 
 -- resources as they stand decide
 abbrev containsIn : List Standing → ℕ → ℕ → Bool
 containsIn resources x y = any (λ o. eqb x (o .id) && any (λ i. eqb y (i .id) && contained (o .path) (i .path)) resources) resources
 
-contains-standing : (r : Register) (x y : ℕ) → contains r x y ≡ containsIn (map standing (resourcesOf (r .resources))) x y
+contains-standing : (r : Register) (x y : ℕ) → contains r x y ≡ containsIn (map resourceStanding (resourcesOf (r .resources))) x y
 unfolding contains
 contains-standing r x y =
     let resources = resourcesOf (r .resources) in
     any-same (λ o. eqb x (o .id) && any (λ i. eqb y (i .id) && contained (pathOf o) (pathOf i)) resources)
-    (λ o. eqb x (o .id) && any (λ i. eqb y (i .id) && contained (pathOf o) (i .path)) (map standing resources)) resources
+    (λ o. eqb x (o .id) && any (λ i. eqb y (i .id) && contained (pathOf o) (i .path)) (map resourceStanding resources)) resources
     (each-all (λ M o. (eqb x (o .id) && any (λ i. eqb y (i .id) && contained (pathOf o) (pathOf i)) resources)
-    ≡ (eqb x (o .id) && any (λ i. eqb y (i .id) && contained (pathOf o) (i .path)) (map standing resources)))
-    (λ M o. ap (λ b. eqb x (o .id) && b) (sym (any-map standing (λ i. eqb y (i .id) && contained (pathOf o) (i .path)) resources))) resources)
-    ∙ sym (any-map standing (λ o. eqb x (o .id) && any (λ i. eqb y (i .id) && contained (o .path) (i .path)) (map standing resources)) resources)
+    ≡ (eqb x (o .id) && any (λ i. eqb y (i .id) && contained (pathOf o) (i .path)) (map resourceStanding resources)))
+    (λ M o. ap (λ b. eqb x (o .id) && b) (sym (any-map resourceStanding (λ i. eqb y (i .id) && contained (pathOf o) (i .path)) resources))) resources)
+    ∙ sym (any-map resourceStanding (λ o. eqb x (o .id) && any (λ i. eqb y (i .id) && contained (o .path) (i .path)) (map resourceStanding resources)) resources)
 
 public-standing : (r : Register) (u : Usage)
-    → publicRead r u ≡ (eqb (u .right) reading && any (λ o. eqb (u .resource) (o .id) && eqb (o .public) 1) (map standing (resourcesOf (r .resources))))
+    → publicRead r u ≡ (eqb (u .right) reading && any (λ o. eqb (u .resource) (o .id) && eqb (o .public) 1) (map resourceStanding (resourcesOf (r .resources))))
 unfolding publicRead
 public-standing r u =
-    ap (λ b. eqb (u .right) reading && b) (sym (any-map standing (λ o. eqb (u .resource) (o .id) && eqb (o .public) 1) (resourcesOf (r .resources))))
+    ap (λ b. eqb (u .right) reading && b) (sym (any-map resourceStanding (λ o. eqb (u .resource) (o .id) && eqb (o .public) 1) (resourcesOf (r .resources))))
 
 module _ (r s : Register) (same : Same r s) where
   contains-same : (x y : ℕ) → contains r x y ≡ contains s x y
@@ -66,8 +67,7 @@ module _ (r s : Register) (same : Same r s) where
   unfolding covers
   covers-same now x u = rw (public-same u, covering-same now x u, same .claims)
 
-  machine-same : (x : ℕ) → isMachine r x ≡ isMachine s x
-  unfolding isMachine
+  machine-same : (x : ℕ) → isMachine (actorsOf (r .actors)) x ≡ isMachine (actorsOf (s .actors)) x
   machine-same x = rw (same .actors)
 
   ownerless-same : (x : ℕ) → isOwnerless r x ≡ isOwnerless s x
@@ -77,9 +77,9 @@ module _ (r s : Register) (same : Same r s) where
   lacks-same : (now x : ℕ) (u : Usage) → ownerLacks r now x u ≡ ownerLacks s now x u
   unfolding ownerLacks
   lacks-same now x u =
-      ap (λ (f : ℕ → Bool). any (λ a. eqb x (a .id) && (eqb (a .kind) machineKind && (not (eqb (a .owner) 0) && not (f (a .owner))))) (actorsOf (r .actors)))
+      ap (λ (f : ℕ → Bool). any (λ a. eqb x (a .id) && (eqb machineKind (a .kind) && (not (eqb (a .owner) 0) && not (f (a .owner))))) (actorsOf (r .actors)))
       (fun-ext (λ y. covers-same now y u))
-      ∙ ap (λ l. any (λ a. eqb x (a .id) && (eqb (a .kind) machineKind && (not (eqb (a .owner) 0) && not (covers s now (a .owner) u)))) l) (same .actors)
+      ∙ ap (λ l. any (λ a. eqb x (a .id) && (eqb machineKind (a .kind) && (not (eqb (a .owner) 0) && not (covers s now (a .owner) u)))) l) (same .actors)
 
   relied-same : (now x : ℕ) (u : Usage) → relied r now x u ≡ relied s now x u
   relied-same now x u = rw (covering-same now x u, same .claims)

@@ -25,7 +25,7 @@ use Rattle.rules.specs.Laws.{DrawnFrom, acceptable-out, drawn-out, root-kept-ou
 use Rattle.rules.specs.Registers.{sound-out, distinct-cons}
 use Rattle.rules.specs.Places.{latest-acceptable, earlier-sound, prefix-sound, place-hops}
 use Rattle.rules.specs.Chains.{Climbs, rootOf, place-climbs, place-root, place-above}
-use Rattle.verdicts.specs.Places.{Place, any-place, all-place, none-place, each-place, place-cases, all-latest, latest-split}
+use Rattle.verdicts.specs.Places.{IsIn, any-place, all-place, none-place, each-place, is-in-cases, all-latest, latest-split}
 use Rattle.verdicts.specs.Coverage.{sound-place}
 
 -- the chain above a claim that stands in a register
@@ -39,7 +39,7 @@ Attenuates c [] = Unit {0}
 Attenuates c (p ∷ higher) = DrawnFrom p c × Attenuates p higher
 
 -- numbers that are distinct tell elements apart
-distinct-place : {C : Type 0} (f : C → ℕ) (L : List C) → distinct (map f L) ≡ true → (c d : C) → Place L c → Place L d → f c ≡ f d → c ≡ d
+distinct-place : {C : Type 0} (f : C → ℕ) (L : List C) → distinct (map f L) ≡ true → (c d : C) → IsIn L c → IsIn L d → f c ≡ f d → c ≡ d
 distinct-place {C} f [] h c d at by same = nowhere (at .before) (at .split)
   where
     nowhere : (K : List C) → [] ≡ K ++ c ∷ at .after → c ≡ d
@@ -48,16 +48,16 @@ distinct-place {C} f [] h c d at by same = nowhere (at .before) (at .split)
 distinct-place {C} f (b ∷ L) h c d at by same =
     let told = sym (distinct-cons (f b) (map f L)) ∙ h in
     let apart = rw (any-map f (eqb (f b)) L) at (not-true (any (eqb (f b)) (map f L)) (and-left (not (any (eqb (f b)) (map f L))) (distinct (map f L)) told)) in
-    let other : ((e : C) → Place L e → f b ≡ f e → ⊥) = λ e in-rest. eqb-false (f b) (f e) (none-place (λ e. eqb (f b) (f e)) L apart e in-rest) in
+    let other : ((e : C) → IsIn L e → f b ≡ f e → ⊥) = λ e in-rest. eqb-false (f b) (f e) (none-place (λ e. eqb (f b) (f e)) L apart e in-rest) in
     ⊎-elim
-    (λ here. ⊎-elim (λ there. here ∙ sym there) (λ in-rest. absurd (other d in-rest (ap f (sym here) ∙ same))) (place-cases b L d by))
+    (λ here. ⊎-elim (λ there. here ∙ sym there) (λ in-rest. absurd (other d in-rest (ap f (sym here) ∙ same))) (is-in-cases b L d by))
     (λ past. ⊎-elim (λ there. absurd (other c past (ap f (sym there) ∙ sym same)))
-    (λ in-rest. distinct-place f L (and-right (not (any (eqb (f b)) (map f L))) (distinct (map f L)) told) c d past in-rest same) (place-cases b L d by))
-    (place-cases b L c at)
+    (λ in-rest. distinct-place f L (and-right (not (any (eqb (f b)) (map f L))) (distinct (map f L)) told) c d past in-rest same) (is-in-cases b L d by))
+    (is-in-cases b L c at)
 
 -- who keeps a resource by its number is that resource's keeper
 keeper-place : (resources : List Resource) → distinct (map (λ q. q .id) resources) ≡ true → (g x : ℕ)
-    → any (λ q. eqb x (q .id) && eqb g (q .keeper)) resources ≡ true → (o : Resource) → Place resources o → o .id ≡ x → g ≡ o .keeper
+    → any (λ q. eqb x (q .id) && eqb g (q .keeper)) resources ≡ true → (o : Resource) → IsIn resources o → o .id ≡ x → g ≡ o .keeper
 keeper-place resources apart g x kept o at named =
     let found = any-place (λ q. eqb x (q .id) && eqb g (q .keeper)) resources kept in
     let number = eqb-true x (found .0 .id) (and-left (eqb x (found .0 .id)) (eqb g (found .0 .keeper)) (found .2)) in
@@ -103,7 +103,7 @@ module _ (w : World) where
   sound-kept (c ∷ L) h = (acceptable-out w L c (latest-acceptable w c L h) .byItself .kept, sound-kept L (earlier-sound w c L h))
 
 -- a claim at its place in a sound register
-module _ (r : Register) (h : sound r ≡ true) (c : Claim) (at : Place (claimsOf (r .claims)) c) where
+module _ (r : Register) (h : sound r ≡ true) (c : Claim) (at : IsIn (claimsOf (r .claims)) c) where
   abbrev around : World
   around = worldOf (actorsOf (r .actors)) (resourcesOf (r .resources))
 
@@ -116,9 +116,9 @@ module _ (r : Register) (h : sound r ≡ true) (c : Claim) (at : Place (claimsOf
   pub place-climbing : Climbs (c .parent) (higherThan r c)
   place-climbing = rw higher-earlier (place-climbs around (latest (at .after)) c (latest (at .before)) (sound-place r h c at))
 
-  pub place-higher : All (λ d. Place (claimsOf (r .claims)) d) (higherThan r c)
-  place-higher = all-chain (λ d. d .id) (λ d. d .parent) (λ d. Place (claimsOf (r .claims)) d) (latest (claimsOf (r .claims))) (c .parent)
-      (all-latest (λ d. Place (claimsOf (r .claims)) d) (claimsOf (r .claims)) (each-place (claimsOf (r .claims))))
+  pub place-higher : All (λ d. IsIn (claimsOf (r .claims)) d) (higherThan r c)
+  place-higher = all-chain (λ d. d .id) (λ d. d .parent) (λ d. IsIn (claimsOf (r .claims)) d) (latest (claimsOf (r .claims))) (c .parent)
+      (all-latest (λ d. IsIn (claimsOf (r .claims)) d) (claimsOf (r .claims)) (each-place (claimsOf (r .claims))))
 
   pub place-attenuating : Attenuates c (higherThan r c)
   place-attenuating =
@@ -133,7 +133,7 @@ module _ (r : Register) (h : sound r ≡ true) (c : Claim) (at : Place (claimsOf
   place-rooted = rw higher-earlier (place-root around (latest (at .after)) c (latest (at .before)) (sound-place r h c at))
 
   -- its root is granted by the keeper of its resource
-  pub place-keeper : (o : Resource) → Place (resourcesOf (r .resources)) o → o .id ≡ c .resource → rootOf c (higherThan r c) .grantor ≡ o .keeper
+  pub place-keeper : (o : Resource) → IsIn (resourcesOf (r .resources)) o → o .id ≡ c .resource → rootOf c (higherThan r c) .grantor ≡ o .keeper
   place-keeper o by claimed =
       let root : Claim = rootOf c (higherThan r c) in
       let all = sound-kept around (latest (claimsOf (r .claims))) (sound-out r h .claims) in

@@ -8,7 +8,7 @@ use native.Mathlib.Omega.{arith}
 use borrow.Author.Tests.{eq-eqb, ne-eqb}
 use lib.Dec.{eqb}
 use Rattle.lists.specs.Counts.{counted}
-use Rattle.lists.specs.Trims.{sift, trim-nil, trim-hit, trim-miss}
+use Rattle.lists.specs.Trims.{filter, filter-nil, filter-hit, filter-miss}
 use Rattle.actions.specs.declared.Violation.{Violation}
 use Rattle.actions.specs.declared.Violation.the-variants.{FlagSet, MachineGoverns}
 use Rattle.actions.specs.declared.Violations.{Violations}
@@ -48,17 +48,17 @@ module _ {f : List ℕ → List Violation} {n : ℕ} {first : Violations} where
 
 -- the violations that the set ones among some flags are
 abbrev pub setAmong : ℕ → List ℕ → List Violation
-setAmong flags l = map (λ i. FlagSet i) (sift (λ i. eqb (flags / 2 ^ i % 2) 0) l)
+setAmong flags l = map (λ i. FlagSet i) (filter (λ i. eqb (flags / 2 ^ i % 2) 1) l)
 
 module _ (flags : ℕ) where
   pub flag-set : (i : ℕ) → flags / 2 ^ i % 2 ≡ 1 → (l : List ℕ) → setAmong flags (i ∷ l) ≡ FlagSet i ∷ setAmong flags l
-  flag-set i h l = rw (trim-miss (λ M i. eqb (flags / 2 ^ i % 2) 0) i l (ne-eqb (flags / 2 ^ i % 2) 0 (omega arith)))
+  flag-set i h l = rw (filter-hit (λ i. eqb (flags / 2 ^ i % 2) 1) i l (eq-eqb (flags / 2 ^ i % 2) 1 h))
 
   pub flag-clear : (i : ℕ) → (flags / 2 ^ i % 2 ≡ 1 → ⊥) → (l : List ℕ) → setAmong flags (i ∷ l) ≡ setAmong flags l
-  flag-clear i h l = rw (trim-hit (λ M i. eqb (flags / 2 ^ i % 2) 0) i l (eq-eqb (flags / 2 ^ i % 2) 0 (omega arith)))
+  flag-clear i h l = rw (filter-miss (λ i. eqb (flags / 2 ^ i % 2) 1) i l (ne-eqb (flags / 2 ^ i % 2) 1 h))
 
   pub flag-none : setAmong flags [] ≡ []
-  flag-none = rw (trim-nil (λ M i. eqb (flags / 2 ^ i % 2) 0))
+  flag-none = rw (filter-nil (λ i. eqb (flags / 2 ^ i % 2) 1))
 
 -- the violations that governed entries at some positions are
 abbrev pub governsAt : List ℕ → List Violation

@@ -1,7 +1,7 @@
 -- What putting violations to the end of a held list is over lists, and how many violations flags and governed entries give. Assumes
 -- nothing.
 use mathlib.Core.Path.{_≡_, refl, sym, ap, _∙_}
-use mathlib.Core.Bool.{Bool}
+use mathlib.Core.Bool.{Bool, not}
 use mathlib.Core.List.{List, [], _∷_, _++_, map, map-append, append-assoc, append-nil}
 use Prim.Native.Nat.{ℕ, suc, _+_, _-_, _/_, _%_, _^_, _≤_, _<_}
 use native.Mathlib.Omega.{arith}
@@ -10,7 +10,7 @@ use lib.Dec.{eqb}
 use lib.ListN.{length, set, replicate, length-map, length-append}
 use lib.Seq.{set-at}
 use Rattle.lists.specs.Counts.{counted}
-use Rattle.lists.specs.Trims.{sift, trim-length}
+use Rattle.lists.specs.Trims.{filter, trim-length}
 use Rattle.actions.specs.Actions.{violationLimit, flagCount}
 use Rattle.actions.specs.declared.Violated.{Violated}
 use Rattle.actions.specs.declared.Violation.{Violation}
@@ -57,8 +57,8 @@ pushed-all-append vs (v ∷ l) m = pushed-all-append (pushed vs v) l m
 pub flags-set-length : (flags : ℕ) → length (flagsSet flags) ≤ flagCount
 unfolding flagsSet
 flags-set-length flags =
-    let clear : (ℕ → Bool) = λ i. eqb (flags / 2 ^ i % 2) 0 in
-    omega (arith, length-map (sift clear (counted 0 flagCount)) FlagSet, trim-length (λ M i. clear i) (counted 0 flagCount))
+    let raised : (ℕ → Bool) = λ i. eqb (flags / 2 ^ i % 2) 1 in
+    omega (arith, length-map (filter raised (counted 0 flagCount)) FlagSet, trim-length (λ M i. not (raised i)) (counted 0 flagCount))
 
 -- governed entries give violations by their positions, one for each
 pub governed-counted : (n : ℕ) (entries : List ℕ) → governed n entries ≡ map (λ i. MachineGoverns i) (counted n (length entries))

@@ -10,7 +10,8 @@ use lib.ListN.{length, take, drop, getD, length-take, take-append-drop}
 use lib.Seq.{take-suc, take-take, take-length}
 use Rattle.lists.specs.Lists.{any}
 use Rattle.rules.specs.Sound.{distinct}
-use Rattle.world.specs.Laws.{distinct-more, distinct-front}
+use Rattle.rules.specs.Distinct.{distinct-more}
+use Rattle.world.specs.Laws.{distinct-front}
 
 -- the loop has come to place i: those before it are distinct
 pub record Passing (column : List ℕ) (n top i : ℕ) : Type 0 where

@@ -1,21 +1,21 @@
 -- Laws of distinct numbers, and what the tests of actors and resources by columns are in 01's words. Assumes nothing.
 use mathlib.Core.Path.{_≡_, refl, sym, ap, _∙_, fun-ext}
-use mathlib.Core.Bool.{Bool, true, false, not, _&&_, _||_, or-false, and-true, and-false}
+use mathlib.Core.Bool.{Bool, true, false, not, _&&_, and-true, and-false}
 use mathlib.Core.List.{List, [], _∷_, _++_, map}
 use Prim.Native.Nat.{ℕ, zero, suc, _≤_, _<_, min}
 use native.Mathlib.Omega.{arith}
-use borrow.Author.Tests.{lt-ltb, eq-eqb, ne-eqb, eqb-true, eqb-false, not-true}
+use borrow.Author.Tests.{lt-ltb, eq-eqb, ne-eqb, not-true}
 use lib.Dec.{eqb, ltb}
 use lib.ListN.{length, take, getD, length-map}
-use Rattle.lists.specs.Tests.{cases, and-left, and-right}
+use Rattle.lists.specs.Tests.{cases, and-left, and-right, eqb-turned}
 use Rattle.lists.specs.Lists.{any, any-append}
 use Rattle.register.specs.declared.Actor.{Actor}
 use Rattle.register.specs.declared.Resource.{Resource}
-use Rattle.columns.specs.Columns.{actorId, kindOf, latestPlace}
+use Rattle.columns.specs.Columns.{actorId, latestPlace, actorKind}
 use Rattle.columns.specs.Laws.{beside-natural, among-natural, place-cases, place-within, place-found, place-among, nowhere-none}
-use Rattle.finding.specs.Finding.{numberOf}
+use Rattle.finding.specs.Finding.{placeNumber}
 use Rattle.register.specs.Limits.{claimLimit, humanKind}
-use Rattle.rules.specs.Sound.{distinct, human, actorFits, resourceFits}
+use Rattle.rules.specs.Sound.{distinct, human, resourceFits}
 use Rattle.world.specs.Judged.{humanIn, humanId}
 
 -- the first n of a column
@@ -29,24 +29,6 @@ any-at : (x : ℕ) (l : List ℕ) (k : ℕ) → k < length l → getD l k 0 ≡ 
 any-at x [] k h e = absurd (omega arith)
 any-at x (a ∷ l) zero h e = rw (eq-eqb x a (sym e))
 any-at x (a ∷ l) (suc k) h e = cases (eqb x a) (λ t. rw t) (λ t. rw t (any-at x l k (omega arith) e))
-
--- numbers are equal either way round
-eqb-turned : (x y : ℕ) → eqb x y ≡ eqb y x
-eqb-turned x y = cases (eqb y x) (λ e. rw e (eq-eqb x y (sym (eqb-true y x e)))) (λ e. rw e (ne-eqb x y (λ q. eqb-false y x e (sym q))))
-
--- one number more behind the others
-pub distinct-more : (l : List ℕ) (x : ℕ) → distinct (l ++ (x ∷ [])) ≡ distinct l && not (any (eqb x) l)
-unfolding distinct
-distinct-more [] x = refl
-distinct-more (a ∷ l) x =
-    rw (distinct-more l x, any-append (eqb a) l (x ∷ []), or-false (eqb a x), eqb-turned a x)
-    (joined (any (eqb a) l) (eqb x a) (distinct l) (any (eqb x) l))
-  where
-    joined : (p q d r : Bool) → not (p || q) && (d && not r) ≡ (not p && d) && not (q || r)
-    joined true q d r = refl
-    joined false true true r = refl
-    joined false true false r = refl
-    joined false false d r = refl
 
 -- numbers that are not distinct are not so with more behind them
 pub distinct-front : (l m : List ℕ) → distinct l ≡ false → distinct (l ++ m) ≡ false
@@ -73,14 +55,11 @@ distinct-doubled l i j before within same =
 
 -- who is a human by the columns of the first n actors is a human of these
 module _ (l : List Actor) (n : ℕ) where
-  pub human-natural : (x : ℕ) → humanIn (map actorId l) (map kindOf l) n x ≡ human (take n l) x
-  human-natural x = beside-natural actorId kindOf x humanKind n l
+  pub human-natural : (x : ℕ) → humanIn (map actorId l) (map actorKind l) n x ≡ human (take n l) x
+  human-natural x = beside-natural actorId actorKind x humanKind n l
 
-  pub same-humans : _≡_ {A = ℕ → Bool} (λ x. humanIn (map actorId l) (map kindOf l) n x) (λ x. human (take n l) x)
+  pub same-humans : _≡_ {A = ℕ → Bool} (λ x. humanIn (map actorId l) (map actorKind l) n x) (λ x. human (take n l) x)
   same-humans = fun-ext human-natural
-
-  pub actor-fits-natural : (a : Actor) → actorFits (humanIn (map actorId l) (map kindOf l) n) a ≡ actorFits (human (take n l)) a
-  actor-fits-natural a = ap (λ test. actorFits test a) same-humans
 
 -- a number that is not 0 has a place among the humans' ids exactly where it is a human's
 module _ (l : List Actor) (n x : ℕ) (short : length l ≤ claimLimit) (some : x ≡ 0 → ⊥) where
@@ -100,19 +79,15 @@ module _ (l : List Actor) (n x : ℕ) (short : length l ≤ claimLimit) (some : 
       ∙ ap (λ m. latestPlace (map humanId l) m x) same
       ∙ sym (place-within (map humanId l) x n)
 
-  pub human-found : ltb (numberOf claimLimit (latestPlace (map humanId l) (min n claimLimit) x)) claimLimit ≡ human (take n l) x
+  pub human-found : ltb (placeNumber claimLimit (latestPlace (map humanId l) (min n claimLimit) x)) claimLimit ≡ human (take n l) x
   human-found =
-      ap (λ p. ltb (numberOf claimLimit p) claimLimit) all-sought
+      ap (λ p. ltb (placeNumber claimLimit p) claimLimit) all-sought
       ∙ place-cases (latestPlace (map humanId l) n x)
       (λ k e. let found = place-found (map humanId l) x n k e in
       rw e (lt-ltb k claimLimit (omega (arith, found .1, length-map l humanId))) ∙ sym (place-among (map humanId l) x n k e) ∙ human-among)
-      (λ e. ap (λ p. ltb (numberOf claimLimit p) claimLimit) e ∙ sym (nowhere-none (map humanId l) x n e) ∙ human-among)
+      (λ e. ap (λ p. ltb (placeNumber claimLimit p) claimLimit) e ∙ sym (nowhere-none (map humanId l) x n e) ∙ human-among)
 
--- an actor and a resource are asked of one number whether it is a human's: the owner, the keeper
-pub actor-fits-same : (f g : ℕ → Bool) (a : Actor) → f (a .owner) ≡ g (a .owner) → actorFits f a ≡ actorFits g a
-unfolding actorFits
-actor-fits-same f g a e = rw e
-
+-- a resource is asked of one number whether it is a human's: the keeper
 pub resource-fits-same : (f g : ℕ → Bool) (o : Resource) → f (o .keeper) ≡ g (o .keeper) → resourceFits f o ≡ resourceFits g o
 unfolding resourceFits
 resource-fits-same f g o e = rw e

@@ -7,8 +7,8 @@ use Rattle.lists.specs.Splices.{splice}
 use Rattle.register.specs.Register.{emptyRegister}
 use Rattle.register.specs.declared.Register.{Register}
 use Rattle.rules.specs.Sound.{distinct, soundActors, soundResources, soundClaims, withinLimits, sound}
-use Rattle.changes.specs.declared.Outcome.the-variants.{Accepted}
-use Rattle.changes.specs.declared.Refusal.the-variants.{Unsound, BufferShort}
+use Rattle.refusals.specs.declared.Outcome.the-variants.{Accepted}
+use Rattle.refusals.specs.declared.Refusal.the-variants.{Unsound, BufferShort}
 use Rattle.decimals.specs.Decimals.{digits, digitsWith}
 use Rattle.lines.specs.Lines.{decimalLine}
 use Rattle.texts.specs.Records.{texts}

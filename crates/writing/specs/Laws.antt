@@ -18,8 +18,8 @@ use Rattle.register.specs.declared.Resources.{Resources}
 use Rattle.register.specs.declared.Register.{Register}
 use Rattle.rules.specs.Sound.{sound, human, resourceFits}
 use Rattle.rules.specs.Registers.{resource-fits-out, sound-out}
-use Rattle.changes.specs.declared.Outcome.the-variants.{Accepted}
-use Rattle.changes.specs.declared.Refusal.the-variants.{Unsound, BufferShort}
+use Rattle.refusals.specs.declared.Outcome.the-variants.{Accepted}
+use Rattle.refusals.specs.declared.Refusal.the-variants.{Unsound, BufferShort}
 use Rattle.sheets.specs.Sheets.{put}
 use Rattle.texts.specs.Registers.{registerText}
 use Rattle.texts.specs.declared.Written.{Written}

@@ -10,7 +10,7 @@ use Rattle.actions.specs.Actions.{useLimit, governLimit, flagCount}
 use Rattle.actions.specs.declared.Usage.{Usage}
 use Rattle.lines.specs.Reading.{State, going, number, closed, stateOf, formRefusal}
 use Rattle.texts.specs.Keys.{nowKey, actorKey, flagsKey}
-use Rattle.texts.specs.Actions.{headForms, noUse, readUses, readGoverns, actionAnswer, actionOf, actionRead}
+use Rattle.texts.specs.Actions.{headForms, noUse, readUses, readGoverns, actionEnding, actionOf, actionRead}
 use Rattle.texts.specs.declared.ActionRead.{ActionRead}
 use Rattle.reading.specs.Runs.{Run, run-none, run-next, run-start, field-bound}
 use borrow.Author.Needs.{needs}
@@ -76,7 +76,7 @@ joined : (t : List ℕ) (moment actor flags used governed : ℕ) (head usesEnd g
     uses ≡ readUses head .value ++ replicate (useLimit - length (readUses head .value)) noUse → used ≡ length (readUses head .value) → usesEnd ≡ readUses head .state →
     governs ≡ readGoverns usesEnd .value ++ replicate (governLimit - length (readGoverns usesEnd .value)) 0 → governed ≡ length (readGoverns usesEnd .value) →
     governsEnd ≡ readGoverns usesEnd .state → end ≡ closed governsEnd →
-    answer ≡ actionAnswer (record { actor = actor; flags = flags; now = moment; uses = uses; used = used; governs = governs; governed = governed }) end →
+    answer ≡ actionEnding (record { actor = actor; flags = flags; now = moment; uses = uses; used = used; governs = governs; governed = governed }) end →
     answer ≡ actionRead t
 unfolding actionRead actionOf
 joined t moment actor flags used governed head usesEnd governsEnd end uses governs answer run u n ue g m ge e answered =

@@ -2,7 +2,7 @@
 -- as the keeper. Assumes nothing.
 use mathlib.Core.List.{[]}
 use borrow.Author.Needs.{needs}
-use Rattle.alone.specs.Judged.{worldIn}
+use Rattle.alone.specs.Judged.{worldBy}
 use Rattle.alone.proofs.Asking.{root-none, root-asked}
 use Rattle.alone.proofs.root_kept.Statement.{statement}
 use Rattle.alone.proofs.root_kept.Tie as tie
@@ -17,7 +17,7 @@ returns-2 : tie.Need-returns-2
 returns-2 c =
     let given = c .before .before .before .before .before .args in
     root-asked
-    (worldIn [] [] [] 0 (given .reports .now) (given .keepers .now) (given .m))
+    (worldBy [] [] [] 0 (given .reports .now) (given .keepers .now) (given .m))
     (given .c)
     (c .before .if1 .left)
     (c .is-beside .ensures)

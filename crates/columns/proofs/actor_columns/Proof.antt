@@ -6,7 +6,7 @@ use lib.ListN.{length}
 use borrow.Author.Needs.{needs}
 use Rattle.lists.specs.Loops.{length-mapped}
 use Rattle.register.specs.Limits.{actorLimit}
-use Rattle.columns.specs.Columns.{actorId, kindOf, ownerOf}
+use Rattle.columns.specs.Columns.{actorId, actorKind, ownerOf}
 use Rattle.columns.proofs.Filling.{Filling, empty, fill, full}
 use Rattle.columns.proofs.actor_columns.Statement.{statement}
 use Rattle.columns.proofs.actor_columns.Tie as tie
@@ -14,7 +14,7 @@ use Rattle.columns.proofs.actor_columns.Tie as tie
 abbrev Inv-loop : tie.InvT-loop
 Inv-loop k columns₀ i₀ columns i =
     Filling actorId (k .list) actorLimit i (columns .ids)
-    × Filling kindOf (k .list) actorLimit i (columns .kinds)
+    × Filling actorKind (k .list) actorLimit i (columns .kinds)
     × Filling ownerOf (k .list) actorLimit i (columns .owners)
 
 abbrev μ-loop : tie.MeasureT-loop

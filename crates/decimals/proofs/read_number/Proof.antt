@@ -7,7 +7,7 @@ use native.Mathlib.Omega.{arith}
 use lib.ListN.{drop}
 use borrow.Author.Tests.{not-true, not-false}
 use borrow.Author.Needs.{needs}
-use Rattle.decimals.specs.Decimals.{Parsed, Says, parse, judge, value, run, after}
+use Rattle.decimals.specs.Decimals.{Parsed, Says, parse, judge, value, digitRun, after}
 use Rattle.decimals.specs.Walk.{run-stop, run-end, parse-empty, parse-zero, parse-lead, parse-single}
 use Rattle.decimals.proofs.read_number.Statement.{statement}
 use Rattle.decimals.proofs.read_number.Tie as tie
@@ -52,7 +52,7 @@ returns-4 c =
     let e = c .before .before in
     let a = e .before .before .before .before .before .args in
     let d = sym (e .before .is-digit .ensures) ∙ not-false _ (e .if2 .left) in
-    let same : parse (a .greatest) (drop (a .at) (a .s .now)) ≡ judge (a .greatest) (value 0 (run (drop (a .at) (a .s .now)))) (after (drop (a .at) (a .s .now))) =
+    let same : parse (a .greatest) (drop (a .at) (a .s .now)) ≡ judge (a .greatest) (value 0 (digitRun (drop (a .at) (a .s .now)))) (after (drop (a .at) (a .s .now))) =
     ⊎-elim
     (λ w. parse-single (a .greatest) (a .s .now) (a .at) (omega arith) d (run-stop (a .s .now) (a .at + 1) (w .1 .taken) (sym (w .3 .ensures) ∙ w .4 .left)))
     (⊎-elim

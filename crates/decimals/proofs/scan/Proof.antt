@@ -8,14 +8,14 @@ use native.Mathlib.Omega.{arith}
 use lib.ListN.{length, drop, getD}
 use borrow.Author.Needs.{needs}
 use borrow.Author.Tests.{not-true, not-false}
-use Rattle.decimals.specs.Decimals.{isDigit, run, after, value}
+use Rattle.decimals.specs.Decimals.{isDigit, digitRun, after, value}
 use Rattle.decimals.specs.Laws.{digit-low}
 use Rattle.decimals.specs.Walk.{after-digit, after-stop, after-end, worth-digit, worth-stop, worth-end, value-more, says-value, says-large}
 use Rattle.decimals.proofs.scan.Statement.{statement}
 use Rattle.decimals.proofs.scan.Tie as tie
 
 abbrev Inv-loop : tie.InvT-loop
-Inv-loop s at greatest i₀ n₀ i n = (i ≤ length s) × (n ≤ greatest) × (value 0 (run (drop at s)) ≡ value n (run (drop i s))) × (after (drop at s) ≡ after (drop i s))
+Inv-loop s at greatest i₀ n₀ i n = (i ≤ length s) × (n ≤ greatest) × (value 0 (digitRun (drop at s)) ≡ value n (digitRun (drop i s))) × (after (drop at s) ≡ after (drop i s))
 
 abbrev μ-loop : tie.MeasureT-loop
 μ-loop s at greatest i₀ n₀ i n = length s - i
@@ -27,20 +27,20 @@ is-one c = sym (c .before .is-digit .ensures) ∙ not-false _ (c .if1 .left)
 turned : (c : tie.After-digit Inv-loop μ-loop) →
     let l = c .before .before .before .before .before in
     let s = l .before .before .args .s .now in
-    value 0 (run (drop (l .before .before .args .at) s)) ≡ value (l .loop .n * 10 + c .digit .result) (run (drop (l .loop .i + 1) s))
+    value 0 (digitRun (drop (l .before .before .args .at) s)) ≡ value (l .loop .n * 10 + c .digit .result) (digitRun (drop (l .loop .i + 1) s))
 turned c =
     let l = c .before .before .before .before .before in
     let s = l .before .before .args .s .now in
     l .loop .inv .2 ∙ worth-digit s (l .loop .i) (l .loop .n) (c .before .before .before .before .loop-test .taken) (is-one (c .before))
-    ∙ ap (λ (d : ℕ). value (l .loop .n * 10 + d) (run (drop (l .loop .i + 1) s))) (sym (c .digit .ensures))
+    ∙ ap (λ (d : ℕ). value (l .loop .n * 10 + d) (digitRun (drop (l .loop .i + 1) s))) (sym (c .digit .ensures))
 
 more : (c : tie.After-digit Inv-loop μ-loop) →
     let l = c .before .before .before .before .before in
-    l .loop .n * 10 + c .digit .result ≤ value 0 (run (drop (l .before .before .args .at) (l .before .before .args .s .now)))
+    l .loop .n * 10 + c .digit .result ≤ value 0 (digitRun (drop (l .before .before .args .at) (l .before .before .args .s .now)))
 more c =
     let l = c .before .before .before .before .before in
     let s = l .before .before .args .s .now in
-    rw (turned c) (value-more (l .loop .n * 10 + c .digit .result) (run (drop (l .loop .i + 1) s)))
+    rw (turned c) (value-more (l .loop .n * 10 + c .digit .result) (digitRun (drop (l .loop .i + 1) s)))
 
 loop-holds : tie.Need-loop-holds Inv-loop μ-loop
 loop-holds c = (omega arith, omega arith, refl, refl)

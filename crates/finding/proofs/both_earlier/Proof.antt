@@ -7,7 +7,7 @@ use lib.ListN.{getD}
 use borrow.Author.Needs.{needs}
 use Rattle.register.specs.Limits.{claimLimit}
 use Rattle.columns.specs.Columns.{latestPlace}
-use Rattle.finding.specs.Finding.{numberOf, bothEarlier, earlierPlaces}
+use Rattle.finding.specs.Finding.{placeNumber, bothEarlier, earlierPlaces}
 use Rattle.finding.proofs.Filling.{Filling, empty, fill, full, less, asked-first, asked-second}
 use Rattle.finding.proofs.Seeking.{sought-below}
 use Rattle.finding.proofs.both_earlier.Statement.{statement}
@@ -15,8 +15,8 @@ use Rattle.finding.proofs.both_earlier.Tie as tie
 
 abbrev Inv-loop : tie.InvT-loop
 Inv-loop column wanted other m none long top table places₀ i₀ places i =
-    Filling (λ j. numberOf none (latestPlace column j (getD wanted j 0))) top none i (places .first)
-    × Filling (λ j. numberOf none (latestPlace column j (getD other j 0))) top none i (places .second)
+    Filling (λ j. placeNumber none (latestPlace column j (getD wanted j 0))) top none i (places .first)
+    × Filling (λ j. placeNumber none (latestPlace column j (getD other j 0))) top none i (places .second)
 
 abbrev μ-loop : tie.MeasureT-loop
 μ-loop column wanted other m none long top table places₀ i₀ places i = top - i

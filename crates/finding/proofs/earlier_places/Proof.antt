@@ -6,14 +6,14 @@ use native.Mathlib.Omega.{arith}
 use lib.ListN.{getD}
 use borrow.Author.Needs.{needs}
 use Rattle.columns.specs.Columns.{latestPlace}
-use Rattle.finding.specs.Finding.{numberOf, earlierPlaces}
+use Rattle.finding.specs.Finding.{placeNumber, earlierPlaces}
 use Rattle.finding.proofs.Filling.{Filling, empty, fill, full}
 use Rattle.finding.proofs.Seeking.{sought-below}
 use Rattle.finding.proofs.earlier_places.Statement.{statement}
 use Rattle.finding.proofs.earlier_places.Tie as tie
 
 abbrev Inv-loop : tie.InvT-loop
-Inv-loop column wanted m none top table places₀ i₀ places i = Filling (λ j. numberOf none (latestPlace column j (getD wanted j 0))) top none i places
+Inv-loop column wanted m none top table places₀ i₀ places i = Filling (λ j. placeNumber none (latestPlace column j (getD wanted j 0))) top none i places
 
 abbrev μ-loop : tie.MeasureT-loop
 μ-loop column wanted m none top table places₀ i₀ places i = top - i

@@ -7,14 +7,14 @@ use lib.ListN.{getD}
 use borrow.Author.Needs.{needs}
 use Rattle.register.specs.Limits.{claimLimit}
 use Rattle.columns.specs.Columns.{latestPlace}
-use Rattle.finding.specs.Finding.{numberOf, placesOf}
+use Rattle.finding.specs.Finding.{placeNumber, placesOf}
 use Rattle.finding.proofs.Filling.{Filling, empty, fill, full}
 use Rattle.finding.proofs.Seeking.{sought-below}
 use Rattle.finding.proofs.places_of.Statement.{statement}
 use Rattle.finding.proofs.places_of.Tie as tie
 
 abbrev Inv-loop : tie.InvT-loop
-Inv-loop column n wanted m none below table top places₀ i₀ places i = Filling (λ j. numberOf none (latestPlace column (min n claimLimit) (getD wanted j 0))) top none i places
+Inv-loop column n wanted m none below table top places₀ i₀ places i = Filling (λ j. placeNumber none (latestPlace column (min n claimLimit) (getD wanted j 0))) top none i places
 
 abbrev μ-loop : tie.MeasureT-loop
 μ-loop column n wanted m none below table top places₀ i₀ places i = top - i

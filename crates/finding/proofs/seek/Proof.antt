@@ -3,7 +3,7 @@
 use mathlib.Core.Path.{_≡_, sym, ap}
 use native.Mathlib.Omega.{arith}
 use borrow.Author.Needs.{needs}
-use Rattle.finding.specs.Finding.{numberOf}
+use Rattle.finding.specs.Finding.{placeNumber}
 use Rattle.finding.proofs.Seeking.{Seeking, seeking-start, seeking-linked, seeking-hit, seeking-next, seeking-less, seeking-done}
 use Rattle.finding.proofs.seek.Statement.{statement}
 use Rattle.finding.proofs.seek.Tie as tie
@@ -42,7 +42,7 @@ returns : tie.Need-returns Inv-loop μ-loop
 returns c =
     let turn = c .before .before in
     let entry = turn .before .before .before .before .before .before .before .args in
-    sym (ap (numberOf (entry .none)) (seeking-hit (seeking-linked (turn .loop-test .taken) (turn .before .loop .inv)) (c .if1 .taken)))
+    sym (ap (placeNumber (entry .none)) (seeking-hit (seeking-linked (turn .loop-test .taken) (turn .before .loop .inv)) (c .if1 .taken)))
 
 mul-link-2 : tie.Need-mul-link-2 Inv-loop μ-loop
 mul-link-2 c = search needs
@@ -64,7 +64,7 @@ returns-2 : tie.Need-returns-2 Inv-loop μ-loop
 returns-2 c =
     let entry = c .before .before .before .before .before .before .before .args in
     let none : c .before .loop .link ≡ 0 = omega arith in
-    sym (ap (numberOf (entry .none)) (seeking-done (rw none at (c .before .loop .inv))))
+    sym (ap (placeNumber (entry .none)) (seeking-done (rw none at (c .before .loop .inv))))
 
 pub seek-spec : {M : Type 1} → statement M
 seek-spec =

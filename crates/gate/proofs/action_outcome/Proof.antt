@@ -1,7 +1,7 @@
 -- `gate::action_outcome` meets its contract: test 2, then test 3. Assumes nothing.
 use mathlib.Core.Path.{sym, _∙_}
 use borrow.Author.Tests.{not-true, not-false}
-use Rattle.changes.specs.Laws.{outcome-nil, outcome-pass, outcome-fail}
+use Rattle.refusals.specs.Laws.{outcome-nil, outcome-pass, outcome-fail}
 use borrow.Author.Needs.{needs}
 use Rattle.gate.proofs.action_outcome.Statement.{statement}
 use Rattle.gate.proofs.action_outcome.Tie as tie

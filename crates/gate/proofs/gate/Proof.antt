@@ -6,7 +6,7 @@ use borrow.Author.Tests.{not-true, not-false}
 use Rattle.lists.specs.Each.{All}
 use Rattle.lists.specs.Loops.{length-mapped}
 use Rattle.register.specs.Limits.{actorLimit, resourceLimit, claimLimit, pathLimit}
-use Rattle.sights.specs.Sights.{Typed}
+use Rattle.register.specs.Register.{Shaped}
 use Rattle.gate.proofs.Assembling.{outcome-seen, judged-seen, gate-judged, gate-unsound, gate-stopped}
 use borrow.Author.Needs.{needs}
 use Rattle.gate.proofs.gate.Statement.{statement}
@@ -22,8 +22,8 @@ resources-long s = search (needs, length-mapped)
 claims-long : (s : tie.Start) → length (s .args .r .claims .list) ≡ claimLimit
 claims-long s = search (needs, length-mapped)
 
-typed : (s : tie.Start) → All (λ o. length (o .path) ≡ pathLimit) (s .args .r .resources .list) → Typed (s .args .r)
-typed s sized = record { actorsLong = actors-long s; resourcesLong = resources-long s; claimsLong = claims-long s; pathsLong = sized }
+shaped : (s : tie.Start) → All (λ o. length (o .path) ≡ pathLimit) (s .args .r .resources .list) → Shaped (s .args .r)
+shaped s sized = record { actors = actors-long s; resources = resources-long s; claims = claims-long s; paths = sized }
 
 is-sound-requires : tie.Need-is-sound-requires
 is-sound-requires c κs = search needs
@@ -75,10 +75,10 @@ returns-3 c =
     let s = asked .before in
     let a = s .args in
     c .decided .ensures
-    ∙ gate-judged (a .r) (typed s (looking .view-of .ensures .1))
+    ∙ gate-judged (a .r) (shaped s (looking .view-of .ensures .1))
     (sym (asked .is-sound .ensures) ∙ not-false (asked .is-sound .result) (looking .before .if1 .left)) (a .a) (c .before .judge-by .result)
     (sym (outcome-seen (a .r) (a .a) (looking .view-of .ensures .0) (told .before .before .action-outcome .ensures)) ∙ told .enum-told .given .1)
-    (judged-seen (a .r) (a .a) (looking .view-of .ensures .0) (typed s (looking .view-of .ensures .1)) (c .before .judge-by .ensures))
+    (judged-seen (a .r) (a .a) (looking .view-of .ensures .0) (shaped s (looking .view-of .ensures .1)) (c .before .judge-by .ensures))
 
 pub gate-spec : {M : Type 1} → statement M
 gate-spec =

@@ -1,7 +1,7 @@
 -- `gathering::gather` meets its contract. The loop's invariant: the array holds the places below `i` of the claims that can cover, and
 -- zeros past them (Collecting). The measure is the number of claims left. Assumes nothing.
-use mathlib.Core.Path.{_≡_, refl, sym, ap, _∙_}
-use mathlib.Core.Bool.{Bool, true, false, not}
+use mathlib.Core.Path.{_≡_, refl, sym, _∙_}
+use mathlib.Core.Bool.{Bool, true, false}
 use mathlib.Core.List.{List}
 use Prim.Native.Nat.{ℕ, _+_, _-_, _<_, _≤_}
 use native.Mathlib.Omega.{arith}
@@ -11,7 +11,7 @@ use Rattle.register.specs.Limits.{claimLimit}
 use Rattle.gathering.specs.Gathering.{canCover, lookedAt, heldAt, gatheredBy}
 use Rattle.gathering.specs.Laws.{Looked, looked-within}
 use Rattle.gathering.specs.declared.Gathered.{Gathered}
-use Rattle.gathering.proofs.Collecting.{Collecting, collecting-start, collecting-room, collecting-left, collecting-taken, collecting-count, collecting-places}
+use Rattle.gathering.proofs.Collecting.{Collecting, collecting-start, collecting-room, collecting-hit, collecting-miss, collecting-count, collecting-places}
 use Rattle.gathering.proofs.gather.Statement.{statement}
 use Rattle.gathering.proofs.gather.Tie as tie
 
@@ -19,7 +19,7 @@ use Rattle.gathering.proofs.gather.Tie as tie
 record Gathering (holders weights expiries : List ℕ) (n x now top i count : ℕ) (places : List ℕ) : Type 0 where
   pub whole : top ≡ lookedAt holders weights expiries n
   pub within : Looked holders weights expiries n
-  pub collected : Collecting (λ j. not (canCover x now (heldAt holders weights expiries j))) claimLimit top i count places
+  pub collected : Collecting (λ j. canCover x now (heldAt holders weights expiries j)) claimLimit top i count places
 
 gathering-start : {holders weights expiries : List ℕ} {n x now top : ℕ} → top ≡ lookedAt holders weights expiries n
     → Gathering holders weights expiries n x now top 0 0 (replicate claimLimit 0)
@@ -35,11 +35,11 @@ module _ {holders weights expiries : List ℕ} {n x now top i count : ℕ} {plac
 
     gathering-covers : {covers : Bool} → covers ≡ canCover x now (heldAt holders weights expiries i) → covers ≡ true
         → Gathering holders weights expiries n x now top (i + 1) (count + 1) (set places count i)
-    gathering-covers e t = record { whole = s .whole; within = s .within; collected = collecting-left (s .collected) h (ap not (sym e ∙ t)) }
+    gathering-covers e t = record { whole = s .whole; within = s .within; collected = collecting-hit (s .collected) h (sym e ∙ t) }
 
     gathering-misses : {covers : Bool} → covers ≡ canCover x now (heldAt holders weights expiries i) → covers ≡ false
         → Gathering holders weights expiries n x now top (i + 1) count places
-    gathering-misses e t = record { whole = s .whole; within = s .within; collected = collecting-taken (s .collected) h (ap not (sym e ∙ t)) }
+    gathering-misses e t = record { whole = s .whole; within = s .within; collected = collecting-miss (s .collected) h (sym e ∙ t) }
 
   gathering-done : top ≤ i → _≡_ {A = Gathered} (record { places = places; count = count }) (gatheredBy holders weights expiries n x now)
   unfolding gatheredBy

@@ -9,7 +9,7 @@ use borrow.Author.Tests.{not-true, not-false, lt-ltb, le-ltb}
 use Rattle.lists.specs.Loops.{length-mapped}
 use Rattle.register.specs.Register.{claimsOf, noClaim}
 use Rattle.register.specs.Chain.{latest, above}
-use Rattle.changes.specs.Refusals.{outcomeOf}
+use Rattle.refusals.specs.Refusals.{outcomeOf}
 use Rattle.granting.specs.Drawn.{drawnTests}
 use Rattle.granting.proofs.Columns.{stands-asked, parent-nowhere, parent-inside, parent-stands, chain-asked}
 use Rattle.granting.proofs.Deciding.{unsound, claim-unfit, moment-past, world-refuses, root-granted, parent-decides, parent-absent, parent-present}

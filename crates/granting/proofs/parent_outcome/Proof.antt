@@ -1,7 +1,7 @@
 -- `granting::parent_outcome` meets its contract: the tests of the parent and the claim are decided before those of the chain. Assumes
 -- nothing.
 use mathlib.Core.Path.{sym, _∙_}
-use Rattle.changes.specs.Laws.{outcome-append, outcome-append-refused}
+use Rattle.refusals.specs.Laws.{outcome-append, outcome-append-refused}
 use borrow.Author.Needs.{needs}
 use Rattle.granting.proofs.parent_outcome.Statement.{statement}
 use Rattle.granting.proofs.parent_outcome.Tie as tie

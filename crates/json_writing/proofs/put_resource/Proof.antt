@@ -5,7 +5,7 @@ use mathlib.Core.List.{[], _∷_, _++_}
 use Rattle.decimals.specs.Decimals.{digits}
 use Rattle.sheets.specs.Laws.{writing-start, writing-put}
 use Rattle.json_tokens.specs.Tokens.{quote}
-use Rattle.json_writing.specs.Pieces.{openingText, resourceText}
+use Rattle.json_writing.specs.Pieces.{openingText, resourceEntry}
 use Rattle.json_writing.proofs.Joining.{put-last}
 use Rattle.json_writing.proofs.put_resource.Statement.{statement}
 use Rattle.json_writing.proofs.put_resource.Tie as tie
@@ -30,7 +30,7 @@ same-length c =
     ended .put-bytes .kept .0 ∙ numbered .put-number .kept .0 ∙ opened .put-opening .kept .0
 
 returns : tie.Need-returns
-unfolding resourceText
+unfolding resourceEntry
 returns c =
     let ended = c .before .before in
     let numbered = ended .before .before .before .before .before in
@@ -39,7 +39,7 @@ returns c =
     let a = st .args in
     let opening = openingText (a .first) in
     let number = digits (a .resource) in
-    let start = writing-start (a .at) (resourceText (a .first) (a .resource)) (a .buf .now) in
+    let start = writing-start (a .at) (resourceEntry (a .first) (a .resource)) (a .buf .now) in
     let first = writing-put opening (number ++ (quote ∷ [])) (st .pre) start (opened .put-opening .ensures .0) (opened .put-opening .ensures .1) in
     let second = writing-put number (quote ∷ []) (st .pre) first (numbered .put-number .ensures .0) (numbered .put-number .ensures .1) in
     put-last (st .pre) second (ended .put-bytes .ensures .0) (ended .put-bytes .ensures .1)

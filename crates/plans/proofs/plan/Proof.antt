@@ -6,7 +6,7 @@ use borrow.Author.Tests.{not-true, not-false}
 use Rattle.lists.specs.Each.{All}
 use Rattle.lists.specs.Loops.{length-mapped}
 use Rattle.register.specs.Limits.{actorLimit, resourceLimit, claimLimit, pathLimit}
-use Rattle.sights.specs.Sights.{Typed}
+use Rattle.register.specs.Register.{Shaped}
 use Rattle.plans.proofs.Stopping.{stop-unsound, stop-many, stop-found, found-runs, found-halts}
 use Rattle.plans.proofs.Judging.{planned-lent}
 use borrow.Author.Needs.{needs}
@@ -23,8 +23,8 @@ resources-long s = search (needs, length-mapped)
 claims-long : (s : tie.Start) → length (s .args .r .claims .list) ≡ claimLimit
 claims-long s = search (needs, length-mapped)
 
-typed : (s : tie.Start) → All (λ o. length (o .path) ≡ pathLimit) (s .args .r .resources .list) → Typed (s .args .r)
-typed s sized = record { actorsLong = actors-long s; resourcesLong = resources-long s; claimsLong = claims-long s; pathsLong = sized }
+shaped : (s : tie.Start) → All (λ o. length (o .path) ≡ pathLimit) (s .args .r .resources .list) → Shaped (s .args .r)
+shaped s sized = record { actors = actors-long s; resources = resources-long s; claims = claims-long s; paths = sized }
 
 is-sound-requires : tie.Need-is-sound-requires
 is-sound-requires c κs = search needs
@@ -85,7 +85,7 @@ returns-4 c =
     let a = asked .before .args in
     let h = sym (asked .is-sound .ensures) ∙ not-false (asked .is-sound .result) (looking .before .before .before .if1 .left) in
     let same = stop-found (a .r) (a .p) h (looking .before .if2 .left) (looking .view-of .ensures .0) (found .first-stop .ensures) in
-    planned-lent (a .r) (a .p) (typed (asked .before) (looking .view-of .ensures .1)) (found-runs (a .r) (a .p) same (told .enum-told .given .1))
+    planned-lent (a .r) (a .p) (shaped (asked .before) (looking .view-of .ensures .1)) (found-runs (a .r) (a .p) same (told .enum-told .given .1))
     (looking .view-of .ensures .0) (c .judge-all .ensures)
 
 pub plan-spec : {M : Type 1} → statement M

@@ -35,20 +35,23 @@ slice-aggregate-read-count c = search needs
 read-count-requires : tie.Need-read-count-requires Inv-loop μ-loop
 read-count-requires c κs = search needs
 
+none-requires : tie.Need-none-requires Inv-loop μ-loop
+none-requires c κs = search needs
+
 loop-holds : tie.Need-loop-holds Inv-loop μ-loop
-loop-holds c = filling-start _ _ refl refl
+loop-holds c = rw (c .before .none .ensures) (filling-start _ _ refl refl)
 
 read-claim-requires : tie.Need-read-claim-requires Inv-loop μ-loop
 read-claim-requires c κs = search needs
 
 mul-list : tie.Need-mul-list Inv-loop μ-loop
-mul-list c = omega (arith, count-bound (c .before .before .before .before .before .before), c .before .before .before .loop-test .taken)
+mul-list c = omega (arith, count-bound (c .before .before .before .before .before .before .before), c .before .before .before .loop-test .taken)
 
 array-set-from-list : tie.Need-array-set-from-list Inv-loop μ-loop
-array-set-from-list c = omega (arith, count-bound (c .before .before .before .before .before .before), c .before .before .before .loop-test .taken)
+array-set-from-list c = omega (arith, count-bound (c .before .before .before .before .before .before .before), c .before .before .before .loop-test .taken)
 
 add-i : tie.Need-add-i Inv-loop μ-loop
-add-i c = omega (arith, count-bound (c .before .before .before .before .before .before), c .before .before .before .loop-test .taken)
+add-i c = omega (arith, count-bound (c .before .before .before .before .before .before .before), c .before .before .before .loop-test .taken)
 
 loop-less : tie.Need-loop-less Inv-loop μ-loop
 loop-less c = omega (arith, c .before .before .before .loop-test .taken)
@@ -57,7 +60,7 @@ loop-again : tie.Need-loop-again Inv-loop μ-loop
 loop-again c =
     let before = c .before .before .before .before .loop in
     let one = c .before .before .read-claim in
-    filling-next (before .list) (before .cursor) (before .i) (one .result .claim) (one .result .cursor) (before .inv) (c .before .before .before .loop-test .taken) (count-bound (c .before .before .before .before .before .before)) (one .ensures)
+    filling-next (before .list) (before .cursor) (before .i) (one .result .claim) (one .result .cursor) (before .inv) (c .before .before .before .loop-test .taken) (count-bound (c .before .before .before .before .before .before .before)) (one .ensures)
 
 -- a list with its count as the answer holds it
 held : (list : List Claim) (n : ℕ) (things : List Claim) → list ≡ things ++ replicate (claimLimit - length things) noClaim → n ≡ length things →
@@ -68,8 +71,8 @@ returns : tie.Need-returns Inv-loop μ-loop
 unfolding readClaims
 returns c =
     let end = c .before .loop in
-    let counted = c .before .before .before .read-count in
-    let s = c .before .before .before .before .before .before .args .s .now in
+    let counted = c .before .before .before .before .read-count in
+    let s = c .before .before .before .before .before .before .before .args .s .now in
     let things = many readClaim (counted .result .value) (stateOf s (counted .result .cursor)) .value in
     let all = filling-done (end .list) (end .cursor) (end .i) (end .inv) (c .loop-test .left) in
     rw (← counted .ensures .value, ← counted .ensures .state) (held (end .list) (counted .result .value) things (all .0) (all .1), all .2)
@@ -82,6 +85,7 @@ read-claims-spec =
     μ-loop
     slice-aggregate-read-count
     read-count-requires
+    none-requires
     loop-holds
     read-claim-requires
     mul-list

@@ -7,7 +7,7 @@ use Rattle.register.specs.declared.Actors.{Actors}
 use Rattle.register.specs.declared.Resources.{Resources}
 use Rattle.register.specs.declared.Claims.{Claims}
 use Rattle.lines.specs.Reading.{State, going, readForm, closed, stateOf}
-use Rattle.texts.specs.Registers.{versionForm, readActors, readResources, readClaims, heldActors, heldResources, heldClaims, registerAnswer, registerRead, registerFrom}
+use Rattle.texts.specs.Registers.{versionForm, readActors, readResources, readClaims, heldActors, heldResources, heldClaims, registerEnding, registerRead, registerFrom}
 use Rattle.texts.specs.declared.RegisterRead.{RegisterRead}
 use Rattle.reading.specs.Runs.{run-start}
 use Rattle.reading.proofs.read_register.Statement.{statement}
@@ -43,7 +43,7 @@ joined : (t : List ℕ) (version actorsEnd resourcesEnd claimsEnd end : State) (
     actors ≡ heldActors (readActors version .value) → actorsEnd ≡ readActors version .state →
     resources ≡ heldResources (readResources actorsEnd .value) → resourcesEnd ≡ readResources actorsEnd .state →
     claims ≡ heldClaims (readClaims resourcesEnd .value) → claimsEnd ≡ readClaims resourcesEnd .state →
-    end ≡ closed claimsEnd → answer ≡ registerAnswer (record { actors = actors; resources = resources; claims = claims }) end → answer ≡ registerRead t
+    end ≡ closed claimsEnd → answer ≡ registerEnding (record { actors = actors; resources = resources; claims = claims }) end → answer ≡ registerRead t
 unfolding registerRead registerFrom
 joined t version actorsEnd resourcesEnd claimsEnd end actors resources claims answer v a ae o oe k ke e answered =
     answered ∙ rw (e, ke, k, oe, o, ae, a, v)

@@ -21,15 +21,18 @@ Inv-loop x k list₀ gone₀ kept₀ went₀ i₀ top list gone kept went i =
 abbrev μ-loop : tie.MeasureT-loop
 μ-loop x k list₀ gone₀ kept₀ went₀ i₀ top list gone kept went i = top - i
 
+none-requires : tie.Need-none-requires Inv-loop μ-loop
+none-requires c κs = search needs
+
 least-requires : tie.Need-least-requires Inv-loop μ-loop
 least-requires c κs = search needs
 
 loop-holds : tie.Need-loop-holds Inv-loop μ-loop
 loop-holds c =
-    let k = c .before .args .t1 in
+    let k = c .before .before .args .t1 in
     let long : length (k .list) ≡ claimLimit = search (needs, length-mapped) in
     let counted : c .least .result ≡ length (claimsOf k) = rw (length-take (k .count) (k .list), long) (c .least .ensures) in
-    (omega arith, counted, omega arith, pass-start _)
+    (omega arith, counted, omega arith, rw (c .before .none .ensures) (pass-start _))
 
 mul-c : tie.Need-mul-c Inv-loop μ-loop
 mul-c c = search needs
@@ -61,7 +64,7 @@ loop-less c = search needs
 loop-again : tie.Need-loop-again Inv-loop μ-loop
 loop-again c =
     let turn = c .before .before .before .before .before in
-    let start = turn .before .before in
+    let start = turn .before .before .before in
     let k = start .args .t1 in
     let i = turn .loop .i in
     let inside : i < length (claimsOf k) = omega arith in
@@ -93,7 +96,7 @@ loop-less-2 c = search needs
 loop-again-2 : tie.Need-loop-again-2 Inv-loop μ-loop
 loop-again-2 c =
     let turn = c .before .before .before .before .before in
-    let start = turn .before .before in
+    let start = turn .before .before .before in
     let k = start .args .t1 in
     let i = turn .loop .i in
     let inside : i < length (claimsOf k) = omega arith in
@@ -108,7 +111,7 @@ loop-again-2 c =
     )
 
 returns : tie.Need-returns Inv-loop μ-loop
-returns c = pass-done (c .before .before .before .args .t1) (c .before .before .before .args .x) (c .before .loop .i) (c .before .loop .inv .3) (omega arith)
+returns c = pass-done (c .before .before .before .before .args .t1) (c .before .before .before .before .args .x) (c .before .loop .i) (c .before .loop .inv .3) (omega arith)
 
 pub strike-spec : {M : Type 1} → statement M
 strike-spec =
@@ -116,6 +119,7 @@ strike-spec =
     (tie.spec
     Inv-loop
     μ-loop
+    none-requires
     least-requires
     loop-holds
     mul-c

@@ -7,7 +7,7 @@ use native.Mathlib.Omega.{arith}
 use borrow.Author.Needs.{needs}
 use borrow.Author.Tests.{eq-eqb, ne-eqb}
 use Rattle.register.specs.Limits.{momentEnd}
-use Rattle.changes.specs.declared.Refusal.the-variants.{OutOfRange, BadForm}
+use Rattle.refusals.specs.declared.Refusal.the-variants.{OutOfRange, BadForm}
 use Rattle.lines.specs.Reading.{State, count, countRefusal, readForm, closed, stateOf}
 use Rattle.texts.specs.Keys.{nowKey}
 use Rattle.reading.specs.Runs.{run-start, stands-failed, stands-going}

@@ -1,15 +1,44 @@
--- What the outcome of ordered tests says of the tests, and back. Assumes nothing.
+-- The bounds of the numbers of refusals; what the outcome of ordered tests says of the tests, and back. Assumes nothing.
 use mathlib.Core.Path.{_≡_, refl, sym, _∙_}
 use mathlib.Core.Bool.{true, false}
 use mathlib.Core.List.{List, [], _∷_, _++_}
-use Prim.Native.Nat.{ℕ}
+use Prim.Native.Nat.{ℕ, _<_}
 use native.Mathlib.Omega.{arith}
 use Rattle.lists.specs.Tests.{cases}
 use Rattle.lists.specs.Each.{All}
-use Rattle.changes.specs.Refusals.{Test, outcomeOf}
-use Rattle.changes.specs.declared.Refusal.{Refusal}
-use Rattle.changes.specs.declared.Outcome.{Outcome}
-use Rattle.changes.specs.declared.Outcome.the-variants.{Accepted, Refused}
+use Rattle.refusals.specs.Refusals.{numberOf, Test, outcomeOf}
+use Rattle.refusals.specs.declared.Refusal.{Refusal}
+use Rattle.refusals.specs.declared.Refusal.the-variants.{Unsound, OutOfRange, Unknown, IdStands, Full, NotKeeper, Ownerless, MachineBarred, ParentAbsent}
+use Rattle.refusals.specs.declared.Refusal.the-variants.{ParentNotHeld, ParentDead, NoDelegate, RightLacking, WeightAbove, TooManyHops, Circle, ClaimAbsent, NoGrantor}
+use Rattle.refusals.specs.declared.Refusal.the-variants.{BadForm, CountAbove, BufferShort, BadJson, BeyondJson}
+use Rattle.refusals.specs.declared.Outcome.{Outcome}
+use Rattle.refusals.specs.declared.Outcome.the-variants.{Accepted, Refused}
+
+-- every refusal has a number of one or two digits, and none has 0
+pub number-bounds : (why : Refusal) → (0 < numberOf why) × (numberOf why < 100)
+number-bounds Unsound = (omega arith, omega arith)
+number-bounds OutOfRange = (omega arith, omega arith)
+number-bounds Unknown = (omega arith, omega arith)
+number-bounds IdStands = (omega arith, omega arith)
+number-bounds Full = (omega arith, omega arith)
+number-bounds NotKeeper = (omega arith, omega arith)
+number-bounds Ownerless = (omega arith, omega arith)
+number-bounds MachineBarred = (omega arith, omega arith)
+number-bounds ParentAbsent = (omega arith, omega arith)
+number-bounds ParentNotHeld = (omega arith, omega arith)
+number-bounds ParentDead = (omega arith, omega arith)
+number-bounds NoDelegate = (omega arith, omega arith)
+number-bounds RightLacking = (omega arith, omega arith)
+number-bounds WeightAbove = (omega arith, omega arith)
+number-bounds TooManyHops = (omega arith, omega arith)
+number-bounds Circle = (omega arith, omega arith)
+number-bounds ClaimAbsent = (omega arith, omega arith)
+number-bounds NoGrantor = (omega arith, omega arith)
+number-bounds BadForm = (omega arith, omega arith)
+number-bounds CountAbove = (omega arith, omega arith)
+number-bounds BufferShort = (omega arith, omega arith)
+number-bounds BadJson = (omega arith, omega arith)
+number-bounds BeyondJson = (omega arith, omega arith)
 
 -- an outcome taken apart, with its equation
 pub outcome-cases : {A : Type 0} (o : Outcome) → (o ≡ Accepted → A) → ((why : Refusal) → o ≡ Refused why → A) → A

@@ -1,7 +1,7 @@
--- `changes::number` meets its contract: each arm by the refusal that it is for. Assumes nothing.
+-- `refusals::number` meets its contract: each arm by the refusal that it is for. Assumes nothing.
 use borrow.Author.Needs.{needs}
-use Rattle.changes.proofs.number.Statement.{statement}
-use Rattle.changes.proofs.number.Tie as tie
+use Rattle.refusals.proofs.number.Statement.{statement}
+use Rattle.refusals.proofs.number.Tie as tie
 
 enum-told : tie.Need-enum-told
 enum-told c = search needs

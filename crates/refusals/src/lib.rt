@@ -1,0 +1,89 @@
+// Why a call is refused, and 01's number of it: one list for every call that can refuse.
+ghost use mathlib.Core.Path.{_≡_};
+ghost use Rattle.refusals.specs.Refusals.{numberOf};
+
+// Why a call was refused: the first test that failed, in the order of 01's numbers.
+pub enum Refusal {
+    // 1: the register is not sound.
+    Unsound,
+    // 2: a field or the moment is out of range.
+    OutOfRange,
+    // 3: grantor, holder, granted resource or revoker is not in the register.
+    Unknown,
+    // 4: the claim's id already stands.
+    IdStands,
+    // 5: 256 claims stand.
+    Full,
+    // 6: a root grant by anyone but the keeper.
+    NotKeeper,
+    // 7: the grantor is a machine without owner.
+    Ownerless,
+    // 8: the grantor is a machine and right 13, 15 or 16 is asked.
+    MachineBarred,
+    // 9: the parent does not stand.
+    ParentAbsent,
+    // 10: the parent is not held by the grantor, or is on another resource.
+    ParentNotHeld,
+    // 11: the parent is not live at the moment.
+    ParentDead,
+    // 12: the parent lacks DELEGATE.
+    NoDelegate,
+    // 13: a right the parent lacks.
+    RightLacking,
+    // 14: the weight is above the parent's.
+    WeightAbove,
+    // 15: more than 16 hops.
+    TooManyHops,
+    // 16: a circle along the chain.
+    Circle,
+    // 17: the claim to revoke does not stand.
+    ClaimAbsent,
+    // 18: the revoker is no grantor on that claim's chain, the claim itself included.
+    NoGrantor,
+    // 19: the text is not of the form.
+    BadForm,
+    // 20: a count line is above its limit.
+    CountAbove,
+    // 21: the buffer is too short for the text.
+    BufferShort,
+    // 24: the text is not of the builder's form, or a number in it is out of range, or it has more than 32 uses.
+    BadJson,
+    // 25: the builder's form has no place for a right above 2 or a governed entry.
+    BeyondJson,
+}
+
+pub enum Outcome {
+    Accepted,
+    Refused(Refusal),
+}
+
+// 01's number of a refusal.
+pub fn number(why: Refusal) -> u32
+    ensures { λ r. ⌜ r ≡ numberOf why ⌝ }
+{
+    match why {
+        Refusal::Unsound => 1,
+        Refusal::OutOfRange => 2,
+        Refusal::Unknown => 3,
+        Refusal::IdStands => 4,
+        Refusal::Full => 5,
+        Refusal::NotKeeper => 6,
+        Refusal::Ownerless => 7,
+        Refusal::MachineBarred => 8,
+        Refusal::ParentAbsent => 9,
+        Refusal::ParentNotHeld => 10,
+        Refusal::ParentDead => 11,
+        Refusal::NoDelegate => 12,
+        Refusal::RightLacking => 13,
+        Refusal::WeightAbove => 14,
+        Refusal::TooManyHops => 15,
+        Refusal::Circle => 16,
+        Refusal::ClaimAbsent => 17,
+        Refusal::NoGrantor => 18,
+        Refusal::BadForm => 19,
+        Refusal::CountAbove => 20,
+        Refusal::BufferShort => 21,
+        Refusal::BadJson => 24,
+        Refusal::BeyondJson => 25,
+    }
+}
