@@ -96,7 +96,7 @@ extern "C" {
 #define GUVRENDIK_NOT_BY_MACHINE 8  /* grantor is a machine and right 13, 15 or 16 is asked */
 #define GUVRENDIK_NO_PARENT 9       /* parent does not stand */
 #define GUVRENDIK_NOT_HELD 10       /* parent not held by the grantor, or on another resource */
-#define GUVRENDIK_NOT_LIVE 11       /* parent not live at the moment */
+#define GUVRENDIK_NOT_LIVE 11       /* parent not live at the moment: it, or a claim that it is drawn from */
 #define GUVRENDIK_NO_DELEGATE 12    /* parent lacks DELEGATE */
 #define GUVRENDIK_RIGHT_LACKING 13  /* a right the parent lacks */
 #define GUVRENDIK_WEIGHT_ABOVE 14   /* weight above the parent's */
@@ -126,7 +126,8 @@ typedef struct guvrendik_resource {
     uint8_t path[GUVRENDIK_PATH]; /* each 0x21 to 0x7E */
 } guvrendik_resource;
 
-/* A claim is live at a moment when its weight is above 0 and its expiry is 0 or above the moment. */
+/* A claim is live at a moment when every claim on its chain, the claim itself, its parent and so on up to the root, has weight above 0 and
+ * expiry 0 or above the moment: it does not outlive what it is drawn from. */
 typedef struct guvrendik_claim {
     uint32_t id;       /* 1 to 65,535, distinct among the claims */
     uint32_t parent;   /* the id of a claim earlier in the list, or 0 for a root */
@@ -188,8 +189,9 @@ typedef struct guvrendik_granted {
  * Refusals, the first that applies: 1 register not sound; 2 a field of the claim or now out of range; 3 grantor, holder or
  * resource not in the register; 4 the id stands; 5 256 claims stand; 6 a root not granted by the keeper; 7 and 8 what a machine
  * may not grant; and where there is a parent: 9 it does not stand; 10 it is not held by the grantor or is on another resource;
- * 11 it is not live at now; 12 it lacks DELEGATE; 13 it lacks a right; 14 it has less weight; 15 more than 16 hops; 16 a circle.
- * Refused for no other cause: a claim of weight 0, or whose expiry has passed, is granted.
+ * 11 it is not live at now: it or a claim higher on its chain has expired or has weight 0; 12 it lacks DELEGATE; 13 it lacks a
+ * right; 14 it has less weight; 15 more than 16 hops; 16 a circle.
+ * Refused for no other cause: a claim of weight 0, whose expiry has passed or is later than its parent's, is granted.
  * Accepted, everything but the new claim and the count of claims is as it came, also what stands past the counts.
  * Stack: 176,000 bytes. */
 guvrendik_granted guvrendik_grant(guvrendik_register r, guvrendik_claim c, uint64_t now);
@@ -261,12 +263,13 @@ typedef struct guvrendik_verdict {
 } guvrendik_verdict;
 
 /* Judges one action. An actor covers a use when the resource stands and it is public and the right is READ, or the actor holds a
- * claim that is live at the action's moment, has the right, and is on a resource whose path contains the used one's.
+ * claim that is live at the action's moment, over its whole chain, has the right, and is on a resource whose path contains the
+ * used one's.
  *  r  the register
  *  a  the action, every field in the range that guvrendik_action gives
  * Refusals, the first that applies: 1 register not sound; 2 a field or count of the action out of range; 3 actor not in the
  * register. Then there are no violations and no hop counts.
- * Stack: 116,000 bytes. */
+ * Stack: 118,000 bytes. */
 guvrendik_verdict guvrendik_gate(guvrendik_register r, guvrendik_action a);
 
 typedef struct guvrendik_plan {
@@ -294,7 +297,7 @@ typedef struct guvrendik_plan_verdict {
  *  p  the plan
  * Refusals, the first that applies: 1 register not sound; 2 more than 16 actions; then the first action that is refused with 2
  * or 3, as by guvrendik_gate, stops the whole plan, also one that would be cancelled. Then there are no judgements.
- * Stack: 106,000 bytes. */
+ * Stack: 108,000 bytes. */
 guvrendik_plan_verdict guvrendik_judge_plan(guvrendik_register r, guvrendik_plan p);
 
 /* ---- Paths ---- */

@@ -108,10 +108,10 @@ pub fn sound(shape: Shape, world: &World, name: &str) -> Case {
     }
 }
 
-pub fn grant(shape: Shape, world: &World) -> Case {
+pub fn grant(shape: Shape, world: &World, name: &str, grants: Vec<Claim>) -> Case {
     let register = leak(*world.register.clone());
-    let grants = leak(world.grants());
-    let name = "grant".to_owned();
+    let grants = leak(grants);
+    let name = name.to_owned();
     let (mut ours, mut theirs) = (Box::new(place()), Box::new(place()));
     for (at, claim) in grants.iter().enumerate() {
         model_grant(&mut theirs, register, claim);
@@ -194,10 +194,10 @@ pub fn gate(shape: Shape, world: &World, what: &str, actions: Vec<Action>) -> Ca
     }
 }
 
-pub fn plan(shape: Shape, world: &World, used: usize) -> Case {
+pub fn plan(shape: Shape, world: &World, used: usize, whose: &str) -> Case {
     let register = leak(*world.register.clone());
     let plans = leak(world.plans(used));
-    let name = format!("plan of 16, {used} uses each");
+    let name = format!("plan of 16, {used} uses each{whose}");
     let mut ours = Box::new(place());
     for (at, plan) in plans.iter().enumerate() {
         same(&name, at, library::judge_plan(&mut ours, register, plan), &MODEL.judge_plan(register, plan));
@@ -375,7 +375,7 @@ pub fn all() -> Vec<Case> {
         if shape == FULL {
             cases.push(sound(shape, &deep(), "sound, chains of 16 hops"));
         }
-        cases.push(grant(shape, &roomy()));
+        cases.push(grant(shape, &roomy(), "grant", roomy().grants()));
         cases.push(revoke(shape, &usual()));
         let mut gates = |world: World, human: &str, machine: Option<&str>| {
             for (used, uses) in [(1, "1 use"), (USES, "32 uses")] {
@@ -395,9 +395,15 @@ pub fn all() -> Vec<Case> {
             let halves = world(shape, Holding { human: CLAIMS / 2, machine: CLAIMS / 2 });
             let actions = halves.actions(halves.machine, USES, Covered::All);
             cases.push(gate(shape, &halves, "32 uses, machine and owner with 128 claims each", actions));
+            let chains = deep();
+            let actions = chains.actions(chains.human, USES, Covered::All);
+            cases.push(gate(shape, &chains, "32 uses, claims of 16 hops", actions));
+            cases.push(plan(shape, &chains, 4, ", chains of 16 hops"));
+            let chains = chains.cut(CLAIMS - 1);
+            cases.push(grant(shape, &chains, "grant, claim of 16 hops", chains.deep_grants()));
         }
-        cases.push(plan(shape, &usual(), 4));
-        cases.push(plan(shape, &usual(), USES));
+        cases.push(plan(shape, &usual(), 4, ""));
+        cases.push(plan(shape, &usual(), USES, ""));
         cases.push(read(shape, &usual()));
         cases.push(write(shape, &usual()));
     }
@@ -420,12 +426,12 @@ pub fn grown(claims: usize) -> Vec<Case> {
         let world = cut();
         world.actions(world.human, USES, Covered::All)
     };
-    let mut cases = vec![sound(shape, &cut(), "sound"), grant(shape, &roomy())];
+    let mut cases = vec![sound(shape, &cut(), "sound"), grant(shape, &roomy(), "grant", roomy().grants())];
     if claims > 0 {
         cases.push(revoke(shape, &cut()));
     }
     cases.push(gate(shape, &cut(), "32 uses", uses));
-    cases.push(plan(shape, &cut_for_plan(claims), 4));
+    cases.push(plan(shape, &cut_for_plan(claims), 4, ""));
     cases.push(read(shape, &cut()));
     cases.push(write(shape, &cut()));
     cases

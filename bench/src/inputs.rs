@@ -153,6 +153,9 @@ pub fn deep() -> World {
         world.register.claims.push(claim);
     }
     assert!(Sound::of(&world.register).is_some_and(|sound| sound.hops(CHAINS * HOPS) == HOPS));
+    // Who holds the claims of 16 hops acts.
+    world.human = humans[1 + HOPS];
+    world.held = (0..CHAINS).map(|at| Usage { resource: world.register.resources.list[at].id, right: 1 }).collect();
     world
 }
 
@@ -220,6 +223,24 @@ impl World {
                 let rights = parent.rights & !NOT_BY_MACHINE;
                 claim = Claim { id, parent: parent.id, grantor: parent.holder, holder, rights, ..*parent };
             }
+            if Model::default().grantable(register, &claim, NOW).is_ok() {
+                return claim;
+            }
+        };
+        (0..VARIED).map(grant).collect()
+    }
+
+    /// Grants that are accepted under claims of 15 hops.
+    pub fn deep_grants(&self) -> Vec<Claim> {
+        let random = &mut Random::new(29);
+        let register = &self.register;
+        let sound = Sound::of(register).expect("it is sound");
+        let parents: Vec<usize> = (0..register.claims.count).filter(|&at| sound.hops(at) == HOPS - 1).collect();
+        let grant = |number: usize| loop {
+            let parent = &register.claims.list[parents[number % parents.len()]];
+            let id = random.between(1, ID_MAX as usize) as u32;
+            let holder = random.pick(&register.actors.list[..register.actors.count]).id;
+            let claim = Claim { id, parent: parent.id, grantor: parent.holder, holder, ..*parent };
             if Model::default().grantable(register, &claim, NOW).is_ok() {
                 return claim;
             }

@@ -123,6 +123,11 @@ static inline Register tower(uint32_t claims) {
     return r;
 }
 
+/* The tower with a root that runs out. */
+static inline Register tower_until(uint32_t claims, uint64_t expiry) {
+    return with_claim(tower(claims), 0, expiring(expiry, claim(1, 0, 1, 2, 17)));
+}
+
 /* An action of an actor at a moment without flags, uses and governed entries. */
 static inline Action action(uint32_t actor, uint64_t now) {
     return (Action){.actor = actor, .now = now};

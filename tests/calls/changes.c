@@ -2,8 +2,8 @@
  * for a revocation also how many went, and the ids of those that are left.
  *
  * What is expected comes from 01, "Numbers a call can refuse with": "Grant tests 1 to 8 in order .. and, with a parent, 9 to 16; it is refused
- * for no other cause", "Revocation tests 1, 3, 17, 18; a number out of range there fails 3 or 17". A line's name begins with the number that
- * is given, and a line `n before m` has both faults. 9 and 10 cannot meet, nor can 8 and a root: an absent parent has no holder, and a root by
+ * for no other cause", "Revocation tests 1, 3, 17, 18; a number out of range there fails 3 or 17". By 02, T-03, 11 asks every claim from the
+ * parent up. A line's name begins with the number that is given, and a line `n before m` has both faults. 9 and 10 cannot meet, nor can 8 and a root: an absent parent has no holder, and a root by
  * a machine is 6. Of the four faults that a tester will try, three are here: rights of two claims joined, direct children alone revoked, an
  * old child bound to a new claim under a reused id; the fourth is the gate's. */
 #include "calls.h"
@@ -36,6 +36,11 @@ static Register filled(uint32_t claims) {
     return r;
 }
 
+/* The base, where machine 5 could pass on its claim, which never runs out: the one above it does, at 2000. */
+static Register passed_on(void) {
+    return with_claim(base(), 3, weighing(600, claim(4, 3, 3, 5, 17)));
+}
+
 static void accepted_grants(void) {
     Register r = base();
     grant("0 root by the keeper", r, claim(6, 0, 1, 5, 1), 0);
@@ -43,6 +48,9 @@ static void accepted_grants(void) {
     grant("0 weight 0 on arrival", r, weighing(0, claim(6, 2, 2, 5, 1)), 0);
     grant("0 run out on arrival", r, expiring(5, claim(6, 2, 2, 5, 1)), 10);
     grant("0 parent live at 1999", r, weighing(600, claim(6, 3, 3, 5, 1)), 1999);
+    grant("0 expiry later than the parent's", r, expiring(3000, weighing(600, claim(6, 3, 3, 5, 1))), 1999);
+    grant("0 grandparent live at 1999", passed_on(), weighing(600, claim(6, 4, 5, 4, 1)), 1999);
+    grant("0 root of 15 hops live at 1999", tower_until(16, 2000), claim(17, 16, 17, 18, 17), 1999);
     grant("0 hop 16", tower(16), claim(17, 16, 17, 18, 17), 0);
 }
 
@@ -71,6 +79,8 @@ static void parent_refusals(void) {
     grant("10 parent of another", r, claim(6, 2, 1, 5, 1), 0);
     grant("10 parent on another resource", r, claim(6, 5, 2, 5, 1), 0);
     grant("11 parent run out at 2000", r, weighing(600, claim(6, 3, 3, 5, 1)), 2000);
+    grant("11 grandparent run out at 2000", passed_on(), weighing(600, claim(6, 4, 5, 4, 1)), 2000);
+    grant("11 root of 15 hops run out at 2000", tower_until(16, 2000), claim(17, 16, 17, 18, 17), 2000);
     grant("12 parent without DELEGATE", r, weighing(600, claim(6, 4, 5, 4, 1)), 0);
     grant("13 a right the parent lacks", r, weighing(600, claim(6, 3, 3, 5, 3)), 0);
     /* Human 3 also holds WRITE and DELEGATE by a second claim. */
@@ -92,8 +102,10 @@ static void pairs(void) {
     grant("7 before 8", unowned(), claim(7, 6, 4, 5, 8192), 0);
     grant("8 before 9", r, claim(6, 99, 2, 5, 8192), 0);
     grant("10 before 11", r, claim(6, 3, 1, 5, 1), 2000);
+    grant("10 before 11 of the grandparent", r, weighing(600, claim(6, 4, 1, 4, 1)), 2000);
     Register spent = with_claim(r, 3, weighing(0, claim(4, 3, 3, 5, 1)));
     grant("11 before 12", spent, weighing(0, claim(6, 4, 5, 4, 1)), 0);
+    grant("11 of the grandparent before 12", r, weighing(600, claim(6, 4, 5, 4, 1)), 2000);
     grant("12 before 13", r, weighing(600, claim(6, 4, 5, 4, 2)), 0);
     grant("13 before 14", r, weighing(601, claim(6, 3, 3, 5, 3)), 0);
     Register light_top = with_claim(tower(17), 16, weighing(500, claim(17, 16, 17, 18, 17)));

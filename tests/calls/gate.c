@@ -6,7 +6,9 @@
  * with an owner who does not cover it", by use position from 0. "Tests 1, 2, 3 (the actor), then violations." A hop count is that "of the first
  * covering claim of the actor in register order, 0 when there is none". In the base human 1 holds claim 1 on resource 10 (0 hops), its
  * machine 2 claim 2 (1 hop) and claim 5 on resource 11; human 3 holds claim 3 (2 hops, READ and DELEGATE, run out
- * at 2000) and its machine 5 claim 4 (3 hops, READ); resources 10 and 11 both have the path `site/a`, and 11 is public.
+ * at 2000) and its machine 5 claim 4 (3 hops, READ), drawn from claim 3; resources 10 and 11 both have the path `site/a`, and 11 is public.
+ * 02, T-03: "a claim is live at a moment when every claim on its chain has weight above 0 and hasn't expired", so a claim with a dead source
+ * covers nothing and lends no hop count.
  * A line `inner in outer` has human 1 read a resource of the one path by its root on one of the other (01, "Path containment"). */
 #include "calls.h"
 
@@ -39,12 +41,31 @@ static void decided(void) {
     ask("right not held", r, using(action(3, 0), 10, 1));
     ask("resource absent", r, using(action(3, 0), 12, 0));
     ask("resource 0", r, using(action(3, 0), 0, 0));
-    ask("owner's claim run out at 2000", r, using(action(5, 2000), 10, 0));
+    ask("source run out at 2000", r, using(action(5, 2000), 10, 0));
     ask("second use of two", r, using(using(action(2, 0), 10, 0), 12, 0));
     ask("flags 0 and 9", r, flagged(action(1, 0), 513));
     ask("machine without owner", r, action(4, 0));
     ask("machine governs two", r, governing(action(2, 0), 2));
     ask("all of it in order", r, using(governing(flagged(action(4, 0), 2), 1), 10, 0));
+}
+
+/* The base, where claim 2, from which those of human 3 and machine 5 are drawn, runs out at 1500, and machine 5 holds a root too. */
+static Register sourced(void) {
+    return with_claim(base_and(claim(6, 0, 1, 5, 1)), 1, expiring(1500, claim(2, 1, 1, 2, 131071)));
+}
+
+static void sources(void) {
+    Register r = base_and(claim(6, 0, 1, 5, 1)), s = sourced();
+    ask("owner's claim at 1999", r, using(action(5, 1999), 10, 0));
+    ask("owner's claim run out at 2000", r, using(action(5, 2000), 10, 0));
+    ask("owner's source at 1499", s, using(action(5, 1499), 10, 0));
+    ask("owner's source run out at 1500", s, using(action(5, 1500), 10, 0));
+    ask("human's source at 1499", s, using(action(3, 1499), 10, 0));
+    ask("human's source run out at 1500", s, using(action(3, 1500), 10, 0));
+    ask("public READ at 1499", s, using(action(3, 1499), 11, 0));
+    ask("public READ at 1500", s, using(action(3, 1500), 11, 0));
+    ask("root of 16 hops at 1999", tower_until(17, 2000), using(action(18, 1999), 10, 0));
+    ask("root of 16 hops run out at 2000", tower_until(17, 2000), using(action(18, 2000), 10, 0));
 }
 
 static void stopped(void) {
@@ -82,6 +103,7 @@ static void paths(void) {
 
 void gate_lines(void) {
     decided();
+    sources();
     stopped();
     paths();
     ask("51 violations", base(), most());

@@ -23,7 +23,7 @@ static void counts(void) {
     ask("2^64 - 1 actions", r, alike(a, UINT64_MAX));
 }
 
-/* Machine 5 reads when its owner's claim has run out: one violation. Two flags and a use of a resource that does not stand: three. */
+/* Machine 5 reads when its owner's claim, from which its own is drawn, has run out: one violation. Two flags and a use of a resource that does not stand: three. */
 static void verdicts(void) {
     Register r = base();
     Action reads = using(action(1, 0), 10, 0), unowned = action(4, 0);

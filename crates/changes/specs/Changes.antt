@@ -4,11 +4,11 @@ use mathlib.Core.List.{List, [], _∷_, _++_}
 use Prim.Native.Nat.{ℕ, _+_, _-_}
 use lib.Dec.{eqb, leb, ltb}
 use lib.ListN.{length, set, replicate}
-use Rattle.lists.specs.Lists.{any}
+use Rattle.lists.specs.Lists.{any, every}
 use Rattle.rights.specs.Rights.{delegating, hasRight, hasRights, barsMachine}
 use Rattle.register.specs.Limits.{claimLimit, momentEnd}
 use Rattle.register.specs.Register.{actorsOf, resourcesOf, claimsOf, noClaim}
-use Rattle.register.specs.Chain.{latest, chain, above, circling, live}
+use Rattle.register.specs.Chain.{latest, chain, above, circling, current}
 use Rattle.register.specs.declared.Claim.{Claim}
 use Rattle.register.specs.declared.Register.{Register}
 use Rattle.rules.specs.Sound.{World, worldOf, sound, claimFits, namesStand, rootKept, withinHops, fresh}
@@ -16,8 +16,8 @@ use Rattle.rules.specs.Striking.{strike}
 use Rattle.refusals.specs.Refusals.{Test, outcomeOf, isAccepted}
 use Rattle.changes.specs.declared.Granted.{Granted}
 use Rattle.changes.specs.declared.Revoked.{Revoked}
-use Rattle.refusals.specs.declared.Refusal.the-variants.{Unsound, OutOfRange, Unknown, IdStands, Full, NotKeeper, Ownerless, MachineBarred, ParentAbsent}
-use Rattle.refusals.specs.declared.Refusal.the-variants.{ParentNotHeld, ParentDead, NoDelegate, RightLacking, WeightAbove, TooManyHops, Circle, ClaimAbsent, NoGrantor}
+use Rattle.refusals.specs.declared.Refusal.the-variants.{Unsound, OutOfRange, Unknown, IdStands, Full, NotKeeper, Ownerless, MachineBarred, ParentAbsent, ParentNotHeld}
+use Rattle.refusals.specs.declared.Refusal.the-variants.{ParentDead, NoDelegate, RightLacking, WeightAbove, TooManyHops, Circle, ClaimAbsent, NoGrantor}
 
 -- the world of a register, and its claims latest first
 abbrev pub worldIn : Register → World
@@ -26,11 +26,11 @@ worldIn r = worldOf (actorsOf (r .actors)) (resourcesOf (r .resources))
 abbrev pub standing : Register → List Claim
 standing r = latest (claimsOf (r .claims))
 
--- The liveness that a grant asks for, of the chain above the claim, whose first member is the parent: the parent is live. This looks at
--- the parent alone.
+-- The liveness that a grant asks for, of the chain above the claim, whose first member is the parent: the parent is live, so every claim of
+-- that chain is current. The claim itself is not asked.
 unfoldable pub sourceLive : ℕ → List Claim → Bool
 sourceLive now [] = false
-sourceLive now (p ∷ higher) = live now p
+sourceLive now (p ∷ higher) = every (current now) (p ∷ higher)
 
 -- the tests of a grant with a parent, over the chain above the claim: 9 to 16
 unfoldable pub parentTests : ℕ → List Claim → Claim → List Test

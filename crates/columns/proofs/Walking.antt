@@ -7,7 +7,7 @@ use native.Mathlib.Omega.{arith}
 use borrow.Author.Tests.{le-leb, lt-leb, eq-eqb, ne-eqb}
 use lib.Dec.{eqb, leb}
 use lib.ListN.{length, getD}
-use Rattle.lists.specs.Lists.{any}
+use Rattle.lists.specs.Lists.{any, every}
 use Rattle.register.specs.Limits.{hopLimit}
 use Rattle.register.specs.Chain.{rootGranted, circling}
 use Rattle.columns.specs.declared.Hops.{Hops}
@@ -114,3 +114,28 @@ module _ {ids parents grantors holders : List ℕ} {h n x : ℕ} {top e : Bool} 
         → Circling ids parents grantors holders h at up (eqb grantor h) e
     circling-next other granted u =
         record { walk = record { ahead = walk-at (s .walk) o q ∙ rw (ne-eqb (getD holders at 0) h (λ same. other (held ∙ same)), granted, u) } }
+
+-- every member so far passes a test, and e is whether every member of the chain does
+pub record Passing (p : ℕ → Bool) (ids parents : List ℕ) (n x : ℕ) (e : Bool) : Type 0 where
+  pub walk : Walk (every p) ids parents n x e
+
+pub passing-start : (p : ℕ → Bool) (ids parents : List ℕ) (n x : ℕ) → Passing p ids parents n x (every p (chainPlaces ids parents n x))
+passing-start p ids parents n x = record { walk = record { ahead = refl } }
+
+module _ {p : ℕ → Bool} {ids parents : List ℕ} {n x : ℕ} {e : Bool} (s : Passing p ids parents n x e) where
+  pub passing-root : x ≡ 0 → e ≡ true
+  passing-root = walk-root (s .walk)
+
+  pub passing-nowhere : latestPlace ids n x ≡ Nowhere → e ≡ true
+  passing-nowhere = walk-nowhere (s .walk)
+
+  pub passing-none : n ≡ 0 → e ≡ true
+  passing-none = walk-none (s .walk)
+
+  module _ (o : x ≡ 0 → ⊥) {at : ℕ} (q : latestPlace ids n x ≡ At at) {passed : Bool} (told : passed ≡ p at) where
+    -- a member that fails decides
+    pub passing-fails : passed ≡ false → e ≡ false
+    passing-fails fails = walk-at (s .walk) o q ∙ rw (sym told ∙ fails)
+
+    pub passing-next : passed ≡ true → {up : ℕ} → up ≡ getD parents at 0 → Passing p ids parents at up e
+    passing-next passes u = record { walk = record { ahead = walk-at (s .walk) o q ∙ rw (sym told ∙ passes, u) } }

@@ -9,16 +9,17 @@ use lib.Dec.{eqb, ltb, leb}
 use lib.ListN.{length, take, getD, length-map, List·getD-map, List·getD-eq-default}
 use lib.Seq.{take-suc, take-all}
 use Rattle.lists.specs.Tests.{cases, and-left, and-right, and-both, or-left, or-right}
-use Rattle.lists.specs.Lists.{any, any-append}
+use Rattle.lists.specs.Lists.{any, any-append, every}
+use Rattle.lists.specs.Each.{every-map}
 use Rattle.register.specs.Limits.{hopLimit}
 use Rattle.register.specs.Register.{noClaim}
-use Rattle.register.specs.Chain.{latest, chain, numbered, circling}
+use Rattle.register.specs.Chain.{latest, chain, numbered, circling, current}
 use Rattle.register.specs.Laws.{chain-nil, chain-hit, chain-miss, chain-zero, chain-map, circling-map}
 use Rattle.register.specs.declared.Claim.{Claim}
 use Rattle.columns.specs.declared.Hops.the-variants.{Up, Beyond}
 use Rattle.columns.specs.declared.Place.{Place}
 use Rattle.columns.specs.declared.Place.the-variants.{At, Nowhere}
-use Rattle.columns.specs.Columns.{claimId, parentOf, grantorOf, holderOf, places, latestPlace, beside, chainPlaces, stepsUp}
+use Rattle.columns.specs.Columns.{claimId, parentOf, grantorOf, holderOf, weightOf, expiryOf, places, latestPlace, beside, chainPlaces, stepsUp, currentAt}
 
 and-none : (a b : Bool) → b ≡ false → a && b ≡ false
 and-none true b e = e
@@ -253,6 +254,19 @@ module _ (cs : List Claim) where
       ∙ ap (λ f. circling (λ j. grantorOf (getD cs j noClaim)) f (chainPlaces (map claimId cs) (map parentOf cs) n p) h) (column-at holderOf refl cs)
       ∙ sym (circling-map (λ j. getD cs j noClaim) grantorOf holderOf (chainPlaces (map claimId cs) (map parentOf cs) n p) h)
       ∙ ap (λ l. circling grantorOf holderOf l h) (chain-natural n p)
+
+  -- a claim is current by its columns where it is
+  current-at : (now : ℕ) → _≡_ {A = ℕ → Bool} (currentAt (map weightOf cs) (map expiryOf cs) now) (λ j. current now (getD cs j noClaim))
+  current-at now = fun-ext (λ j. rw (List·getD-map weightOf cs j noClaim, List·getD-map expiryOf cs j noClaim))
+
+  -- so every claim of a chain of places is where every claim of the chain is
+  pub current-natural : (now n p : ℕ)
+      → every (currentAt (map weightOf cs) (map expiryOf cs) now) (chainPlaces (map claimId cs) (map parentOf cs) n p)
+      ≡ every (current now) (chain claimId parentOf (latest (take n cs)) p)
+  current-natural now n p =
+      ap (λ f. every f (chainPlaces (map claimId cs) (map parentOf cs) n p)) (current-at now)
+      ∙ sym (every-map (λ j. getD cs j noClaim) (current now) (chainPlaces (map claimId cs) (map parentOf cs) n p))
+      ∙ ap (every (current now)) (chain-natural n p)
 
   -- what is found is the claim of that number, and the chain from it up begins with it
   pub latest-place-found : (n x k : ℕ) → latestPlace (map claimId cs) n x ≡ At k

@@ -5,11 +5,12 @@ ghost use mathlib.Core.Path.{_≡_};
 ghost use Prim.Native.Nat.{min};
 ghost use lib.Dec.{eqb};
 ghost use lib.ListN.{getD, take};
-ghost use Rattle.lists.specs.Lists.{any};
+ghost use Rattle.lists.specs.Lists.{any, every};
 ghost use Rattle.register.specs.Chain.{circling};
-ghost use Rattle.columns.specs.Columns.{latestPlace, chainPlaces, stepsUp, beside};
+ghost use Rattle.columns.specs.Columns.{latestPlace, chainPlaces, stepsUp, beside, currentAt};
 ghost use Rattle.columns.specs.Columns.{actorColumns, resourceColumns, claimColumns};
 use register::Actors;
+use register::Claim;
 use register::Claims;
 use register::Register;
 use register::Resources;
@@ -236,4 +237,65 @@ pub fn circles<'a>(
         }
     }
     top
+}
+
+// The moment at a place of a column, 0 past its end.
+fn moment_at(column: &[u64], at: usize) -> u64
+    ensures { λ r. ⌜ r ≡ getD (now (column .entry)) at 0 ⌝ }
+{
+    if at < column.len() { column[at] } else { 0 }
+}
+
+// Whether the claim at a place is current at the moment, by the columns of weights and expiries.
+fn is_current_at<'a>(weights: &'a [u32], expiries: &'a [u64], at: usize, moment: u64) -> bool
+    ensures { λ r. ⌜ r ≡ currentAt (now (weights .entry)) (now (expiries .entry)) moment at ⌝ }
+{
+    let weight = number_at(weights, at);
+    let expiry = moment_at(expiries, at);
+    let c = Claim {
+        id: 0,
+        parent: 0,
+        grantor: 0,
+        holder: 0,
+        resource: 0,
+        rights: 0,
+        weight,
+        expiry,
+    };
+    c.is_current(moment)
+}
+
+// Whether every claim on the chain from the number `p` up is current at the moment; the chain of a number that no claim has is empty.
+pub fn all_current<'a>(
+    ids: &'a [u32],
+    parents: &'a [u32],
+    weights: &'a [u32],
+    expiries: &'a [u64],
+    n: usize,
+    p: u32,
+    moment: u64,
+) -> bool
+    ensures { λ r. ⌜ r ≡ every (currentAt (now (weights .entry)) (now (expiries .entry)) moment) (chainPlaces (now (ids .entry)) (now (parents .entry)) n p) ⌝ }
+{
+    let mut below = n;
+    let mut next = p;
+    while 0 < below {
+        if next == 0 {
+            return true;
+        }
+        let place = latest_place(ids, below, next);
+        match place {
+            Place::At(member) => {
+                if !is_current_at(weights, expiries, member, moment) {
+                    return false;
+                }
+                next = number_at(parents, member);
+                below = member;
+            }
+            Place::Nowhere => {
+                return true;
+            }
+        }
+    }
+    true
 }

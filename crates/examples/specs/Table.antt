@@ -8,7 +8,7 @@ use Prim.Native.String.{String}
 use Rattle.lists.specs.Tests.{beq-same}
 use Rattle.lists.specs.Lists.{every}
 use Rattle.paths.specs.Containment.{same, components, climbing, trimmed, starting, contained}
-use Rattle.register.specs.Chain.{live}
+use Rattle.register.specs.Chain.{chain, live}
 use Rattle.register.specs.declared.Claim.{Claim}
 use Rattle.lists.specs.Bytes.{bytes}
 
@@ -16,10 +16,10 @@ use Rattle.lists.specs.Bytes.{bytes}
 pub data Example : Type 0 where
   -- the inner path in the outer one: yes or no
   inside : (inner outer : String) → (answer : Bool) → Example
-  -- a claim of this weight and expiry live at a moment: yes or no
+  -- a root of this weight and expiry live at a moment: yes or no
   lives : (weight expiry now : ℕ) → (answer : Bool) → Example
 
--- a claim of that weight and expiry, and zeros besides
+-- a claim of that weight and expiry, and zeros besides: a root
 abbrev pub weighing : ℕ → ℕ → Claim
 weighing weight expiry = record {
   id = 0;
@@ -35,7 +35,7 @@ weighing weight expiry = record {
 -- whether the definition answers as the example says
 abbrev pub holds : Example → Bool
 holds (inside inner outer answer) = Bool·beq (contained (bytes outer) (bytes inner)) answer
-holds (lives weight expiry now answer) = Bool·beq (live now (weighing weight expiry)) answer
+holds (lives weight expiry now answer) = Bool·beq (live now [] (weighing weight expiry)) answer
 
 -- an example of a containment that holds is that containment
 pub inside-sound : (inner outer : String) (answer : Bool) →
@@ -44,8 +44,8 @@ inside-sound inner outer answer h = beq-same (contained (bytes outer) (bytes inn
 
 -- an example of a live claim that holds is that liveness
 pub lives-sound : (weight expiry now : ℕ) (answer : Bool) →
-    holds (lives weight expiry now answer) ≡ true → live now (weighing weight expiry) ≡ answer
-lives-sound weight expiry now answer h = beq-same (live now (weighing weight expiry)) answer h
+    holds (lives weight expiry now answer) ≡ true → live now [] (weighing weight expiry) ≡ answer
+lives-sound weight expiry now answer h = beq-same (live now [] (weighing weight expiry)) answer h
 
 -- 01, "Fixed examples": each with 01's words above it
 abbrev pub table : List Example
@@ -75,5 +75,5 @@ table =
 
 -- every example of the table holds
 pub examples-hold : every holds table ≡ true
-unfolding contained climbing components same trimmed starting
+unfolding contained climbing components same trimmed starting chain
 examples-hold = refl

@@ -29,8 +29,11 @@ module _ (r : Register) (a : Action) {v : View} (viewed : v ≡ viewOf r) where
   pub outcome-seen : {outcome : Outcome} → outcome ≡ outcomeOf (lentTests (v .actors .ids) (v .counts .actors) a) → outcome ≡ outcomeOf (actionTests r a)
   outcome-seen e = e ∙ ap (λ w. outcomeOf (lentTests (w .actors .ids) (w .counts .actors) a)) viewed ∙ ap outcomeOf (tests-natural r a)
 
-  pub judged-seen : Shaped r → {judged : UsesJudged} → judged ≡ judgedBy (lentOf v) a → judged ≡ actionJudged r a
-  judged-seen shaped e = e ∙ ap (λ w. judgedBy (lentOf w) a) viewed ∙ view-natural r shaped a
+  pub judged-seen : Shaped r → sound r ≡ true → outcomeOf (actionTests r a) ≡ Accepted → {judged : UsesJudged}
+      → judged ≡ judgedBy (lentOf v) a → judged ≡ actionJudged r a
+  unfolding actionTests
+  judged-seen shaped h passed e =
+      e ∙ ap (λ w. judgedBy (lentOf w) a) viewed ∙ view-natural r shaped h a (outcome-accepted _ _ passed)
 
 -- permitted means an empty list
 decided-natural : (vs : List Violation) → cond (eqb (length vs) 0) Permitted Refused ≡ decided vs

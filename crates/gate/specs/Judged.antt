@@ -21,7 +21,7 @@ use Rattle.violations.specs.Pushed.{pushedAll}
 use Rattle.flat_paths.specs.Laid.{laid}
 use Rattle.gathering.specs.Gathering.{heldPlaces}
 use Rattle.use_judging.specs.Uses.{Sight}
-use Rattle.sights.specs.Sights.{ownerAt, ownerIn, spotsOf, upsOf, sightOf}
+use Rattle.sights.specs.Sights.{ownerAt, ownerIn, spotsOf, upsOf, sightOf, endsIn}
 use Rattle.uses_judging.specs.Judging.{usesJudged}
 use Rattle.uses_judging.specs.declared.UsesJudged.{UsesJudged}
 use Rattle.gate.specs.declared.View.{View}
@@ -47,6 +47,7 @@ viewOf r = record {
   paths = laid (r .resources);
   spots = spotsOf r;
   ups = upsOf r;
+  ends = endsIn r;
 }
 
 -- the columns that are lent, with the counts of the lists
@@ -63,8 +64,7 @@ pub record Lent : Type 0 where
   pub parents : List ℕ
   pub holders : List ℕ
   pub rights : List ℕ
-  pub weights : List ℕ
-  pub expiries : List ℕ
+  pub ends : List ℕ
   pub spots : List ℕ
   pub ups : List ℕ
   pub claims : ℕ
@@ -84,8 +84,7 @@ lentOf v = record {
   parents = v .claims .parents;
   holders = v .claims .holders;
   rights = v .claims .rights;
-  weights = v .claims .weights;
-  expiries = v .claims .expiries;
+  ends = v .ends;
   spots = v .spots;
   ups = v .ups;
   claims = v .counts .claims;
@@ -110,8 +109,8 @@ module _ (l : Lent) where
   -- what is seen for the actor numbered x; for an owner that is not asked no claims are gathered
   abbrev pub sightBy : ℕ → ℕ → Sight
   sightBy now x = record {
-    own = heldPlaces (l .holders) (l .weights) (l .expiries) (l .claims) x now;
-    theirs = heldPlaces (l .holders) (l .weights) (l .expiries) (cond (ownedBy x) (l .claims) 0) (ownerBy x) now;
+    own = heldPlaces (l .holders) (l .ends) (l .claims) x now;
+    theirs = heldPlaces (l .holders) (l .ends) (cond (ownedBy x) (l .claims) 0) (ownerBy x) now;
     owned = ownedBy x;
     rights = l .rights;
     spots = l .spots;

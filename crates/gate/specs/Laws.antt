@@ -4,13 +4,14 @@ use mathlib.Core.Bool.{Bool, true, false, _&&_, cond}
 use mathlib.Core.List.{List, [], _∷_, _++_, map, append-assoc}
 use Prim.Native.Nat.{ℕ, suc}
 use native.Mathlib.Omega.{arith}
-use lib.Dec.{eqb}
+use borrow.Author.Tests.{lt-ltb}
+use lib.Dec.{eqb, ltb}
 use lib.ListN.{getD, List·getD-map}
-use Rattle.register.specs.Limits.{machineKind}
+use Rattle.register.specs.Limits.{machineKind, momentEnd}
 use Rattle.register.specs.Register.{actorsOf, noActor, Shaped}
 use Rattle.register.specs.declared.Register.{Register}
 use Rattle.rules.specs.Sound.{sound, isMachine}
-use Rattle.columns.specs.Columns.{actorId, ownerOf, resourceId, holderOf, weightOf, expiryOf, latestPlace, actorKind}
+use Rattle.columns.specs.Columns.{actorId, ownerOf, resourceId, holderOf, latestPlace, actorKind}
 use Rattle.columns.specs.Laws.{among-natural, beside-natural}
 use Rattle.columns.specs.declared.Place.{Place}
 use Rattle.columns.specs.declared.Place.the-variants.{At, Nowhere}
@@ -19,14 +20,15 @@ use Rattle.actions.specs.Actions.{usesOf, actionFits}
 use Rattle.actions.specs.declared.Action.{Action}
 use Rattle.actions.specs.declared.Usage.{Usage}
 use Rattle.verdicts.specs.Gate.{isOwnerless, useViolations, hopsFor, hopCounts, violationsOf, listed, padded, actionTests}
-use Rattle.verdicts.specs.Laws.{use-violations-nil, use-violations-cons}
+use Rattle.verdicts.specs.Laws.{use-violations-nil, use-violations-cons, action-fits-out}
 use Rattle.verdicts.specs.Bounds.{violations-most}
 use Rattle.violations.specs.Pushed.{pushedAll}
 use Rattle.violations.specs.Laws.{pushed-all-natural, pushed-all-append}
 use Rattle.gathering.specs.Gathering.{coverPlaces, heldPlaces}
-use Rattle.gathering.specs.Laws.{held-natural, held-none}
-use Rattle.sights.specs.Sights.{ownerAt, ownerIn, ownedIn, sightOf}
+use Rattle.gathering.specs.Laws.{held-none}
+use Rattle.sights.specs.Sights.{ownerAt, ownerIn, ownedIn, sightOf, endsIn}
 use Rattle.sights.specs.Laws.{use-natural, asked-actor}
+use Rattle.sights.specs.Ends.{cover-natural}
 use Rattle.uses_judging.specs.Judging.{judgedIn, faultsFrom, usesJudged}
 use Rattle.gate.specs.Judged.{besides, actionJudged, viewOf, lentOf, lentTests, machineBy, sightBy, judgedBy}
 
@@ -88,24 +90,19 @@ module _ (r : Register) where
   machine-natural : (x : ℕ) → machineBy (lentOf (viewOf r)) x ≡ isMachine (actorsOf (r .actors)) x
   machine-natural x = beside-natural actorId actorKind x machineKind (r .actors .count) (r .actors .list)
 
-  module _ (shaped : Shaped r) where
+  -- in a sound register, at a moment in range
+  module _ (shaped : Shaped r) (h : sound r ≡ true) (now : ℕ) (timely : ltb now momentEnd ≡ true) where
     -- the claims gathered for an owner that is asked or not
-    theirs-natural : (owned : Bool) (x now : ℕ)
-        → heldPlaces (map holderOf (r .claims .list)) (map weightOf (r .claims .list)) (map expiryOf (r .claims .list)) (cond owned (r .claims .count) 0) x now
-        ≡ cond owned (coverPlaces (r .claims) x now) []
-    theirs-natural true x now = held-natural (r .claims) x now (shaped .claims)
-    theirs-natural false x now =
-        held-none (map holderOf (r .claims .list)) (map weightOf (r .claims .list)) (map expiryOf (r .claims .list)) x now
+    theirs-natural : (owned : Bool) (x : ℕ)
+        → heldPlaces (map holderOf (r .claims .list)) (endsIn r) (cond owned (r .claims .count) 0) x now ≡ cond owned (coverPlaces (r .claims) x now) []
+    theirs-natural true x = cover-natural r shaped h now timely x
+    theirs-natural false x = held-none (map holderOf (r .claims .list)) (endsIn r) x now
 
-    sight-natural : (now x : ℕ) → sightBy (lentOf (viewOf r)) now x ≡ sightOf r now x
-    sight-natural now x =
-        rw (
-          machine-natural x,
-          held-natural (r .claims) x now (shaped .claims),
-          theirs-natural (ownedIn r x) (ownerIn r x) now,
-        )
+    sight-natural : (x : ℕ) → sightBy (lentOf (viewOf r)) now x ≡ sightOf r now x
+    sight-natural x = rw (machine-natural x, cover-natural r shaped h now timely x, theirs-natural (ownedIn r x) (ownerIn r x))
 
-    -- an action judged by what is lent of a register's view is judged by the register
-    pub view-natural : (a : Action) → judgedBy (lentOf (viewOf r)) a ≡ actionJudged r a
-    unfolding judgedBy
-    view-natural a = rw (sight-natural (a .now) (a .actor), machine-natural (a .actor))
+  -- an action in range that is judged by what is lent of a sound register's view is judged by the register
+  pub view-natural : Shaped r → sound r ≡ true → (a : Action) → actionFits a ≡ true → judgedBy (lentOf (viewOf r)) a ≡ actionJudged r a
+  unfolding judgedBy
+  view-natural shaped h a fits =
+      rw (sight-natural shaped h (a .now) (lt-ltb (a .now) momentEnd (action-fits-out a fits .momentBelow)) (a .actor), machine-natural (a .actor))

@@ -1,6 +1,7 @@
 // The gate for one action: tests 1, 2 and 3, then every violation in 01's order, and a hop count for each use. What is looked at is taken out
-// of the register once, as columns (`view_of`), and lent: no part of the register is copied for an action or a use. The claims that can cover
-// are gathered once for an action, for the actor and for the owner of a machine.
+// of the register once, as columns (`view_of`), and lent: no part of the register is copied for an action or a use. A claim is live over its whole
+// chain; its end says until when, and is found once for the register, so no chain is walked for an action. The claims that can cover are gathered
+// once for an action, for the actor and for the owner of a machine.
 ghost use mathlib.Core.Path.{_≡_};
 ghost use mathlib.Core.Bool.{cond};
 ghost use mathlib.Core.List.{[]};
@@ -38,7 +39,8 @@ pub struct Counts {
 }
 
 // What the gate looks at of a register: the columns of its lists with their counts, the paths, the place of each claim's resource, 64 for none,
-// and that of its parent among the claims before it, 256 for none. The counts stand here so that the register need not be kept.
+// and that of its parent among the claims before it, 256 for none, and each claim's end, the first moment at which it or a claim that it is drawn
+// from is not live any more. The counts stand here so that the register need not be kept.
 pub struct View {
     pub counts: Counts,
     pub actors: ActorColumns,
@@ -47,6 +49,7 @@ pub struct View {
     pub paths: Paths,
     pub spots: [usize; Register::CLAIMS],
     pub ups: [usize; Register::CLAIMS],
+    pub ends: [u64; Register::CLAIMS],
 }
 
 pub fn view_of(r: Register) -> View
@@ -68,6 +71,7 @@ pub fn view_of(r: Register) -> View
         Register::RESOURCES,
     );
     let ups = finding::earlier_places(&claims.ids, &claims.parents, c.count, Register::CLAIMS);
+    let ends = gathering::ends(&claims.weights, &claims.expiries, &ups, c.count);
     let counts = Counts {
         actors: a.count,
         resources: o.count,
@@ -81,6 +85,7 @@ pub fn view_of(r: Register) -> View
         paths,
         spots,
         ups,
+        ends,
     }
 }
 
@@ -133,22 +138,21 @@ pub fn judge_by<'a>(
     parents: &'a [u32],
     holders: &'a [u32],
     rights: &'a [u32],
-    weights: &'a [u32],
-    expiries: &'a [u64],
+    ends: &'a [u64],
     spots: &'a [usize],
     ups: &'a [usize],
     claims: usize,
     a: Action,
 ) -> UsesJudged
-    ensures { λ y. ⌜ y ≡ judgedBy (record { names = now (names .entry); kinds = now (kinds .entry); owners = now (owners .entry); actors = actors; reports = now (reports .entry); publics = now (publics .entry); resources = resources; bytes = now (bytes .entry); lens = now (lens .entry); parents = now (parents .entry); holders = now (holders .entry); rights = now (rights .entry); weights = now (weights .entry); expiries = now (expiries .entry); spots = now (spots .entry); ups = now (ups .entry); claims = claims }) a ⌝ }
+    ensures { λ y. ⌜ y ≡ judgedBy (record { names = now (names .entry); kinds = now (kinds .entry); owners = now (owners .entry); actors = actors; reports = now (reports .entry); publics = now (publics .entry); resources = resources; bytes = now (bytes .entry); lens = now (lens .entry); parents = now (parents .entry); holders = now (holders .entry); rights = now (rights .entry); ends = now (ends .entry); spots = now (spots .entry); ups = now (ups .entry); claims = claims }) a ⌝ }
 {
     let machine = columns::is_beside(names, kinds, actors, a.actor, Actor::MACHINE);
     let owner = owner_of(names, owners, actors, a.actor);
     let owned = machine & (owner != 0);
     let vs = first_violations(a, machine, owner);
-    let own = gathering::gather(holders, weights, expiries, claims, a.actor, a.now);
+    let own = gathering::gather(holders, ends, claims, a.actor, a.now);
     let asked = asked_for(owned, claims);
-    let theirs = gathering::gather(holders, weights, expiries, asked, owner, a.now);
+    let theirs = gathering::gather(holders, ends, asked, owner, a.now);
     uses_judging::judge_uses(
         a,
         vs,
@@ -240,8 +244,7 @@ pub fn gate(r: Register, a: Action) -> Verdict
                 &v.claims.parents,
                 &v.claims.holders,
                 &v.claims.rights,
-                &v.claims.weights,
-                &v.claims.expiries,
+                &v.ends,
                 &v.spots,
                 &v.ups,
                 v.counts.claims,

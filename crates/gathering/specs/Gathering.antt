@@ -1,14 +1,15 @@
--- Working definitions: the claims that can cover, gathered by their places. What they are in 01's words is proved in Laws.
-use mathlib.Core.Bool.{Bool, _&&_}
-use mathlib.Core.List.{List, _++_}
-use Prim.Native.Nat.{ℕ, _-_, min}
-use lib.Dec.{eqb}
+-- Working definitions: the ends of claims, and the claims that can cover, gathered by their places. What they are in 01's words is proved in
+-- Laws and, of the ends, in Ends.
+use mathlib.Core.Bool.{Bool, _&&_, cond, not}
+use mathlib.Core.List.{List, _++_, [], _∷_}
+use Prim.Native.Nat.{ℕ, _-_, min, zero, suc}
+use lib.Dec.{eqb, ltb}
 use lib.ListN.{length, getD, replicate}
 use Rattle.lists.specs.Counts.{counted}
 use Rattle.lists.specs.Trims.{filter}
-use Rattle.register.specs.Limits.{resourceLimit, claimLimit}
+use Rattle.register.specs.Limits.{resourceLimit, claimLimit, momentEnd}
 use Rattle.register.specs.Register.{claimsOf, noClaim}
-use Rattle.register.specs.Chain.{live}
+use Rattle.register.specs.Chain.{live, latest}
 use Rattle.register.specs.declared.Claim.{Claim}
 use Rattle.register.specs.declared.Claims.{Claims}
 use Rattle.columns.specs.Columns.{latestPlace}
@@ -24,40 +25,52 @@ spotOf p = placeNumber resourceLimit p
 abbrev pub spotIn : List ℕ → ℕ → ℕ → ℕ
 spotIn reports m x = spotOf (latestPlace reports m x)
 
--- a claim that can cover: held by x and live
-abbrev pub canCover : ℕ → ℕ → Claim → Bool
-canCover x now c = eqb (c .holder) x && live now c
+-- The end of a claim, the first moment at which it is not live, by its weight, its expiry and the end of what it is drawn from: 0 without
+-- weight, else its expiry where it has one before that end, else that end.
+abbrev pub endUnder : ℕ → ℕ → ℕ → ℕ
+endUnder weight expiry most = cond (eqb weight 0) 0 (cond (not (eqb expiry 0) && ltb expiry most) expiry most)
+
+-- the claims by their columns of weights, expiries and parents' places
+module _ (weights expiries ups : List ℕ) where
+  -- the end of the claim at place i, by the ends of those before it: what has no parent before it is bounded by the end of all moments
+  abbrev pub endBehind : List ℕ → ℕ → ℕ
+  endBehind ends i =
+      endUnder (getD weights i 0) (getD expiries i 0) (cond (ltb (getD ups i 0) i) (getD ends (getD ups i 0) 0) momentEnd)
+
+  -- the ends of the first n
+  unfoldable pub endsTo : ℕ → List ℕ
+  endsTo zero = []
+  endsTo (suc n) = endsTo n ++ (endBehind (endsTo n) n ∷ [])
+
+  -- as many of the first n as there are in each column
+  abbrev pub endingOf : ℕ → ℕ
+  endingOf n = min n (min claimLimit (min (length weights) (min (length expiries) (length ups))))
+
+  -- the ends of the first n, and 0 past them
+  unfoldable pub endsOf : ℕ → List ℕ
+  endsOf n = endsTo (endingOf n) ++ replicate (claimLimit - endingOf n) 0
+
+-- a claim that can cover, among claims latest first: held by x and live
+abbrev pub canCover : ℕ → ℕ → List Claim → Claim → Bool
+canCover x now earlier c = eqb (c .holder) x && live now earlier c
 
 -- the places of those that can cover, in register order
 abbrev pub coverPlaces : Claims → ℕ → ℕ → List ℕ
-coverPlaces k x now = filter (λ j. canCover x now (getD (k .list) j noClaim)) (counted 0 (length (claimsOf k)))
+coverPlaces k x now = filter (λ j. canCover x now (latest (claimsOf k)) (getD (k .list) j noClaim)) (counted 0 (length (claimsOf k)))
 
--- a claim of which only the holder, the weight and the expiry are looked at
-abbrev pub heldClaim : ℕ → ℕ → ℕ → Claim
-heldClaim holder weight expiry = record {
-  id = 0;
-  parent = 0;
-  grantor = 0;
-  holder = holder;
-  resource = 0;
-  rights = 0;
-  weight = weight;
-  expiry = expiry;
-}
-
--- the claims by their columns of holders, weights and expiries
-module _ (holders weights expiries : List ℕ) where
+-- the claims by their columns of holders and ends
+module _ (holders ends : List ℕ) where
   -- as many of the first n as there are in each column
   unfoldable pub lookedAt : ℕ → ℕ
-  lookedAt n = min n (min claimLimit (min (length holders) (min (length weights) (length expiries))))
+  lookedAt n = min n (min claimLimit (min (length holders) (length ends)))
 
-  -- the claim at a place
-  abbrev pub heldAt : ℕ → Claim
-  heldAt j = heldClaim (getD holders j 0) (getD weights j 0) (getD expiries j 0)
+  -- whether x holds the claim at a place, and the moment is before its end
+  abbrev pub heldAt : ℕ → ℕ → ℕ → Bool
+  heldAt x now j = eqb (getD holders j 0) x && ltb now (getD ends j 0)
 
-  -- the places of those of the first n that can cover
+  -- the places of those of the first n that x holds and that have not ended
   abbrev pub heldPlaces : ℕ → ℕ → ℕ → List ℕ
-  heldPlaces n x now = filter (λ j. canCover x now (heldAt j)) (counted 0 (lookedAt n))
+  heldPlaces n x now = filter (λ j. heldAt x now j) (counted 0 (lookedAt n))
 
   unfoldable pub gatheredBy : ℕ → ℕ → ℕ → Gathered
   gatheredBy n x now = record {

@@ -1,90 +1,89 @@
 -- What is gathered, and what a spot is, in the words of the register's lists. Assumes nothing.
-use mathlib.Core.Path.{_≡_, refl, sym, ap, _∙_, fun-ext}
-use mathlib.Core.Bool.{Bool, false, not}
+use mathlib.Core.Path.{_≡_, refl, sym, ap, _∙_}
+use mathlib.Core.Bool.{false, not}
 use mathlib.Core.List.{List, [], map}
 use Prim.Native.Nat.{ℕ, _-_, _≤_, _<_, min}
 use native.Mathlib.Nat.{zero-add}
 use native.Mathlib.Omega.{arith}
-use lib.Dec.{eqb}
+use lib.Dec.{eqb, ltb}
 use lib.ListN.{length, take, replicate, getD, length-map, length-take, List·getD-map}
 use lib.Seq.{take-append-seam}
 use Rattle.lists.specs.Lists.{any}
-use Rattle.lists.specs.Each.{All}
+use Rattle.lists.specs.Each.{All, all-imp}
 use Rattle.lists.specs.Counts.{counted, counted-below, counted-first}
-use Rattle.lists.specs.Trims.{filter, filter-nil, trim-map, all-trim}
+use Rattle.lists.specs.Trims.{filter, filter-nil, trim-map, all-trim, trim-same}
 use Rattle.register.specs.Limits.{resourceLimit, claimLimit}
 use Rattle.register.specs.Register.{claimsOf, noClaim, noResource}
+use Rattle.register.specs.Chain.{latest, live}
 use Rattle.register.specs.declared.Claims.{Claims}
 use Rattle.register.specs.declared.Resource.{Resource}
-use Rattle.columns.specs.Columns.{resourceId, holderOf, weightOf, expiryOf, latestPlace}
+use Rattle.columns.specs.Columns.{resourceId, holderOf, latestPlace}
 use Rattle.columns.specs.Laws.{place-cases, place-found, nowhere-none, none-nowhere, among-natural}
 use Rattle.columns.specs.declared.Place.the-variants.{At}
 use Rattle.gathering.specs.Gathering.{spotOf, spotIn, canCover, coverPlaces, lookedAt, heldAt, heldPlaces, gatheredBy}
 
-module _ (holders weights expiries : List ℕ) (n : ℕ) where
+module _ (holders ends : List ℕ) (n : ℕ) where
   -- what is looked at is there
   pub record Looked : Type 0 where
-    pub few : lookedAt holders weights expiries n ≤ claimLimit
-    pub held : lookedAt holders weights expiries n ≤ length holders
-    pub weighed : lookedAt holders weights expiries n ≤ length weights
-    pub expiring : lookedAt holders weights expiries n ≤ length expiries
+    pub few : lookedAt holders ends n ≤ claimLimit
+    pub held : lookedAt holders ends n ≤ length holders
+    pub ending : lookedAt holders ends n ≤ length ends
 
   pub looked-within : Looked
   unfolding lookedAt
-  looked-within = record { few = omega arith; held = omega arith; weighed = omega arith; expiring = omega arith }
+  looked-within = record { few = omega arith; held = omega arith; ending = omega arith }
 
-  -- where all columns are as long, what is looked at is the first n of that many
-  pub looked-long : (long : ℕ) → length holders ≡ long → length weights ≡ long → length expiries ≡ long → long ≤ claimLimit
-      → lookedAt holders weights expiries n ≡ min n long
+  -- where both columns are as long, what is looked at is the first n of that many
+  looked-long : (long : ℕ) → length holders ≡ long → length ends ≡ long → long ≤ claimLimit → lookedAt holders ends n ≡ min n long
   unfolding lookedAt
-  looked-long long h w e few = rw (h, w, e) (omega arith)
+  looked-long long h e few = rw (h, e) (omega arith)
 
 module _ (k : Claims) (x now : ℕ) where
   -- the claims at the gathered places are the register's claims that can cover, in register order
-  pub gathered-natural : map (λ j. getD (k .list) j noClaim) (coverPlaces k x now) ≡ filter (canCover x now) (claimsOf k)
+  pub gathered-natural : map (λ j. getD (k .list) j noClaim) (coverPlaces k x now) ≡ filter (canCover x now (latest (claimsOf k))) (claimsOf k)
   gathered-natural =
-      sym (trim-map (λ j. getD (k .list) j noClaim) (λ M c. not (canCover x now c)) (λ M j. not (canCover x now (getD (k .list) j noClaim)))
-      (λ M j. refl) (counted 0 (length (claimsOf k))))
-      ∙ ap (filter (canCover x now)) (counted-first noClaim (k .list) (k .count))
+      sym (trim-map (λ j. getD (k .list) j noClaim) (λ M c. not (canCover x now (latest (claimsOf k)) c))
+      (λ M j. not (canCover x now (latest (claimsOf k)) (getD (k .list) j noClaim))) (λ M j. refl) (counted 0 (length (claimsOf k))))
+      ∙ ap (filter (canCover x now (latest (claimsOf k)))) (counted-first noClaim (k .list) (k .count))
+
+  places-below : All (λ j. j < length (claimsOf k)) (counted 0 (length (claimsOf k)))
+  places-below = rw (zero-add (length (claimsOf k))) at (counted-below 0 (length (claimsOf k)))
 
   -- each gathered place is that of a claim of the register
   pub gathered-within : All (λ j. j < length (claimsOf k)) (coverPlaces k x now)
   gathered-within =
-      let below : All (λ j. j < length (claimsOf k)) (counted 0 (length (claimsOf k))) =
-      rw (zero-add (length (claimsOf k))) at (counted-below 0 (length (claimsOf k))) in
-      all-trim (λ M j. not (canCover x now (getD (k .list) j noClaim))) (λ j. j < length (claimsOf k)) (counted 0 (length (claimsOf k))) below
+      all-trim (λ M j. not (canCover x now (latest (claimsOf k)) (getD (k .list) j noClaim))) (λ j. j < length (claimsOf k)) (counted 0 (length (claimsOf k))) places-below
 
-  -- by the columns of the claims the same places are gathered
-  pub held-natural : length (k .list) ≡ claimLimit
-      → heldPlaces (map holderOf (k .list)) (map weightOf (k .list)) (map expiryOf (k .list)) (k .count) x now ≡ coverPlaces k x now
-  held-natural long =
-      let looked : lookedAt (map holderOf (k .list)) (map weightOf (k .list)) (map expiryOf (k .list)) (k .count) ≡ length (claimsOf k) =
-      looked-long (map holderOf (k .list)) (map weightOf (k .list)) (map expiryOf (k .list)) (k .count) (length (k .list))
-      (length-map (k .list) holderOf) (length-map (k .list) weightOf) (length-map (k .list) expiryOf) (omega arith)
+  -- by the columns of holders and of ends the same places are gathered, where the ends tell which claims are live
+  pub held-natural : (ends : List ℕ) → length (k .list) ≡ claimLimit → length ends ≡ claimLimit
+      → ((j : ℕ) → j < length (claimsOf k) → ltb now (getD ends j 0) ≡ live now (latest (claimsOf k)) (getD (k .list) j noClaim))
+      → heldPlaces (map holderOf (k .list)) ends (k .count) x now ≡ coverPlaces k x now
+  held-natural ends long ended tells =
+      let looked : lookedAt (map holderOf (k .list)) ends (k .count) ≡ length (claimsOf k) =
+      looked-long (map holderOf (k .list)) ends (k .count) (length (k .list)) (length-map (k .list) holderOf) (omega arith) (omega arith)
       ∙ sym (length-take (k .count) (k .list)) in
-      let same : _≡_ {A = ℕ → Bool} (λ j. canCover x now (heldAt (map holderOf (k .list)) (map weightOf (k .list)) (map expiryOf (k .list)) j))
-      (λ j. canCover x now (getD (k .list) j noClaim)) =
-      fun-ext (λ j. rw (List·getD-map holderOf (k .list) j noClaim, List·getD-map weightOf (k .list) j noClaim, List·getD-map expiryOf (k .list) j noClaim)) in
-      ap (λ n. filter (λ j. canCover x now (heldAt (map holderOf (k .list)) (map weightOf (k .list)) (map expiryOf (k .list)) j)) (counted 0 n)) looked
-      ∙ ap (λ p. filter p (counted 0 (length (claimsOf k)))) same
+      ap (λ n. filter (λ j. heldAt (map holderOf (k .list)) ends x now j) (counted 0 n)) looked
+      ∙ trim-same (λ M j. not (heldAt (map holderOf (k .list)) ends x now j)) (λ M j. not (canCover x now (latest (claimsOf k)) (getD (k .list) j noClaim)))
+      (counted 0 (length (claimsOf k)))
+      (all-imp (λ j. j < length (claimsOf k))
+      (λ j. not (heldAt (map holderOf (k .list)) ends x now j) ≡ not (canCover x now (latest (claimsOf k)) (getD (k .list) j noClaim)))
+      (λ j inside. rw (List·getD-map holderOf (k .list) j noClaim, tells j inside)) (counted 0 (length (claimsOf k))) places-below)
 
-module _ (holders weights expiries : List ℕ) where
+module _ (holders ends : List ℕ) where
   -- the first places, as many as are counted, are the gathered ones
   pub gathered-first : (n x now : ℕ)
-      → take (gatheredBy holders weights expiries n x now .count) (gatheredBy holders weights expiries n x now .places)
-      ≡ heldPlaces holders weights expiries n x now
+      → take (gatheredBy holders ends n x now .count) (gatheredBy holders ends n x now .places) ≡ heldPlaces holders ends n x now
   unfolding gatheredBy
   gathered-first n x now =
-      take-append-seam (heldPlaces holders weights expiries n x now) (replicate (claimLimit - length (heldPlaces holders weights expiries n x now)) 0)
+      take-append-seam (heldPlaces holders ends n x now) (replicate (claimLimit - length (heldPlaces holders ends n x now)) 0)
 
-  looked-none : lookedAt holders weights expiries 0 ≡ 0
+  looked-none : lookedAt holders ends 0 ≡ 0
   unfolding lookedAt
   looked-none = omega arith
 
   -- of no claims none are gathered
-  pub held-none : (x now : ℕ) → heldPlaces holders weights expiries 0 x now ≡ []
-  held-none x now =
-      rw looked-none (filter-nil (λ j. canCover x now (heldAt holders weights expiries j)))
+  pub held-none : (x now : ℕ) → heldPlaces holders ends 0 x now ≡ []
+  held-none x now = rw looked-none (filter-nil (λ j. heldAt holders ends x now j))
 
 -- the spot of x among the first m of a list of resources
 module _ (os : List Resource) (m x : ℕ) where

@@ -1,8 +1,7 @@
-// The claims that can cover for an actor, gathered once for an action by lent columns, and where a resource stands.
+// When each claim ends, the claims that can cover for an actor, gathered once for an action by lent columns, and where a resource stands.
 ghost use mathlib.Core.Path.{_≡_};
-ghost use Rattle.gathering.specs.Gathering.{spotIn, canCover, heldClaim, lookedAt, gatheredBy};
+ghost use Rattle.gathering.specs.Gathering.{spotIn, endUnder, endsOf, lookedAt, gatheredBy};
 use columns::Place;
-use register::Claim;
 use register::Register;
 
 // The places of the claims that can cover, in register order; 0 past the count.
@@ -22,51 +21,64 @@ pub fn spot(reports: &[u32], m: usize, x: u32) -> usize
     }
 }
 
-// Whether a claim with this holder, weight and expiry is held by `x` and live at the moment.
-fn can_cover(holder: u32, weight: u32, expiry: u64, x: u32, moment: u64) -> bool
-    ensures { λ r. ⌜ r ≡ canCover x moment (heldClaim holder weight expiry) ⌝ }
+// The end of a claim by its weight, its expiry and the end of what it is drawn from.
+fn end_under(weight: u32, expiry: u64, most: u64) -> u64
+    ensures { λ r. ⌜ r ≡ endUnder weight expiry most ⌝ }
 {
-    if holder != x {
-        return false;
+    if weight == 0 {
+        return 0;
     }
-    let c = Claim {
-        id: 0,
-        parent: 0,
-        grantor: 0,
-        holder,
-        resource: 0,
-        rights: 0,
-        weight,
-        expiry,
-    };
-    c.is_live(moment)
+    if expiry == 0 {
+        return most;
+    }
+    if expiry < most { expiry } else { most }
+}
+
+// The end of each of the first `n` claims, by their columns and the places of their parents: the first moment at which it is not live. A claim
+// has no later end than its parent, whose end is found before it; 2^32 is for never, and 0 stands past the claims.
+pub fn ends<'a>(
+    weights: &'a [u32],
+    expiries: &'a [u64],
+    ups: &'a [usize],
+    n: usize,
+) -> [u64; Register::CLAIMS]
+    ensures { λ r. ⌜ r ≡ endsOf (now (weights .entry)) (now (expiries .entry)) (now (ups .entry)) n ⌝ }
+{
+    let long = columns::least(weights.len(), columns::least(expiries.len(), ups.len()));
+    let top = columns::least(n, columns::least(Register::CLAIMS, long));
+    let mut found = [0u64; Register::CLAIMS];
+    let mut i: usize = 0;
+    while i < top {
+        let up = ups[i];
+        if up < i {
+            found[i] = end_under(weights[i], expiries[i], found[up]);
+            i += 1;
+        } else {
+            found[i] = end_under(weights[i], expiries[i], register::MOMENT_END);
+            i += 1;
+        }
+    }
+    found
 }
 
 // How many of the first `n` are looked at: as many as there are in each column.
-fn looked_at<'a>(holders: &'a [u32], weights: &'a [u32], expiries: &'a [u64], n: usize) -> usize
-    ensures { λ r. ⌜ r ≡ lookedAt (now (holders .entry)) (now (weights .entry)) (now (expiries .entry)) n ⌝ }
+fn looked_at<'a>(holders: &'a [u32], ends: &'a [u64], n: usize) -> usize
+    ensures { λ r. ⌜ r ≡ lookedAt (now (holders .entry)) (now (ends .entry)) n ⌝ }
 {
-    let long = columns::least(holders.len(), columns::least(weights.len(), expiries.len()));
+    let long = columns::least(holders.len(), ends.len());
     columns::least(n, columns::least(Register::CLAIMS, long))
 }
 
-// Of the first `n` claims, by their columns, those that `x` holds and that are live at the moment.
-pub fn gather<'a>(
-    holders: &'a [u32],
-    weights: &'a [u32],
-    expiries: &'a [u64],
-    n: usize,
-    x: u32,
-    moment: u64,
-) -> Gathered
-    ensures { λ r. ⌜ r ≡ gatheredBy (now (holders .entry)) (now (weights .entry)) (now (expiries .entry)) n x moment ⌝ }
+// Of the first `n` claims, by their columns, those that `x` holds and that have not ended at the moment.
+pub fn gather<'a>(holders: &'a [u32], ends: &'a [u64], n: usize, x: u32, moment: u64) -> Gathered
+    ensures { λ r. ⌜ r ≡ gatheredBy (now (holders .entry)) (now (ends .entry)) n x moment ⌝ }
 {
     let mut places = [0usize; Register::CLAIMS];
     let mut count: usize = 0;
-    let top = looked_at(holders, weights, expiries, n);
+    let top = looked_at(holders, ends, n);
     let mut i: usize = 0;
     while i < top {
-        if can_cover(holders[i], weights[i], expiries[i], x, moment) {
+        if (holders[i] == x) & (moment < ends[i]) {
             places[count] = i;
             count += 1;
             i += 1;

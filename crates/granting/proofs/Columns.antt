@@ -5,21 +5,21 @@ use mathlib.Core.List.{[], _∷_}
 use Prim.Native.Nat.{ℕ, _<_}
 use lib.Dec.{eqb}
 use lib.ListN.{length, take, getD, length-map}
-use Rattle.lists.specs.Lists.{any, any-reverse}
+use Rattle.lists.specs.Lists.{any, any-reverse, every}
 use Rattle.register.specs.Limits.{machineKind}
 use Rattle.register.specs.Register.{actorsOf, resourcesOf, claimsOf, noClaim}
-use Rattle.register.specs.Chain.{latest, above}
+use Rattle.register.specs.Chain.{latest, above, current}
 use Rattle.register.specs.declared.Actors.{Actors}
 use Rattle.register.specs.declared.Resources.{Resources}
 use Rattle.register.specs.declared.Claims.{Claims}
 use Rattle.register.specs.declared.Claim.{Claim}
-use Rattle.columns.specs.Columns.{actorId, actorKind, ownerOf, resourceId, keeperOf, claimId, beside, latestPlace, chainPlaces}
-use Rattle.columns.specs.Columns.{actorColumns, resourceColumns, claimColumns}
+use Rattle.columns.specs.Columns.{actorId, actorKind, ownerOf, resourceId, keeperOf, claimId, beside, latestPlace, chainPlaces, actorColumns, resourceColumns, claimColumns}
+use Rattle.columns.specs.Columns.{currentAt}
 use Rattle.columns.specs.declared.ActorColumns.{ActorColumns}
 use Rattle.columns.specs.declared.ResourceColumns.{ResourceColumns}
 use Rattle.columns.specs.declared.ClaimColumns.{ClaimColumns}
 use Rattle.columns.specs.declared.Place.the-variants.{At, Nowhere}
-use Rattle.columns.specs.Laws.{among-natural, beside-natural, chain-natural, circling-natural, latest-place-found, chain-found, chain-nowhere}
+use Rattle.columns.specs.Laws.{among-natural, beside-natural, chain-natural, circling-natural, latest-place-found, chain-found, chain-nowhere, current-natural}
 use Rattle.rules.specs.Sound.{worldOf, namesStand, rootKept}
 use Rattle.alone.specs.Judged.{worldBy}
 use Rattle.granting.specs.Drawn.{chainTests}
@@ -77,6 +77,11 @@ module _ (k : Claims) (c : Claim) {s : ClaimColumns} (claims : s ≡ claimColumn
     pub parent-stands : (c .parent ≡ 0 → ⊥)
         → above (latest (claimsOf k)) c ≡ getD (k .list) j noClaim ∷ above (latest (take j (k .list))) (getD (k .list) j noClaim)
     parent-stands o = chain-found (k .list) (k .count) (c .parent) j o at-place
+
+  -- whether every claim of the chain is current
+  pub source-asked : (now : ℕ) {b : Bool} → b ≡ every (currentAt (s .weights) (s .expiries) now) (chainPlaces (s .ids) (s .parents) (k .count) (c .parent))
+      → b ≡ every (current now) (above (latest (claimsOf k)) c)
+  source-asked now e = e ∙ rw claims (current-natural (k .list) now (k .count) (c .parent))
 
   -- the chain's length, and whether the claim's holder stands on it
   pub chain-asked : chainTests (λ j. getD (s .grantors) j 0) (λ j. getD (s .holders) j 0) (chainPlaces (s .ids) (s .parents) (k .count) (c .parent)) (c .holder)

@@ -6,10 +6,10 @@ use Prim.Native.Nat.{ℕ, _<_}
 use lib.Dec.{eqb, leb, ltb}
 use lib.ListN.{length}
 use borrow.Author.Tests.{eq-eqb, ne-eqb, ltb-true}
-use Rattle.lists.specs.Lists.{any}
+use Rattle.lists.specs.Lists.{any, every}
 use Rattle.rights.specs.Rights.{delegating, hasRight, hasRights, barsMachine}
 use Rattle.register.specs.Limits.{claimLimit, hopLimit, momentEnd}
-use Rattle.register.specs.Chain.{above, circling, live}
+use Rattle.register.specs.Chain.{above, circling, current}
 use Rattle.register.specs.declared.Claim.{Claim}
 use Rattle.register.specs.declared.Register.{Register}
 use Rattle.rules.specs.Sound.{World, sound, claimFits, namesStand, rootKept}
@@ -17,8 +17,8 @@ use Rattle.refusals.specs.Refusals.{outcomeOf}
 use Rattle.changes.specs.Changes.{worldIn, standing, worldTests, parentTests, grantTests, appended, granted}
 use Rattle.refusals.specs.Laws.{outcome-first, outcome-append, outcome-append-refused}
 use Rattle.refusals.specs.declared.Refusal.{Refusal}
-use Rattle.refusals.specs.declared.Refusal.the-variants.{Unsound, OutOfRange, Unknown, IdStands, Full, NotKeeper, Ownerless, MachineBarred, ParentAbsent}
-use Rattle.refusals.specs.declared.Refusal.the-variants.{ParentNotHeld, ParentDead, NoDelegate, RightLacking, WeightAbove, TooManyHops, Circle}
+use Rattle.refusals.specs.declared.Refusal.the-variants.{Unsound, OutOfRange, Unknown, IdStands, Full, NotKeeper, Ownerless, MachineBarred, ParentAbsent, ParentNotHeld}
+use Rattle.refusals.specs.declared.Refusal.the-variants.{ParentDead, NoDelegate, RightLacking, WeightAbove, TooManyHops, Circle}
 use Rattle.refusals.specs.declared.Outcome.{Outcome}
 use Rattle.refusals.specs.declared.Outcome.the-variants.{Accepted, Refused}
 use Rattle.granting.specs.Drawn.{toldTests, drawnTests, chainTests, world-tests, parent-tests}
@@ -65,37 +65,37 @@ module _ (w : World) (stands : Bool) (n : ℕ) (c : Claim) where
               machine-grants e = rw (names, unused, room, kept, machine, owned, e)
 
 -- tests 10 to 14
-module _ (now : ℕ) (p c : Claim) where
-  pub not-held : eqb (p .holder) (c .grantor) ≡ false → outcomeOf (drawnTests now p c) ≡ Refused ParentNotHeld
+module _ (lives : Bool) (p c : Claim) where
+  pub not-held : eqb (p .holder) (c .grantor) ≡ false → outcomeOf (drawnTests lives p c) ≡ Refused ParentNotHeld
   unfolding drawnTests outcomeOf
   not-held e = rw e
 
   module _ (held : eqb (p .holder) (c .grantor) ≡ true) where
-    pub elsewhere : eqb (p .resource) (c .resource) ≡ false → outcomeOf (drawnTests now p c) ≡ Refused ParentNotHeld
+    pub elsewhere : eqb (p .resource) (c .resource) ≡ false → outcomeOf (drawnTests lives p c) ≡ Refused ParentNotHeld
     unfolding drawnTests outcomeOf
     elsewhere e = rw (held, e)
 
     module _ (same : eqb (p .resource) (c .resource) ≡ true) where
-      pub dead : live now p ≡ false → outcomeOf (drawnTests now p c) ≡ Refused ParentDead
+      pub dead : lives ≡ false → outcomeOf (drawnTests lives p c) ≡ Refused ParentDead
       unfolding drawnTests outcomeOf
       dead e = rw (held, same, e)
 
-      module _ (living : live now p ≡ true) where
-        pub no-delegate : hasRight (p .rights) delegating ≡ false → outcomeOf (drawnTests now p c) ≡ Refused NoDelegate
+      module _ (living : lives ≡ true) where
+        pub no-delegate : hasRight (p .rights) delegating ≡ false → outcomeOf (drawnTests lives p c) ≡ Refused NoDelegate
         unfolding drawnTests outcomeOf
         no-delegate e = rw (held, same, living, e)
 
         module _ (delegates : hasRight (p .rights) delegating ≡ true) where
-          pub right-lacking : hasRights (p .rights) (c .rights) ≡ false → outcomeOf (drawnTests now p c) ≡ Refused RightLacking
+          pub right-lacking : hasRights (p .rights) (c .rights) ≡ false → outcomeOf (drawnTests lives p c) ≡ Refused RightLacking
           unfolding drawnTests outcomeOf
           right-lacking e = rw (held, same, living, delegates, e)
 
           module _ (contains : hasRights (p .rights) (c .rights) ≡ true) where
-            pub weight-above : leb (c .weight) (p .weight) ≡ false → outcomeOf (drawnTests now p c) ≡ Refused WeightAbove
+            pub weight-above : leb (c .weight) (p .weight) ≡ false → outcomeOf (drawnTests lives p c) ≡ Refused WeightAbove
             unfolding drawnTests outcomeOf
             weight-above e = rw (held, same, living, delegates, contains, e)
 
-            pub drawn-well : leb (c .weight) (p .weight) ≡ true → outcomeOf (drawnTests now p c) ≡ Accepted
+            pub drawn-well : leb (c .weight) (p .weight) ≡ true → outcomeOf (drawnTests lives p c) ≡ Accepted
             unfolding drawnTests outcomeOf
             drawn-well e = rw (held, same, living, delegates, contains, e)
 
@@ -122,7 +122,7 @@ module _ (now : ℕ) (l : List Claim) (c : Claim) where
 
   -- the parent p stands: its tests, and then those of the chain
   pub parent-present : {p : Claim} {higher : List Claim} → l ≡ p ∷ higher
-      → outcomeOf (parentTests now l c) ≡ outcomeOf (drawnTests now p c ++ chainTests (λ d. d .grantor) (λ d. d .holder) l (c .holder))
+      → outcomeOf (parentTests now l c) ≡ outcomeOf (drawnTests (every (current now) l) p c ++ chainTests (λ d. d .grantor) (λ d. d .holder) l (c .holder))
   parent-present {p} {higher} stands = rw stands (ap outcomeOf (parent-tests now p higher c))
 
 -- tests 1 to 16

@@ -7,16 +7,16 @@ use mathlib.Core.List.{List, [], _∷_, _++_}
 use Prim.Native.Nat.{ℕ}
 use lib.Dec.{eqb, leb, ltb}
 use lib.ListN.{length}
-use Rattle.lists.specs.Lists.{any}
+use Rattle.lists.specs.Lists.{any, every}
 use Rattle.rights.specs.Rights.{delegating, hasRight, hasRights, barsMachine}
 use Rattle.register.specs.Limits.{claimLimit, hopLimit}
-use Rattle.register.specs.Chain.{circling, live}
+use Rattle.register.specs.Chain.{circling, current}
 use Rattle.register.specs.declared.Claim.{Claim}
 use Rattle.rules.specs.Sound.{World, namesStand, fresh, rootKept}
 use Rattle.refusals.specs.Refusals.{Test}
 use Rattle.changes.specs.Changes.{sourceLive, worldTests, parentTests}
-use Rattle.refusals.specs.declared.Refusal.the-variants.{Unknown, IdStands, Full, NotKeeper, Ownerless, MachineBarred}
-use Rattle.refusals.specs.declared.Refusal.the-variants.{ParentNotHeld, ParentDead, NoDelegate, RightLacking, WeightAbove, TooManyHops, Circle}
+use Rattle.refusals.specs.declared.Refusal.the-variants.{Unknown, IdStands, Full, NotKeeper, Ownerless, MachineBarred, ParentNotHeld, ParentDead, NoDelegate, RightLacking}
+use Rattle.refusals.specs.declared.Refusal.the-variants.{WeightAbove, TooManyHops, Circle}
 
 -- tests 3 to 8 in a world, where it is told whether the id of the claim c stands, and that n claims do
 unfoldable pub toldTests : World → Bool → ℕ → Claim → List Test
@@ -29,11 +29,11 @@ toldTests w stands n c =
     ∷ record { passed = not (w .machine (c .grantor) && barsMachine (c .rights)); refusal = MachineBarred }
     ∷ []
 
--- tests 10 to 14, of the parent p and the claim c alone
-unfoldable pub drawnTests : ℕ → Claim → Claim → List Test
-drawnTests now p c =
+-- tests 10 to 14, of the parent p, whether it lives, and the claim c
+unfoldable pub drawnTests : Bool → Claim → Claim → List Test
+drawnTests lives p c =
     record { passed = eqb (p .holder) (c .grantor) && eqb (p .resource) (c .resource); refusal = ParentNotHeld }
-    ∷ record { passed = live now p; refusal = ParentDead }
+    ∷ record { passed = lives; refusal = ParentDead }
     ∷ record { passed = hasRight (p .rights) delegating; refusal = NoDelegate }
     ∷ record { passed = hasRights (p .rights) (c .rights); refusal = RightLacking }
     ∷ record { passed = leb (c .weight) (p .weight); refusal = WeightAbove }
@@ -51,12 +51,12 @@ pub world-tests : (w : World) (earlier : List Claim) (n : ℕ) (c : Claim)
 unfolding worldTests toldTests fresh
 world-tests w earlier n c = refl
 
--- the liveness that a grant asks for is the parent's
-pub source-live : (now : ℕ) (p : Claim) (higher : List Claim) → sourceLive now (p ∷ higher) ≡ live now p
+-- the liveness that a grant asks for is that of every claim from the parent up
+pub source-live : (now : ℕ) (p : Claim) (higher : List Claim) → sourceLive now (p ∷ higher) ≡ every (current now) (p ∷ higher)
 unfolding sourceLive
 source-live now p higher = refl
 
 pub parent-tests : (now : ℕ) (p : Claim) (higher : List Claim) (c : Claim)
-    → parentTests now (p ∷ higher) c ≡ drawnTests now p c ++ chainTests (λ d. d .grantor) (λ d. d .holder) (p ∷ higher) (c .holder)
+    → parentTests now (p ∷ higher) c ≡ drawnTests (every (current now) (p ∷ higher)) p c ++ chainTests (λ d. d .grantor) (λ d. d .holder) (p ∷ higher) (c .holder)
 unfolding parentTests drawnTests chainTests
 parent-tests now p higher c = rw (source-live now p higher)

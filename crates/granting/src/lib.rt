@@ -54,9 +54,9 @@ fn world_outcome(a: Actors, o: Resources, stands: bool, n: usize, c: Claim) -> O
     Outcome::Accepted
 }
 
-// Tests 10 to 14, of the parent and the claim alone.
-fn drawn_outcome(p: Claim, c: Claim, now: u64) -> Outcome
-    ensures { λ r. ⌜ r ≡ outcomeOf (drawnTests now p c) ⌝ }
+// Tests 10 to 14, of the parent and the claim: `lives` says whether the parent is live, which the chain above it decides.
+fn drawn_outcome(p: Claim, c: Claim, lives: bool) -> Outcome
+    ensures { λ r. ⌜ r ≡ outcomeOf (drawnTests lives p c) ⌝ }
 {
     if p.holder != c.grantor {
         return Outcome::Refused(Refusal::ParentNotHeld);
@@ -64,7 +64,7 @@ fn drawn_outcome(p: Claim, c: Claim, now: u64) -> Outcome
     if p.resource != c.resource {
         return Outcome::Refused(Refusal::ParentNotHeld);
     }
-    if !p.is_live(now) {
+    if !lives {
         return Outcome::Refused(Refusal::ParentDead);
     }
     if !rights::has(p.rights, rights::DELEGATE) {
@@ -100,7 +100,7 @@ fn chain_outcome<'a>(
     Outcome::Accepted
 }
 
-// Tests 10 to 16, of the parent `p`, the claim, and the chain above it, over the first `n` claims by their columns.
+// Tests 10 to 16, of the parent `p` and whether it lives, the claim, and the chain above it, over the first `n` claims by their columns.
 fn parent_outcome<'a>(
     ids: &'a [u32],
     parents: &'a [u32],
@@ -109,11 +109,11 @@ fn parent_outcome<'a>(
     n: usize,
     p: Claim,
     c: Claim,
-    moment: u64,
+    lives: bool,
 ) -> Outcome
-    ensures { λ r. ⌜ r ≡ outcomeOf (drawnTests moment p c ++ chainTests (λ j. getD (now (grantors .entry)) j 0) (λ j. getD (now (holders .entry)) j 0) (chainPlaces (now (ids .entry)) (now (parents .entry)) n (c .parent)) (c .holder)) ⌝ }
+    ensures { λ r. ⌜ r ≡ outcomeOf (drawnTests lives p c ++ chainTests (λ j. getD (now (grantors .entry)) j 0) (λ j. getD (now (holders .entry)) j 0) (chainPlaces (now (ids .entry)) (now (parents .entry)) n (c .parent)) (c .holder)) ⌝ }
 {
-    let drawn = drawn_outcome(p, c, moment);
+    let drawn = drawn_outcome(p, c, lives);
     match drawn {
         Outcome::Refused(why) => Outcome::Refused(why),
         Outcome::Accepted => {
@@ -152,6 +152,15 @@ fn grant_outcome(r: Register, c: Claim, now: u64) -> Outcome
                 Place::Nowhere => Outcome::Refused(Refusal::ParentAbsent),
                 Place::At(at) => {
                     let p = k.list[at];
+                    let lives = columns::all_current(
+                        &claims.ids,
+                        &claims.parents,
+                        &claims.weights,
+                        &claims.expiries,
+                        k.count,
+                        c.parent,
+                        now,
+                    );
                     parent_outcome(
                         &claims.ids,
                         &claims.parents,
@@ -160,7 +169,7 @@ fn grant_outcome(r: Register, c: Claim, now: u64) -> Outcome
                         k.count,
                         p,
                         c,
-                        now,
+                        lives,
                     )
                 }
             }

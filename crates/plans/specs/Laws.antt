@@ -66,7 +66,7 @@ module _ (r : Register) (shaped : Shaped r) (h : sound r ≡ true) where
   -- the verdict on an action in range
   verdict-natural : (a : Action) → Fit r a → judgedAs (judgedBy (lentOf (viewOf r)) a .violations .count) ≡ judged (violationsOf r a)
   verdict-natural a fit =
-      ap (λ y. judgedAs (y .violations .count)) (view-natural r shaped a ∙ judged-natural r shaped h a (fit .fits)) ∙ judged-counted (violationsOf r a)
+      ap (λ y. judgedAs (y .violations .count)) (view-natural r shaped h a (fit .fits) ∙ judged-natural r shaped h a (fit .fits)) ∙ judged-counted (violationsOf r a)
 
   -- the verdicts on actions in range
   pub judgements-natural : (cancelled : Bool) (actions : List Action) → All (λ a. Fit r a) actions

@@ -81,15 +81,14 @@ fn judge<'a>(
     parents: &'a [u32],
     holders: &'a [u32],
     rights: &'a [u32],
-    weights: &'a [u32],
-    expiries: &'a [u64],
+    ends: &'a [u64],
     spots: &'a [usize],
     ups: &'a [usize],
     claims: usize,
     a: Action,
     cancelled: bool,
 ) -> Judgement
-    ensures { λ v. ⌜ v ≡ cond cancelled Judgement.Cancelled (judgedAs (judgedBy (record { names = now (names .entry); kinds = now (kinds .entry); owners = now (owners .entry); actors = actors; reports = now (reports .entry); publics = now (publics .entry); resources = resources; bytes = now (bytes .entry); lens = now (lens .entry); parents = now (parents .entry); holders = now (holders .entry); rights = now (rights .entry); weights = now (weights .entry); expiries = now (expiries .entry); spots = now (spots .entry); ups = now (ups .entry); claims = claims }) a .violations .count)) ⌝ }
+    ensures { λ v. ⌜ v ≡ cond cancelled Judgement.Cancelled (judgedAs (judgedBy (record { names = now (names .entry); kinds = now (kinds .entry); owners = now (owners .entry); actors = actors; reports = now (reports .entry); publics = now (publics .entry); resources = resources; bytes = now (bytes .entry); lens = now (lens .entry); parents = now (parents .entry); holders = now (holders .entry); rights = now (rights .entry); ends = now (ends .entry); spots = now (spots .entry); ups = now (ups .entry); claims = claims }) a .violations .count)) ⌝ }
 {
     if cancelled {
         return Judgement::Cancelled;
@@ -107,8 +106,7 @@ fn judge<'a>(
         parents,
         holders,
         rights,
-        weights,
-        expiries,
+        ends,
         spots,
         ups,
         claims,
@@ -135,14 +133,13 @@ fn judge_all<'a>(
     parents: &'a [u32],
     holders: &'a [u32],
     rights: &'a [u32],
-    weights: &'a [u32],
-    expiries: &'a [u64],
+    ends: &'a [u64],
     spots: &'a [usize],
     ups: &'a [usize],
     claims: usize,
     p: Plan,
 ) -> PlanVerdict
-    ensures { λ v. ⌜ v ≡ held (judgementsBy (record { names = now (names .entry); kinds = now (kinds .entry); owners = now (owners .entry); actors = actors; reports = now (reports .entry); publics = now (publics .entry); resources = resources; bytes = now (bytes .entry); lens = now (lens .entry); parents = now (parents .entry); holders = now (holders .entry); rights = now (rights .entry); weights = now (weights .entry); expiries = now (expiries .entry); spots = now (spots .entry); ups = now (ups .entry); claims = claims }) false (actionsOf p)) ⌝ }
+    ensures { λ v. ⌜ v ≡ held (judgementsBy (record { names = now (names .entry); kinds = now (kinds .entry); owners = now (owners .entry); actors = actors; reports = now (reports .entry); publics = now (publics .entry); resources = resources; bytes = now (bytes .entry); lens = now (lens .entry); parents = now (parents .entry); holders = now (holders .entry); rights = now (rights .entry); ends = now (ends .entry); spots = now (spots .entry); ups = now (ups .entry); claims = claims }) false (actionsOf p)) ⌝ }
 {
     let top = columns::least(p.count, Plan::ACTIONS);
     let none = Judged {
@@ -166,8 +163,7 @@ fn judge_all<'a>(
             parents,
             holders,
             rights,
-            weights,
-            expiries,
+            ends,
             spots,
             ups,
             claims,
@@ -214,8 +210,7 @@ pub fn plan(r: Register, p: Plan) -> PlanVerdict
             &v.claims.parents,
             &v.claims.holders,
             &v.claims.rights,
-            &v.claims.weights,
-            &v.claims.expiries,
+            &v.ends,
             &v.spots,
             &v.ups,
             v.counts.claims,

@@ -24,7 +24,7 @@ pub enum Refusal {
     ParentAbsent,
     // 10: the parent is not held by the grantor, or is on another resource.
     ParentNotHeld,
-    // 11: the parent is not live at the moment.
+    // 11: the parent is not live at the moment: its weight is 0 or it has expired, or a claim higher on its chain has.
     ParentDead,
     // 12: the parent lacks DELEGATE.
     NoDelegate,

@@ -1,10 +1,10 @@
 -- The chain of a claim, its hop count, and when a claim is live.
-use mathlib.Core.Bool.{Bool, false, _&&_, _||_, cond}
+use mathlib.Core.Bool.{Bool, false, not, _&&_, _||_, cond}
 use mathlib.Core.List.{List, [], _∷_, reverse}
 use Prim.Native.Nat.{ℕ}
-use lib.Dec.{eqb, ltb}
+use lib.Dec.{eqb, leb, ltb}
 use lib.ListN.{length}
-use Rattle.lists.specs.Lists.{any}
+use Rattle.lists.specs.Lists.{any, every}
 use Rattle.register.specs.declared.Claim.{Claim}
 
 -- a list from its last element to its first: what stands earlier comes later
@@ -43,6 +43,14 @@ rootGranted grantor (c ∷ d ∷ l) h = rootGranted grantor (d ∷ l) h
 unfoldable pub circling : {A : Type 0} → (A → ℕ) → (A → ℕ) → List A → ℕ → Bool
 circling grantor holder l h = any (λ c. eqb (holder c) h) l || rootGranted grantor l h
 
--- a claim is live at a moment when its weight is above 0 and its expiry is 0 or above that moment
-abbrev pub live : ℕ → Claim → Bool
-live now c = ltb 0 (c .weight) && (eqb (c .expiry) 0 || ltb now (c .expiry))
+-- a claim has expired at a moment when its expiry is not 0 and not above that moment
+abbrev pub expired : ℕ → Claim → Bool
+expired now c = not (eqb (c .expiry) 0) && leb (c .expiry) now
+
+-- a claim by itself is current at a moment when its weight is above 0 and it has not expired
+abbrev pub current : ℕ → Claim → Bool
+current now c = ltb 0 (c .weight) && not (expired now c)
+
+-- a claim is live at a moment when every claim on its chain, the claim included, is current
+abbrev pub live : ℕ → List Claim → Claim → Bool
+live now earlier c = every (current now) (chainOf earlier c)

@@ -3,7 +3,7 @@
 // never cut down to something else. The structs cross to C as they are.
 ghost use mathlib.Core.Path.{_≡_};
 ghost use Rattle.register.specs.Register.{noClaim, emptyRegister};
-ghost use Rattle.register.specs.Chain.{live};
+ghost use Rattle.register.specs.Chain.{current};
 ghost use Rattle.register.specs.Limits.{isId};
 
 // The greatest id, and the greatest number of an owner, parent, keeper, grantor, holder or claimed resource.
@@ -147,9 +147,9 @@ impl Claim {
         }
     }
 
-    // Whether the claim is live at the moment.
-    pub fn is_live(self, now: u64) -> bool
-        ensures { λ r. ⌜ r ≡ live now self ⌝ }
+    // Whether the claim by itself is current at the moment: its weight is above 0 and it has not expired.
+    pub fn is_current(self, now: u64) -> bool
+        ensures { λ r. ⌜ r ≡ current now self ⌝ }
     {
         if self.weight == 0 {
             return false;

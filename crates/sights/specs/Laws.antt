@@ -42,23 +42,23 @@ module _ (r : Register) (shaped : Shaped r) (h : sound r ≡ true) where
   abbrev parents : List ℕ
   parents = map parentOf (r .claims .list)
 
-  abbrev around : World
+  abbrev pub around : World
   around = worldOf (actorsOf (r .actors)) (resourcesOf (r .resources))
 
-  few : r .claims .count ≤ claimLimit
+  pub few : r .claims .count ≤ claimLimit
   few = sound-out r h .limits .claimCount
 
-  long : r .claims .count ≤ length parents
+  pub long : r .claims .count ≤ length parents
   long = omega (arith, few, shaped .claims, length-map (r .claims .list) parentOf)
 
   parent-at : (j : ℕ) → getD parents j 0 ≡ claimAt r j .parent
   parent-at j = List·getD-map parentOf (r .claims .list) j noClaim
 
-  below : (j : ℕ) → j < length (claimsOf (r .claims)) → j < r .claims .count
+  pub below : (j : ℕ) → j < length (claimsOf (r .claims)) → j < r .claims .count
   below j inside = omega (arith, length-take (r .claims .count) (r .claims .list))
 
   -- the claim at a place of the register stands there, behind the claims at the places below
-  abbrev stands-at : (j : ℕ) → j < length (claimsOf (r .claims)) → IsIn (claimsOf (r .claims)) (claimAt r j)
+  abbrev pub stands-at : (j : ℕ) → j < length (claimsOf (r .claims)) → IsIn (claimsOf (r .claims)) (claimAt r j)
   stands-at j inside =
       let before = take-take j (r .claims .count) (r .claims .list) (omega (arith, below j inside)) in
       let here = getD-take (r .claims .count) (r .claims .list) j noClaim (below j inside) in
@@ -71,7 +71,7 @@ module _ (r : Register) (shaped : Shaped r) (h : sound r ≡ true) where
       }
 
   -- in a sound register the claims around it are sound
-  sound-at : (j : ℕ) (inside : j < length (claimsOf (r .claims)))
+  pub sound-at : (j : ℕ) (inside : j < length (claimsOf (r .claims)))
       → soundClaims around (latest (stands-at j inside .after) ++ claimAt r j ∷ latest (take j (r .claims .list))) ≡ true
   sound-at j inside = sound-place r h (claimAt r j) (stands-at j inside)
 

@@ -3,3 +3,4 @@ pub mod Resources
 pub mod Relying
 pub mod Climbing
 pub mod Laws
+pub mod Ends

@@ -15,7 +15,7 @@ use Rattle.lists.specs.Counts.{counted, counted-below, counted-first}
 use Rattle.rights.specs.Rights.{hasRight}
 use Rattle.register.specs.Limits.{resourceLimit, claimLimit}
 use Rattle.register.specs.Register.{claimsOf, noClaim, Shaped}
-use Rattle.register.specs.Chain.{live}
+use Rattle.register.specs.Chain.{live, latest}
 use Rattle.register.specs.declared.Claim.{Claim}
 use Rattle.register.specs.declared.Register.{Register}
 use Rattle.columns.specs.Columns.{resourceId, publicOf, claimedOf, rightsOf}
@@ -131,13 +131,13 @@ module _ (r : Register) (shaped : Shaped r) (h : sound r ≡ true) (now x : ℕ)
   reaches j = reaching (map rightsOf (r .claims .list)) (spotsOf r) (laid (r .resources) .bytes) (laid (r .resources) .lens) (u .right) (spotFor r u) j
 
   -- the claim at a place covers where it can cover and reaches
-  covering-natural : (j : ℕ) → j < length (claimsOf (r .claims)) → canCover x now (claimAt r j) && reaches j ≡ covering r now x u (claimAt r j)
+  covering-natural : (j : ℕ) → j < length (claimsOf (r .claims)) → canCover x now (latest (claimsOf (r .claims))) (claimAt r j) && reaches j ≡ covering r now x u (claimAt r j)
   unfolding covering
   covering-natural j inside =
       let there : j < length (spotsOf r) = spot-there r shaped j inside in
       let spot : getD (spotsOf r) j 0 ≡ spotBy r (claimAt r j .resource) = spot-natural r shaped j inside h in
-      ap (λ b. canCover x now (claimAt r j) && b) (reaching-natural (r .claims .list) (spotsOf r) (r .resources) (shaped .paths) (u .right) (spotFor r u) j)
-      ∙ same-tests (eqb (claimAt r j .holder) x) (live now (claimAt r j)) (hasRight (claimAt r j .rights) (u .right)) (ltb j (length (spotsOf r)))
+      ap (λ b. canCover x now (latest (claimsOf (r .claims))) (claimAt r j) && b) (reaching-natural (r .claims .list) (spotsOf r) (r .resources) (shaped .paths) (u .right) (spotFor r u) j)
+      ∙ same-tests (eqb (claimAt r j .holder) x) (live now (latest (claimsOf (r .claims))) (claimAt r j)) (hasRight (claimAt r j .rights) (u .right)) (ltb j (length (spotsOf r)))
       (ltb (getD (spotsOf r) j 0) resourceLimit) (ltb (spotFor r u) resourceLimit) (containing (r .resources) (getD (spotsOf r) j 0) (spotFor r u))
       (contains r (claimAt r j .resource) (u .resource)) (lt-ltb j (length (spotsOf r)) there)
       (contains-natural r h (claimAt r j .resource) (u .resource)
@@ -148,9 +148,9 @@ module _ (r : Register) (shaped : Shaped r) (h : sound r ≡ true) (now x : ℕ)
       → reliedOn (sightOf r now looking) (coverPlaces (r .claims) x now) (spotFor r u) (u .right) ≡ firstPlace r now x u
   place-natural looking =
       covering-filtered (map rightsOf (r .claims .list)) (spotsOf r) (laid (r .resources) .bytes) (laid (r .resources) .lens) (u .right) (spotFor r u)
-      (λ j. canCover x now (claimAt r j)) (claimPlaces r)
-      ∙ first-same (λ j. canCover x now (claimAt r j) && reaches j) (λ j. covering r now x u (claimAt r j)) (claimPlaces r)
-      (all-imp (λ j. j < length (claimsOf (r .claims))) (λ j. canCover x now (claimAt r j) && reaches j ≡ covering r now x u (claimAt r j))
+      (λ j. canCover x now (latest (claimsOf (r .claims))) (claimAt r j)) (claimPlaces r)
+      ∙ first-same (λ j. canCover x now (latest (claimsOf (r .claims))) (claimAt r j) && reaches j) (λ j. covering r now x u (claimAt r j)) (claimPlaces r)
+      (all-imp (λ j. j < length (claimsOf (r .claims))) (λ j. canCover x now (latest (claimsOf (r .claims))) (claimAt r j) && reaches j ≡ covering r now x u (claimAt r j))
       covering-natural (claimPlaces r) (places-within r))
 
   -- a use is covered where it is open or there is such a place

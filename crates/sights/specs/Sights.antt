@@ -8,14 +8,14 @@ use Rattle.register.specs.Limits.{resourceLimit, claimLimit}
 use Rattle.register.specs.Register.{actorsOf}
 use Rattle.register.specs.declared.Register.{Register}
 use Rattle.rules.specs.Sound.{isMachine}
-use Rattle.columns.specs.Columns.{actorId, ownerOf, resourceId, publicOf, claimId, parentOf, claimedOf, rightsOf, latestPlace}
+use Rattle.columns.specs.Columns.{actorId, ownerOf, resourceId, publicOf, claimId, parentOf, claimedOf, rightsOf, latestPlace, weightOf, expiryOf}
 use Rattle.columns.specs.declared.Place.{Place}
 use Rattle.columns.specs.declared.Place.the-variants.{At, Nowhere}
 use Rattle.actions.specs.declared.Usage.{Usage}
 use Rattle.actions.specs.declared.Violation.{Violation}
 use Rattle.actions.specs.declared.Violation.the-variants.{NotCovered as UseNotCovered, OwnerNotCovering as UseOwnerNotCovering}
 use Rattle.finding.specs.Finding.{placesOf, earlierPlaces}
-use Rattle.gathering.specs.Gathering.{spotIn, coverPlaces}
+use Rattle.gathering.specs.Gathering.{spotIn, coverPlaces, endsOf}
 use Rattle.flat_paths.specs.Laid.{laid}
 use Rattle.use_judging.specs.Uses.{Sight}
 use Rattle.use_judging.specs.declared.Fault.{Fault}
@@ -42,6 +42,10 @@ spotsOf r =
 -- the place of each claim's parent among the claims before it
 abbrev pub upsOf : Register → List ℕ
 upsOf r = earlierPlaces (map claimId (r .claims .list)) (map parentOf (r .claims .list)) (r .claims .count) claimLimit
+
+-- the end of each claim
+abbrev pub endsIn : Register → List ℕ
+endsIn r = endsOf (map weightOf (r .claims .list)) (map expiryOf (r .claims .list)) (upsOf r) (r .claims .count)
 
 -- the columns of a register, with the gathered claims of the actor numbered x and of its owner, which a machine alone is asked for
 abbrev pub sightOf : Register → ℕ → ℕ → Sight

@@ -9,6 +9,9 @@ use Rattle.lists.specs.Lists.{any}
 use Rattle.lists.specs.Each.{All}
 use Rattle.register.specs.Limits.{hopLimit}
 use Rattle.register.specs.Register.{actorsOf, resourcesOf, claimsOf, Same}
+use Rattle.register.specs.Chain.{latest, chainOf, live}
+use Rattle.register.specs.Liveness.{Lasting}
+use Rattle.register.specs.Liveness as liveness
 use Rattle.register.specs.declared.Actor.{Actor}
 use Rattle.register.specs.declared.Claim.{Claim}
 use Rattle.register.specs.declared.Register.{Register}
@@ -29,12 +32,14 @@ use Rattle.verdicts.specs.Gate.{covering, covers, isOwnerless, useViolat
 use Rattle.verdicts.specs.Plans.{actionsOf, judged, held, stopped, planned}
 use Rattle.verdicts.specs.Places.{IsIn}
 use Rattle.verdicts.specs.Laws.{Passed}
+use Rattle.verdicts.specs.Trace.{higherThan}
 use Rattle.verdicts.specs.Authority.{Authority}
 use Rattle.verdicts.specs.Laws as laws
 use Rattle.verdicts.specs.Flags as flags
 use Rattle.verdicts.specs.Machines as machines
 use Rattle.verdicts.specs.Coverage as coverage
 use Rattle.verdicts.specs.Kinds as kinds
+use Rattle.verdicts.specs.Liveness as lives
 use Rattle.verdicts.specs.Authority as authority
 use Rattle.verdicts.specs.Permission as permission
 use Rattle.verdicts.specs.Bounds as bounds
@@ -51,8 +56,8 @@ pub gated-judged : (r : Register) (a : Action) → outcomeOf (gateTests r a) ≡
     → gated r a ≡ record { decision = decided (violationsOf r a); violations = listed (violationsOf r a); hops = padded (hopCounts r a) }
 gated-judged = laws.gated-judged
 
--- 2a. Whatever is permitted rests, use by use, on a public READ or on a live claim of the actor whose chain only weakens from a root granted by the
--- resource's keeper; and a machine's owner, who is a human of the register, has as much.
+-- 2a. Whatever is permitted rests, use by use, on a public READ or on a claim of the actor that is live over its whole chain, which only weakens from
+-- a root granted by the resource's keeper; and a machine's owner, who is a human of the register, has as much.
 pub traceable-authority : (r : Register) (a : Action) → gated r a .decision ≡ Permitted → (u : Usage) → IsIn (usesOf a) u → Authority r a u
 traceable-authority = authority.permitted-authority
 
@@ -65,6 +70,16 @@ permitted-actor = authority.permitted-actor
 pub authority-permits : (r : Register) (a : Action) → Passed r a → a .flags ≡ 0 → isOwnerless r (a .actor) ≡ false
     → (isMachine (actorsOf (r .actors)) (a .actor) ≡ true → governsOf a ≡ []) → ((u : Usage) → IsIn (usesOf a) u → Authority r a u) → gated r a .decision ≡ Permitted
 authority-permits = permission.authority-permits
+
+-- 2d. A claim is live exactly where each claim on its chain has weight above 0, and expiry 0 or above the moment.
+pub live-natural : (now : ℕ) (earlier : List Claim) (c : Claim)
+    → (live now earlier c ≡ true → All (λ d. Lasting now d) (chainOf earlier c)) × (All (λ d. Lasting now d) (chainOf earlier c) → live now earlier c ≡ true)
+live-natural now earlier c = (liveness.live-lasting now earlier c, liveness.lasting-live now earlier c)
+
+-- 2e. In a sound register, where a claim is live, so is each claim higher on its chain: a grant does not outlive its source.
+pub source-lives : (r : Register) → sound r ≡ true → (now : ℕ) (c : Claim) → live now (latest (claimsOf (r .claims))) c ≡ true
+    → All (λ d. live now (latest (claimsOf (r .claims))) d ≡ true) (higherThan r c)
+source-lives = lives.source-lives
 
 -- 3a. A permitted action has no flag set.
 pub permitted-flagless : (r : Register) (a : Action) → gated r a .decision ≡ Permitted → a .flags ≡ 0

@@ -28,16 +28,18 @@ use Rattle.actions.specs.declared.Decision.the-variants.{Permitted}
 use Rattle.verdicts.specs.Gate.{publicRead, contains, covering, covers, isOwnerless, ownerLacks, gated}
 use Rattle.verdicts.specs.Places.{IsIn, any-place, all-place, none-place}
 use Rattle.verdicts.specs.Laws.{UseClean, permitted-out, use-violations-out}
-use Rattle.verdicts.specs.Trace.{higherThan, Attenuates, root-resource, root-rights, root-weight, place-climbing, place-higher, place-attenuating, place-hops-most, place-rooted, place-keeper}
+use Rattle.verdicts.specs.Trace.{higherThan, Attenuates, root-resource, root-rights, root-weight, place-climbing, place-higher, place-attenuating, place-hops-most}
+use Rattle.verdicts.specs.Trace.{place-rooted, place-keeper}
 use Rattle.verdicts.specs.Coverage.{covering-out, covers-cases}
 
 -- the authority of x for a use: a claim that stands, held by x, live, with the right, on a resource whose path contains the used one's; and
--- its chain, each claim of which stands and is drawn from the next, of at most 16 hops, up to a root granted by that resource's keeper
+-- its chain, each claim of which is current, stands and is drawn from the next, of at most 16 hops, up to a root granted by that resource's
+-- keeper
 pub record Traced (r : Register) (now x : ℕ) (u : Usage) : Type 0 where
   pub claim : Claim
   pub standing : IsIn (claimsOf (r .claims)) claim
   pub held : claim .holder ≡ x
-  pub lives : live now claim ≡ true
+  pub lives : live now (latest (claimsOf (r .claims))) claim ≡ true
   pub right : hasRight (claim .rights) (u .right) ≡ true
   pub outer : Resource
   pub outerStanding : IsIn (resourcesOf (r .resources)) outer

@@ -26,14 +26,14 @@ use Rattle.verdicts.specs.Gate.{publicRead, contains, covering, covers, 
 -- what a covering claim is
 pub record Covering (r : Register) (now x : ℕ) (u : Usage) (c : Claim) : Type 0 where
   pub held : eqb (c .holder) x ≡ true
-  pub lives : live now c ≡ true
+  pub lives : live now (latest (claimsOf (r .claims))) c ≡ true
   pub has : hasRight (c .rights) (u .right) ≡ true
   pub containing : contains r (c .resource) (u .resource) ≡ true
 
 pub covering-out : (r : Register) (now x : ℕ) (u : Usage) (c : Claim) → covering r now x u c ≡ true → Covering r now x u c
 unfolding covering
 covering-out r now x u c h =
-    let told = ands-out (eqb (c .holder) x ∷ live now c ∷ hasRight (c .rights) (u .right) ∷ contains r (c .resource) (u .resource) ∷ []) h in
+    let told = ands-out (eqb (c .holder) x ∷ live now (latest (claimsOf (r .claims))) c ∷ hasRight (c .rights) (u .right) ∷ contains r (c .resource) (u .resource) ∷ []) h in
     record { held = told .0; lives = told .1 .0; has = told .1 .1 .0; containing = told .1 .1 .1 .0 }
 
 pub covering-in : (r : Register) (now x : ℕ) (u : Usage) (c : Claim) → Covering r now x u c → covering r now x u c ≡ true

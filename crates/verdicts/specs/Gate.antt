@@ -40,11 +40,11 @@ contains r x y =
     any (λ o. eqb x (o .id) && any (λ i. eqb y (i .id) && contained (pathOf o) (pathOf i)) (resourcesOf (r .resources)))
     (resourcesOf (r .resources))
 
--- a covering claim of x: held by x, live, with that right, on a resource whose path contains the used resource's path
+-- a covering claim of x: held by x, live over its whole chain, with that right, on a resource whose path contains the used resource's path
 unfoldable pub covering : Register → ℕ → ℕ → Usage → Claim → Bool
 covering r now x u c = ands (
     eqb (c .holder) x
-    ∷ live now c
+    ∷ live now (latest (claimsOf (r .claims))) c
     ∷ hasRight (c .rights) (u .right)
     ∷ contains r (c .resource) (u .resource)
     ∷ [])

@@ -7,6 +7,7 @@ pub mod Machines
 pub mod Coverage
 pub mod Kinds
 pub mod Trace
+pub mod Liveness
 pub mod Authority
 pub mod Permission
 pub mod Bounds

@@ -58,7 +58,7 @@ module _ (r s : Register) (same : Same r s) where
 
   claim-same : (now x : ℕ) (u : Usage) (c : Claim) → covering r now x u c ≡ covering s now x u c
   unfolding covering
-  claim-same now x u c = rw (contains-same (c .resource) (u .resource))
+  claim-same now x u c = rw (contains-same (c .resource) (u .resource), same .claims)
 
   covering-same : (now x : ℕ) (u : Usage) → covering r now x u ≡ covering s now x u
   covering-same now x u = fun-ext (λ c. claim-same now x u c)

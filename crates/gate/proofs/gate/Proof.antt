@@ -69,16 +69,17 @@ returns-2 c =
 
 returns-3 : tie.Need-returns-3
 returns-3 c =
-    let told = c .before .before .before .before .before .before .before .before .before .before .before .before .before .before .before .before .before .before .before .before .before .before .before .before .before .before .before .before .before .before .before in
+    let told = c .before .before .before .before .before .before .before .before .before .before .before .before .before .before .before .before .before .before .before .before .before .before .before .before .before .before .before .before .before in
     let looking = told .before .before .before .before .before .before in
     let asked = looking .before .before in
     let s = asked .before in
     let a = s .args in
+    let wholly = shaped s (looking .view-of .ensures .1) in
+    let soundly = sym (asked .is-sound .ensures) ∙ not-false (asked .is-sound .result) (looking .before .if1 .left) in
+    let passed = sym (outcome-seen (a .r) (a .a) (looking .view-of .ensures .0) (told .before .before .action-outcome .ensures)) ∙ told .enum-told .given .1 in
     c .decided .ensures
-    ∙ gate-judged (a .r) (shaped s (looking .view-of .ensures .1))
-    (sym (asked .is-sound .ensures) ∙ not-false (asked .is-sound .result) (looking .before .if1 .left)) (a .a) (c .before .judge-by .result)
-    (sym (outcome-seen (a .r) (a .a) (looking .view-of .ensures .0) (told .before .before .action-outcome .ensures)) ∙ told .enum-told .given .1)
-    (judged-seen (a .r) (a .a) (looking .view-of .ensures .0) (shaped s (looking .view-of .ensures .1)) (c .before .judge-by .ensures))
+    ∙ gate-judged (a .r) wholly soundly (a .a) (c .before .judge-by .result) passed
+    (judged-seen (a .r) (a .a) (looking .view-of .ensures .0) wholly soundly passed (c .before .judge-by .ensures))
 
 pub gate-spec : {M : Type 1} → statement M
 gate-spec =

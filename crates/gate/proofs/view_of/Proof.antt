@@ -22,14 +22,21 @@ places-of-requires c κs = search needs
 earlier-places-requires : tie.Need-earlier-places-requires
 earlier-places-requires c κs = search needs
 
+slice-aggregate-ends : tie.Need-slice-aggregate-ends
+slice-aggregate-ends c = search needs
+
+ends-requires : tie.Need-ends-requires
+ends-requires c κs = search needs
+
 returns : tie.Need-returns
 returns c =
-    let spotted = c .before .before .before .before .before .before in
+    let placed = c .before .before .before .before .before .before .before in
+    let spotted = placed .before .before .before .before .before .before in
     let laying = spotted .before .before .before .before .before .before .before in
     let taken = laying .before .before .before in (
       viewed (taken .before .before .before .before .args .r) (taken .actor-columns .ensures) (laying .before .before .resource-columns .ensures)
           (laying .before .claim-columns .ensures) (laying .lay .ensures .0) (spotted .places-of .ensures)
-          (c .earlier-places .ensures),
+          (placed .earlier-places .ensures) (c .ends .ensures),
       laying .lay .ensures .1,
     )
 
@@ -43,4 +50,6 @@ view-of-spec =
     lay-requires
     places-of-requires
     earlier-places-requires
+    slice-aggregate-ends
+    ends-requires
     returns)

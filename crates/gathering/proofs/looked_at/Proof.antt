@@ -13,13 +13,9 @@ least-requires-2 c κs = search needs
 least-requires-3 : tie.Need-least-requires-3
 least-requires-3 c κs = search needs
 
-least-requires-4 : tie.Need-least-requires-4
-least-requires-4 c κs = search needs
-
 returns : tie.Need-returns
 unfolding lookedAt
-returns c = rw (c .least4 .ensures, c .before .least3 .ensures, c .before .before .least2 .ensures, c .before .before .before .least .ensures)
+returns c = rw (c .least3 .ensures, c .before .least2 .ensures, c .before .before .least .ensures)
 
 pub looked-at-spec : {M : Type 1} → statement M
-looked-at-spec =
-    tie.close (tie.spec least-requires least-requires-2 least-requires-3 least-requires-4 returns)
+looked-at-spec = tie.close (tie.spec least-requires least-requires-2 least-requires-3 returns)

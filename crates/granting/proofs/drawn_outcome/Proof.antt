@@ -10,40 +10,37 @@ returns : tie.Need-returns
 returns c =
     let given = c .before .before .before .args in
     sym
-    (not-held (given .now) (given .p) (given .c)
+    (not-held (given .lives) (given .p) (given .c)
     (ne-eqb _ _ (c .if1 .taken)))
 
 returns-2 : tie.Need-returns-2
 returns-2 c =
     let given = c .before .before .before .before .before .before .args in
     sym
-    (elsewhere (given .now) (given .p) (given .c)
+    (elsewhere (given .lives) (given .p) (given .c)
     (eq-eqb _ _ (c .before .before .before .if1 .left))
     (ne-eqb _ _ (c .if2 .taken)))
 
-is-live-requires : tie.Need-is-live-requires
-is-live-requires c κs = search needs
-
 returns-3 : tie.Need-returns-3
 returns-3 c =
-    let given = c .before .before .before .before .before .before .before .before .args in
+    let given = c .before .before .before .before .before .before .before .args in
     sym
-    (dead (given .now) (given .p) (given .c)
-    (eq-eqb _ _ (c .before .before .before .before .before .if1 .left))
-    (eq-eqb _ _ (c .before .before .if2 .left))
-    (sym (c .before .is-live .ensures) ∙ not-true _ (c .if3 .taken)))
+    (dead (given .lives) (given .p) (given .c)
+    (eq-eqb _ _ (c .before .before .before .before .if1 .left))
+    (eq-eqb _ _ (c .before .if2 .left))
+    (not-true _ (c .if3 .taken)))
 
 has-requires : tie.Need-has-requires
 has-requires c κs = search needs
 
 returns-4 : tie.Need-returns-4
 returns-4 c =
-    let given = c .before .before .before .before .before .before .before .before .before .before .args in
+    let given = c .before .before .before .before .before .before .before .before .before .args in
     sym
-    (no-delegate (given .now) (given .p) (given .c)
-    (eq-eqb _ _ (c .before .before .before .before .before .before .before .if1 .left))
-    (eq-eqb _ _ (c .before .before .before .before .if2 .left))
-    (sym (c .before .before .before .is-live .ensures) ∙ not-false _ (c .before .before .if3 .left))
+    (no-delegate (given .lives) (given .p) (given .c)
+    (eq-eqb _ _ (c .before .before .before .before .before .before .if1 .left))
+    (eq-eqb _ _ (c .before .before .before .if2 .left))
+    (not-false _ (c .before .before .if3 .left))
     (sym (c .before .has .ensures) ∙ not-true _ (c .if4 .taken)))
 
 has-all-requires : tie.Need-has-all-requires
@@ -51,35 +48,35 @@ has-all-requires c κs = search needs
 
 returns-5 : tie.Need-returns-5
 returns-5 c =
-    let given = c .before .before .before .before .before .before .before .before .before .before .before .before .args in
+    let given = c .before .before .before .before .before .before .before .before .before .before .before .args in
     sym
-    (right-lacking (given .now) (given .p) (given .c)
-    (eq-eqb _ _ (c .before .before .before .before .before .before .before .before .before .if1 .left))
-    (eq-eqb _ _ (c .before .before .before .before .before .before .if2 .left))
-    (sym (c .before .before .before .before .before .is-live .ensures) ∙ not-false _ (c .before .before .before .before .if3 .left))
+    (right-lacking (given .lives) (given .p) (given .c)
+    (eq-eqb _ _ (c .before .before .before .before .before .before .before .before .if1 .left))
+    (eq-eqb _ _ (c .before .before .before .before .before .if2 .left))
+    (not-false _ (c .before .before .before .before .if3 .left))
     (sym (c .before .before .before .has .ensures) ∙ not-false _ (c .before .before .if4 .left))
     (sym (c .before .has-all .ensures) ∙ not-true _ (c .if5 .taken)))
 
 returns-6 : tie.Need-returns-6
 returns-6 c =
-    let given = c .before .before .before .before .before .before .before .before .before .before .before .before .before .before .before .args in
+    let given = c .before .before .before .before .before .before .before .before .before .before .before .before .before .before .args in
     sym
-    (weight-above (given .now) (given .p) (given .c)
-    (eq-eqb _ _ (c .before .before .before .before .before .before .before .before .before .before .before .before .if1 .left))
-    (eq-eqb _ _ (c .before .before .before .before .before .before .before .before .before .if2 .left))
-    (sym (c .before .before .before .before .before .before .before .before .is-live .ensures) ∙ not-false _ (c .before .before .before .before .before .before .before .if3 .left))
+    (weight-above (given .lives) (given .p) (given .c)
+    (eq-eqb _ _ (c .before .before .before .before .before .before .before .before .before .before .before .if1 .left))
+    (eq-eqb _ _ (c .before .before .before .before .before .before .before .before .if2 .left))
+    (not-false _ (c .before .before .before .before .before .before .before .if3 .left))
     (sym (c .before .before .before .before .before .before .has .ensures) ∙ not-false _ (c .before .before .before .before .before .if4 .left))
     (sym (c .before .before .before .before .has-all .ensures) ∙ not-false _ (c .before .before .before .if5 .left))
     (lt-leb _ _ (c .if6 .taken)))
 
 returns-7 : tie.Need-returns-7
 returns-7 c =
-    let given = c .before .before .before .before .before .before .before .before .before .before .before .before .before .before .before .args in
+    let given = c .before .before .before .before .before .before .before .before .before .before .before .before .before .before .args in
     sym
-    (drawn-well (given .now) (given .p) (given .c)
-    (eq-eqb _ _ (c .before .before .before .before .before .before .before .before .before .before .before .before .if1 .left))
-    (eq-eqb _ _ (c .before .before .before .before .before .before .before .before .before .if2 .left))
-    (sym (c .before .before .before .before .before .before .before .before .is-live .ensures) ∙ not-false _ (c .before .before .before .before .before .before .before .if3 .left))
+    (drawn-well (given .lives) (given .p) (given .c)
+    (eq-eqb _ _ (c .before .before .before .before .before .before .before .before .before .before .before .if1 .left))
+    (eq-eqb _ _ (c .before .before .before .before .before .before .before .before .if2 .left))
+    (not-false _ (c .before .before .before .before .before .before .before .if3 .left))
     (sym (c .before .before .before .before .before .before .has .ensures) ∙ not-false _ (c .before .before .before .before .before .if4 .left))
     (sym (c .before .before .before .before .has-all .ensures) ∙ not-false _ (c .before .before .before .if5 .left))
     (le-leb _ _ (c .if6 .left)))
@@ -90,7 +87,6 @@ drawn-outcome-spec =
     (tie.spec
     returns
     returns-2
-    is-live-requires
     returns-3
     has-requires
     returns-4

@@ -10,8 +10,8 @@ use Rattle.lists.specs.Loops.{length-mapped}
 use Rattle.register.specs.Register.{claimsOf, noClaim}
 use Rattle.register.specs.Chain.{latest, above}
 use Rattle.refusals.specs.Refusals.{outcomeOf}
-use Rattle.granting.specs.Drawn.{drawnTests}
-use Rattle.granting.proofs.Columns.{stands-asked, parent-nowhere, parent-inside, parent-stands, chain-asked}
+use Rattle.granting.specs.Drawn.{drawnTests, chainTests}
+use Rattle.granting.proofs.Columns.{stands-asked, parent-nowhere, parent-inside, parent-stands, chain-asked, source-asked}
 use Rattle.granting.proofs.Deciding.{unsound, claim-unfit, moment-past, world-refuses, root-granted, parent-decides, parent-absent, parent-present}
 use borrow.Author.Needs.{needs}
 use Rattle.granting.proofs.grant_outcome.Statement.{statement}
@@ -103,6 +103,9 @@ mul-p c =
 element-copy-out-p : tie.Need-element-copy-out-p
 element-copy-out-p c = found-inside c
 
+all-current-requires : tie.Need-all-current-requires
+all-current-requires c κs = search needs
+
 parent-outcome-requires : tie.Need-parent-outcome-requires
 parent-outcome-requires c κs = search needs
 
@@ -133,18 +136,29 @@ returns-6 c =
 
 returns-7 : tie.Need-returns-7
 returns-7 c =
-    let given = c .before .before .before .before .before .before .before .before .before .before .before .before .before .before .before .before .before .before .before .before .before .before .before .before .before .before .before .before .before .before .before .before .before .before .before .before .args in
+    let lived = c .before .before .before .before .before .before .before .before .before .before in
+    let placed = lived .before .before .before .before .before .before .before .before .before .before .before .before in
+    let looked = placed .before .before in
+    let judged = looked .before .before .before .before .before .before in
+    let taken = judged .before .before .before .before .before .before .before in
+    let timed = taken .before .before .before .before in
+    let given = timed .before .before .before .before .before .args in
+    let k = given .r .claims in
+    let p = getD (k .list) (placed .place .given .0 .0) noClaim in
     sym
     (parent-decides (given .r) (given .c) (given .now)
-    (sym (c .before .before .before .before .before .before .before .before .before .before .before .before .before .before .before .before .before .before .before .before .before .before .before .before .before .before .before .before .before .before .before .before .before .before .before .is-sound .ensures) ∙ not-false _ (c .before .before .before .before .before .before .before .before .before .before .before .before .before .before .before .before .before .before .before .before .before .before .before .before .before .before .before .before .before .before .before .before .before .before .if1 .left))
-    (sym (c .before .before .before .before .before .before .before .before .before .before .before .before .before .before .before .before .before .before .before .before .before .before .before .before .before .before .before .before .before .before .before .before .before .claim-fits .ensures) ∙ not-false _ (c .before .before .before .before .before .before .before .before .before .before .before .before .before .before .before .before .before .before .before .before .before .before .before .before .before .before .before .before .before .before .before .before .if2 .left))
-    (lt-ltb _ _ (c .before .before .before .before .before .before .before .before .before .before .before .before .before .before .before .before .before .before .before .before .before .before .before .before .before .before .before .before .before .before .before .if3 .left))
-    (stands-asked (given .r .claims) (given .c) (c .before .before .before .before .before .before .before .before .before .before .before .before .before .before .before .before .before .before .before .before .before .before .before .before .before .before .before .claim-columns .ensures) (c .before .before .before .before .before .before .before .before .before .before .before .before .before .before .before .before .before .before .before .before .before .before .before .is-among .ensures))
-    (sym (c .before .before .before .before .before .before .before .before .before .before .before .before .before .before .before .before .before .before .before .before .before .before .world-outcome .ensures) ∙ c .before .before .before .before .before .before .before .before .before .before .before .before .before .before .before .before .before .before .before .before .enum-told .given .1)
-    (c .before .before .before .before .before .before .before .before .before .before .before .before .before .before .before .before .before .before .if4 .left)
-    (parent-present (given .now) (above (latest (claimsOf (given .r .claims))) (given .c)) (given .c)
-    (parent-stands (given .r .claims) (given .c) (c .before .before .before .before .before .before .before .before .before .before .before .before .before .before .before .before .before .before .before .before .before .before .before .before .before .before .before .claim-columns .ensures) (sym (c .before .before .before .before .before .before .before .before .before .before .before .before .before .before .latest-place .ensures) ∙ c .before .before .before .before .before .before .before .before .before .before .before .before .place .given .1) (c .before .before .before .before .before .before .before .before .before .before .before .before .before .before .before .before .before .before .if4 .left))
-    ∙ ap (λ tests. outcomeOf (drawnTests (given .now) (getD (given .r .claims .list) (c .before .before .before .before .before .before .before .before .before .before .before .before .place .given .0 .0) noClaim) (given .c) ++ tests)) (sym (chain-asked (given .r .claims) (given .c) (c .before .before .before .before .before .before .before .before .before .before .before .before .before .before .before .before .before .before .before .before .before .before .before .before .before .before .before .claim-columns .ensures)))
+    (sym (timed .before .before .before .before .is-sound .ensures) ∙ not-false _ (timed .before .before .before .if1 .left))
+    (sym (timed .before .before .claim-fits .ensures) ∙ not-false _ (timed .before .if2 .left))
+    (lt-ltb _ _ (timed .if3 .left))
+    (stands-asked k (given .c) (taken .claim-columns .ensures) (judged .before .before .before .is-among .ensures))
+    (sym (judged .before .before .world-outcome .ensures) ∙ judged .enum-told .given .1)
+    (looked .before .before .before .before .if4 .left)
+    (parent-present (given .now) (above (latest (claimsOf k)) (given .c)) (given .c)
+    (parent-stands k (given .c) (taken .claim-columns .ensures) (sym (looked .latest-place .ensures) ∙ placed .place .given .1)
+    (looked .before .before .before .before .if4 .left))
+    ∙ ap (λ lives. outcomeOf (drawnTests lives p (given .c) ++ chainTests (λ d. d .grantor) (λ d. d .holder) (above (latest (claimsOf k)) (given .c)) (given .c .holder)))
+    (sym (source-asked k (given .c) (taken .claim-columns .ensures) (given .now) (lived .all-current .ensures)))
+    ∙ ap (λ tests. outcomeOf (drawnTests (lived .all-current .result) p (given .c) ++ tests)) (sym (chain-asked k (given .c) (taken .claim-columns .ensures)))
     ∙ sym (c .parent-outcome .ensures)))
 
 pub grant-outcome-spec : {M : Type 1} → statement M
@@ -167,6 +181,7 @@ grant-outcome-spec =
     enum-known-place
     mul-p
     element-copy-out-p
+    all-current-requires
     parent-outcome-requires
     returns-5
     returns-6

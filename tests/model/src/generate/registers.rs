@@ -203,7 +203,7 @@ fn root(random: &mut Random, register: &Register, id: u32, delegates: bool) -> C
         resource: resource.id,
         rights,
         weight,
-        expiry: expiry(random),
+        expiry: expiry(random, delegates),
     }
 }
 
@@ -255,7 +255,7 @@ fn child_of(random: &mut Random, register: &Register, parent: usize, id: u32, de
         rights,
         // A long chain is to stay alive.
         weight: if delegates && random.chance(90) { parent.weight } else { weight(random, parent.weight) },
-        expiry: expiry(random),
+        expiry: expiry(random, delegates),
     })
 }
 
@@ -267,7 +267,11 @@ fn weight(random: &mut Random, most: u32) -> u32 {
     }
 }
 
-fn expiry(random: &mut Random) -> u64 {
+/// One of a long chain mostly never runs out, so that the chain stays alive; of others the source often runs out before the child.
+fn expiry(random: &mut Random, delegates: bool) -> u64 {
+    if delegates && random.chance(93) {
+        return 0;
+    }
     match random.below(20) {
         0..=7 => 0,
         8 => 1,

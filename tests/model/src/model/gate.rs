@@ -116,7 +116,7 @@ impl Model {
     fn holdings(&self, sound: &Sound, holder: u32, now: u64, climbing: &mut Climbing) -> Holdings {
         let mut holdings = Holdings { claims: [0; CLAIMS], resources: [0; CLAIMS], count: 0 };
         for (position, claim) in sound.claims.iter().enumerate() {
-            if claim.holder != holder || !self.live(claim, now) {
+            if claim.holder != holder || !self.live(sound, position, now) {
                 continue;
             }
             let resource = sound.resource_position(claim.resource).expect("a sound register's claim names a resource");

@@ -32,7 +32,7 @@ impl Model {
         let above = sound.claim_position(claim.parent).ok_or(Refusal::NoParent)?;
         let parent = &sound.claims[above];
         demand(parent.holder == claim.grantor && parent.resource == claim.resource, Refusal::NotHeld)?;
-        demand(self.live(parent, now), Refusal::NotLive)?;
+        demand(self.live(&sound, above, now), Refusal::NotLive)?;
         demand(parent.has_right(DELEGATE), Refusal::NoDelegate)?;
         demand(claim.rights & !parent.rights == 0, Refusal::RightLacking)?;
         demand(claim.weight <= parent.weight, Refusal::Weight)?;

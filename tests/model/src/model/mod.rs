@@ -41,7 +41,7 @@ pub enum Refusal {
     NoParent = 9,
     /// The parent is not held by the grantor, or is on another resource.
     NotHeld = 10,
-    /// The parent is not live at the moment.
+    /// The parent is not live at the moment: it or a claim above it has no weight or has expired.
     NotLive = 11,
     /// The parent lacks DELEGATE.
     NoDelegate = 12,
@@ -74,6 +74,8 @@ pub enum Refusal {
 pub enum Fault {
     /// A claim whose expiry equals the moment is taken as live.
     ExpiryEqualLive,
+    /// Whether a claim is live is asked of the claim alone, and not of those that it is drawn from.
+    SourceUnasked,
     /// A revocation takes the claim and its direct children only.
     DirectChildren,
     /// A revocation takes the claim alone.
@@ -91,8 +93,9 @@ pub enum Fault {
 }
 
 impl Fault {
-    pub const ALL: [(&'static str, Fault); 8] = [
+    pub const ALL: [(&'static str, Fault); 9] = [
         ("expiry-equal-live", Fault::ExpiryEqualLive),
+        ("source-unasked", Fault::SourceUnasked),
         ("direct-children", Fault::DirectChildren),
         ("only-named", Fault::OnlyNamed),
         ("leading-zero", Fault::LeadingZero),

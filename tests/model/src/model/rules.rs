@@ -52,8 +52,14 @@ impl Model {
         Sound::of(register).is_some()
     }
 
-    /// This looks at the claim alone.
-    pub fn live(&self, claim: &Claim, now: u64) -> bool {
+    /// Whether the claim at a position is live: every claim on its chain has weight and has not expired.
+    pub fn live(&self, sound: &Sound, position: usize, now: u64) -> bool {
+        let asked = if self.has(Fault::SourceUnasked) { 1 } else { CLAIMS };
+        sound.chain(position).take(asked).all(|claim| self.lasts(claim, now))
+    }
+
+    /// Whether the claim by itself has weight and has not expired.
+    fn lasts(&self, claim: &Claim, now: u64) -> bool {
         claim.weight > 0
             && (claim.expiry == 0 || claim.expiry > now || claim.expiry == now && self.has(Fault::ExpiryEqualLive))
     }

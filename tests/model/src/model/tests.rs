@@ -85,13 +85,53 @@ fn containment_table() {
     }
 }
 
+/// Human 1 keeps the resource; claim 1 from human 1 to 2, claim 2 drawn from it for 3, claim 3 drawn from that for 4.
+fn line(ends: [(u32, u64); 3]) -> Box<Register> {
+    let mut register = Box::new(Register::EMPTY);
+    (1..=4).for_each(|id| register.actors.push(Actor { id, kind: HUMAN, owner: 0 }));
+    register.resources.push(Resource { id: 1, keeper: 1, ..Resource::ZERO });
+    for (id, (weight, expiry)) in (1..).zip(ends) {
+        let rights = 1 << DELEGATE | 1 << READ;
+        register.claims.push(Claim {
+            id,
+            parent: id - 1,
+            grantor: id,
+            holder: id + 1,
+            resource: 1,
+            rights,
+            weight,
+            expiry,
+        });
+    }
+    register
+}
+
+/// Whether each of the three claims is live.
+fn living(model: &Model, ends: [(u32, u64); 3], now: u64) -> [bool; 3] {
+    let register = line(ends);
+    let sound = Sound::of(&register).expect("the line is sound");
+    [0, 1, 2].map(|position| model.live(&sound, position, now))
+}
+
 #[test]
 fn liveness() {
-    let claim = Claim { weight: 600, expiry: 2000, ..Claim::ZERO };
-    assert!(MODEL.live(&claim, 1999));
-    assert!(!MODEL.live(&claim, 2000));
-    assert!(!MODEL.live(&Claim { weight: 0, expiry: 0, ..claim }, 0));
-    assert!(MODEL.live(&Claim { expiry: 0, ..claim }, MOMENT_MAX));
+    assert_eq!(living(&MODEL, [(600, 2000), (600, 0), (600, 3000)], 1999), [true, true, true]);
+    assert_eq!(living(&MODEL, [(600, 2000), (600, 0), (600, 3000)], 2000), [false, false, false]);
+    assert_eq!(living(&MODEL, [(600, 0), (600, 2000), (600, 0)], 2000), [true, false, false]);
+    assert_eq!(living(&MODEL, [(600, 0), (600, 0), (600, 2000)], 2000), [true, true, false]);
+    assert_eq!(living(&MODEL, [(600, 0), (600, 0), (0, 0)], 0), [true, true, false]);
+    assert_eq!(living(&MODEL, [(600, 0); 3], MOMENT_MAX), [true, true, true]);
+    let unasked = Model { fault: Some(Fault::SourceUnasked) };
+    assert_eq!(living(&unasked, [(600, 2000), (600, 0), (600, 3000)], 2000), [false, true, true]);
+}
+
+#[test]
+fn a_grant_asks_the_whole_chain() {
+    let claim =
+        Claim { id: 4, parent: 3, grantor: 4, holder: 1, resource: 1, rights: 1 << READ, weight: 600, expiry: 0 };
+    let granted = |ends, now| MODEL.grantable(&line(ends), &claim, now);
+    assert_eq!(granted([(600, 2000), (600, 0), (600, 0)], 2000), Err(Refusal::NotLive));
+    assert_eq!(granted([(600, 2000), (600, 0), (600, 0)], 1999), Err(Refusal::Circle));
 }
 
 #[test]
