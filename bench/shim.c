@@ -12,6 +12,14 @@ guvrendik_revoked bench_revoke(const guvrendik_register *r, uint32_t revoker, ui
     return guvrendik_revoke(*r, revoker, claim);
 }
 
+guvrendik_revoked bench_clear_resource(const guvrendik_register *r, uint32_t caller, uint32_t resource) {
+    return guvrendik_clear_resource(*r, caller, resource);
+}
+
+guvrendik_revoked bench_clear_expired(const guvrendik_register *r, uint32_t caller, uint64_t now) {
+    return guvrendik_clear_expired(*r, caller, now);
+}
+
 guvrendik_verdict bench_gate(const guvrendik_register *r, const guvrendik_action *a) { return guvrendik_gate(*r, *a); }
 
 guvrendik_plan_verdict bench_judge_plan(const guvrendik_register *r, const guvrendik_plan *p) {

@@ -88,7 +88,8 @@ extern "C" {
 /* The numbers that a call refuses with. */
 #define GUVRENDIK_UNSOUND 1         /* register not sound */
 #define GUVRENDIK_RANGE 2           /* field or count of the call out of range */
-#define GUVRENDIK_ABSENT 3          /* grantor, holder, granted resource, revoker or acting actor not in the register */
+#define GUVRENDIK_ABSENT 3          /* grantor, holder, granted or cleared resource, revoker, clearing caller or acting actor not in the
+                                     * register */
 #define GUVRENDIK_STANDS 4          /* claim id already stands */
 #define GUVRENDIK_FULL 5            /* 256 claims stand */
 #define GUVRENDIK_NOT_KEEPER 6      /* root grant by anyone but the keeper */
@@ -103,7 +104,8 @@ extern "C" {
 #define GUVRENDIK_TOO_MANY_HOPS 15  /* more than 16 hops */
 #define GUVRENDIK_CIRCLE 16         /* the holder holds a claim higher on the chain, or granted its root */
 #define GUVRENDIK_NO_CLAIM 17       /* claim to revoke does not stand */
-#define GUVRENDIK_NO_GRANTOR 18     /* revoker is no grantor on that claim's chain, the claim itself included */
+#define GUVRENDIK_NO_GRANTOR 18     /* revoker is no grantor on that claim's chain, the claim itself included; who clears a resource is
+                                     * not its keeper; who clears old claims is not human */
 #define GUVRENDIK_FORM 19           /* text not of the form */
 #define GUVRENDIK_COUNT 20          /* a count line above its limit */
 #define GUVRENDIK_BUFFER 21         /* buffer too short for the text */
@@ -196,12 +198,12 @@ typedef struct guvrendik_granted {
  * Stack: 176,000 bytes. */
 guvrendik_granted guvrendik_grant(guvrendik_register r, guvrendik_claim c, uint64_t now);
 
-/* The answer of guvrendik_revoke. */
+/* The answer of guvrendik_revoke, guvrendik_clear_resource and guvrendik_clear_expired. */
 typedef struct guvrendik_revoked {
     guvrendik_register state; /* accepted: the register without the claims. Refused: as it came, whole */
     uint32_t accepted;        /* 1 or 0 */
     uint32_t refusal;         /* 0 where accepted, else the number */
-    size_t removed;           /* how many claims went, at least 1; 0 where refused */
+    size_t removed;           /* how many claims went, at least 1 of a revocation; 0 where refused */
 } guvrendik_revoked;
 
 /* Revokes a claim: it goes, and every claim that has it on its chain. The rest keep their order.
@@ -211,9 +213,32 @@ typedef struct guvrendik_revoked {
  * Refusals, the first that applies: 1 register not sound; 3 revoker not in the register; 17 the claim does not stand; 18 the
  * revoker granted neither it nor a claim higher on its chain.
  * Accepted, every place past the count of claims holds a claim of all zeros: nothing of a withdrawn claim is left.
- * Two revocations leave the same register in either order, but the one that comes second may be told 17: the first took its claim.
+ * Any two of this call and the two below leave the same register in either order, but a revocation that comes second may be told 17: the
+ * first took its claim.
  * Stack: 138,000 bytes. */
 guvrendik_revoked guvrendik_revoke(guvrendik_register r, uint32_t revoker, uint32_t claim);
+
+/* Clears a resource: every claim on it goes, of whatever weight and expiry. The rest keep their order.
+ *  r         the register before
+ *  caller    the id of the resource's keeper; a number out of range is in no register
+ *  resource  the id of a resource; a number out of range is in no register
+ * Refusals, the first that applies: 1 register not sound; 3 caller not in the register; 3 resource not in the register; 18 the caller
+ * is not its keeper, though it may be the keeper's machine or the keeper of another resource.
+ * Where no claim is on it, the call is accepted and none goes. Accepted, every place past the count of claims holds a claim of all
+ * zeros.
+ * Stack: 138,000 bytes. */
+guvrendik_revoked guvrendik_clear_resource(guvrendik_register r, uint32_t caller, uint32_t resource);
+
+/* Clears old claims: every claim goes that has expired at the moment, its expiry not 0 and not above it, and every claim that has such a
+ * one on its chain. The rest keep their order, those of weight 0 too.
+ *  r       the register before
+ *  caller  the id of a human; a number out of range is in no register
+ *  now     a moment in seconds, below 2^32
+ * Refusals, the first that applies: 1 register not sound; 2 now out of range; 3 caller not in the register; 18 the caller is not human.
+ * Where nothing has expired, as at 0, the call is accepted and none goes. Accepted, every place past the count of claims holds a claim of
+ * all zeros.
+ * Stack: 138,000 bytes. */
+guvrendik_revoked guvrendik_clear_expired(guvrendik_register r, uint32_t caller, uint64_t now);
 
 /* ---- The gate ---- */
 

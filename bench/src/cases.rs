@@ -52,12 +52,16 @@ fn model_grant(answer: &mut MaybeUninit<Granted>, register: &Register, claim: &C
     }
 }
 
-fn model_revoke(answer: &mut MaybeUninit<Revoked>, register: &Register, (revoker, claim): (u32, u32)) {
+fn model_withdraw(answer: &mut MaybeUninit<Revoked>, register: &Register, (caller, what): (u32, Withdrawn)) {
     let answer = answer.as_mut_ptr();
     // SAFETY: as above.
     unsafe {
         ptr::copy_nonoverlapping(register, &raw mut (*answer).state, 1);
-        let result = MODEL.revoke(&mut (*answer).state, revoker, claim);
+        let result = match what {
+            Withdrawn::Claim(claim) => MODEL.revoke(&mut (*answer).state, caller, claim),
+            Withdrawn::Resource(resource) => MODEL.clear_resource(&mut (*answer).state, caller, resource),
+            Withdrawn::Expired(now) => MODEL.clear_expired(&mut (*answer).state, caller, now),
+        };
         (*answer).accepted = result.is_ok().into();
         (*answer).refusal = result.map_or_else(|refusal| refusal as u32, |_| 0);
         (*answer).removed = result.unwrap_or(0);
@@ -135,14 +139,27 @@ pub fn grant(shape: Shape, world: &World, name: &str, grants: Vec<Claim>) -> Cas
 }
 
 pub fn revoke(shape: Shape, world: &World) -> Case {
+    withdraw(shape, world, "revoke", world.revocations())
+}
+
+pub fn clear_resource(shape: Shape, world: &World) -> Case {
+    withdraw(shape, world, "clear resource", world.resource_clearings())
+}
+
+pub fn clear_expired(shape: Shape, world: World) -> Case {
+    let (world, clearings) = world.expired_clearings();
+    withdraw(shape, &world, "clear expired", clearings)
+}
+
+fn withdraw(shape: Shape, world: &World, name: &str, withdrawals: Vec<(u32, Withdrawn)>) -> Case {
     let register = leak(*world.register.clone());
-    let revocations = leak(world.revocations());
-    let name = "revoke".to_owned();
+    let withdrawals = leak(withdrawals);
+    let name = name.to_owned();
     let (mut ours, mut theirs) = (Box::new(place()), Box::new(place()));
-    for (at, &(revoker, claim)) in revocations.iter().enumerate() {
-        model_revoke(&mut theirs, register, (revoker, claim));
+    for (at, &withdrawal) in withdrawals.iter().enumerate() {
+        model_withdraw(&mut theirs, register, withdrawal);
         // SAFETY: it was filled by the line before.
-        same(&name, at, library::revoke(&mut ours, register, revoker, claim), unsafe { theirs.assume_init_ref() });
+        same(&name, at, library::withdraw(&mut ours, register, withdrawal), unsafe { theirs.assume_init_ref() });
     }
     Case {
         name,
@@ -150,11 +167,10 @@ pub fn revoke(shape: Shape, world: &World) -> Case {
         bytes: None,
         goal: Goal::on(shape),
         library: Box::new(move |at| {
-            let (revoker, claim) = revocations[at % VARIED];
-            black_box(library::revoke(&mut ours, black_box(register), revoker, claim));
+            black_box(library::withdraw(&mut ours, black_box(register), withdrawals[at % VARIED]));
         }),
         model: Box::new(move |at| {
-            model_revoke(&mut theirs, black_box(register), revocations[at % VARIED]);
+            model_withdraw(&mut theirs, black_box(register), withdrawals[at % VARIED]);
             black_box(&mut theirs);
         }),
         parts: None,
@@ -377,6 +393,8 @@ pub fn all() -> Vec<Case> {
         }
         cases.push(grant(shape, &roomy(), "grant", roomy().grants()));
         cases.push(revoke(shape, &usual()));
+        cases.push(clear_resource(shape, &usual()));
+        cases.push(clear_expired(shape, usual()));
         let mut gates = |world: World, human: &str, machine: Option<&str>| {
             for (used, uses) in [(1, "1 use"), (USES, "32 uses")] {
                 let actions = world.actions(world.human, used, Covered::All);

@@ -248,14 +248,33 @@ impl World {
         (0..VARIED).map(grant).collect()
     }
 
-    /// Revocations that are accepted, as (revoker, claim): of claims all over the list.
-    pub fn revocations(&self) -> Vec<(u32, u32)> {
+    /// Revocations that are accepted: of claims all over the list.
+    pub fn revocations(&self) -> Vec<(u32, Withdrawn)> {
         let claims = &self.register.claims.list[..self.register.claims.count];
         let revocation = |number: usize| {
             let claim = &claims[number * claims.len() / VARIED];
-            (claim.grantor, claim.id)
+            (claim.grantor, Withdrawn::Claim(claim.id))
         };
         (0..VARIED).map(revocation).collect()
+    }
+
+    /// Clearings of resources all over the list, each by its keeper.
+    pub fn resource_clearings(&self) -> Vec<(u32, Withdrawn)> {
+        let resources = &self.register.resources.list[..self.register.resources.count];
+        let clearing = |number: usize| {
+            let resource = &resources[number * resources.len() / VARIED];
+            (resource.keeper, Withdrawn::Resource(resource.id))
+        };
+        (0..VARIED).map(clearing).collect()
+    }
+
+    /// The register with one claim in eight run out by now, and clearings of those by keepers.
+    pub fn expired_clearings(mut self) -> (World, Vec<(u32, Withdrawn)>) {
+        let count = self.register.claims.count;
+        self.register.claims.list[..count].iter_mut().step_by(8).for_each(|claim| claim.expiry = NOW);
+        let clearings =
+            self.resource_clearings().iter().map(|(keeper, _)| (*keeper, Withdrawn::Expired(NOW))).collect();
+        (self, clearings)
     }
 
     /// The register without the claims from this number on.
@@ -264,6 +283,14 @@ impl World {
         self.register.claims.list[claims..].fill(Claim::ZERO);
         self
     }
+}
+
+/// What is withdrawn: a claim, all claims on a resource, or those that have expired at a moment.
+#[derive(Clone, Copy)]
+pub enum Withdrawn {
+    Claim(u32),
+    Resource(u32),
+    Expired(u64),
 }
 
 pub fn register_text(register: &Register) -> Vec<u8> {

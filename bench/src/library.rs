@@ -1,6 +1,7 @@
 //! The library's calls through shim.c. A large answer's place is the first argument: so it is in x86-64's convention, and in the
 //! library's own code on another processor.
 
+use crate::inputs::Withdrawn;
 use guvrendik_model::types::*;
 use std::mem::MaybeUninit;
 
@@ -8,6 +9,8 @@ extern "C" {
     fn bench_sound(register: *const Register) -> Soundness;
     fn bench_grant(answer: *mut Granted, register: *const Register, claim: *const Claim, now: u64);
     fn bench_revoke(answer: *mut Revoked, register: *const Register, revoker: u32, claim: u32);
+    fn bench_clear_resource(answer: *mut Revoked, register: *const Register, caller: u32, resource: u32);
+    fn bench_clear_expired(answer: *mut Revoked, register: *const Register, caller: u32, now: u64);
     fn bench_gate(answer: *mut Verdict, register: *const Register, action: *const Action);
     fn bench_judge_plan(answer: *mut PlanVerdict, register: *const Register, plan: *const Plan);
     fn bench_contains(outer: *const u8, outer_len: usize, inner: *const u8, inner_len: usize) -> Containment;
@@ -37,9 +40,17 @@ pub fn grant<'a>(answer: &'a mut MaybeUninit<Granted>, register: &Register, clai
     }
 }
 
-pub fn revoke<'a>(answer: &'a mut MaybeUninit<Revoked>, register: &Register, revoker: u32, claim: u32) -> &'a Revoked {
+pub fn withdraw<'a>(
+    answer: &'a mut MaybeUninit<Revoked>,
+    register: &Register,
+    (caller, what): (u32, Withdrawn),
+) -> &'a Revoked {
     unsafe {
-        bench_revoke(answer.as_mut_ptr(), register, revoker, claim);
+        match what {
+            Withdrawn::Claim(claim) => bench_revoke(answer.as_mut_ptr(), register, caller, claim),
+            Withdrawn::Resource(resource) => bench_clear_resource(answer.as_mut_ptr(), register, caller, resource),
+            Withdrawn::Expired(now) => bench_clear_expired(answer.as_mut_ptr(), register, caller, now),
+        }
         answer.assume_init_ref()
     }
 }

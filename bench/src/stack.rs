@@ -12,12 +12,13 @@ pub struct Stack {
     pub bytes: u64,
 }
 
-/// Has the driver make each call once on a register of 255 claims, with a grant and a revocation that are accepted, an action of
-/// 32 uses and a plan of 16 of them.
+/// Has the driver make each call once on a register of 255 claims, with a grant, a revocation and clearings that are accepted, an action
+/// of 32 uses and a plan of 16 of them.
 pub fn of(driver: &str, arguments: &[&str]) -> io::Result<Vec<Stack>> {
     let world = world(FULL, Holding { human: 64, machine: 64 }).cut(CLAIMS - 1);
     let action = world.actions(world.machine, USES, Covered::All)[0];
-    let (revoker, revoked) = world.revocations()[0];
+    let claims = &world.register.claims.list;
+    let resource = world.register.resources.list[0];
     let texts = [action_text(&action), json_actions(USES)[0].text()];
     let mut request = Vec::new();
     put_request(&mut request, Request::Stack, |out| {
@@ -26,7 +27,8 @@ pub fn of(driver: &str, arguments: &[&str]) -> io::Result<Vec<Stack>> {
         world.plans(USES)[0].put(out);
         world.grants()[0].put(out);
         NOW.put(out);
-        [revoker, revoked].put(out);
+        [claims[0].grantor, claims[0].id, resource.keeper, resource.id, resource.keeper].put(out);
+        NOW.put(out);
         for text in texts {
             text.len().put(out);
             out.extend(text);

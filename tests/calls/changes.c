@@ -1,9 +1,10 @@
-/* Grants and revocations: a line to a call, with 01's number of the refusal, 0 where it is accepted, and how many claims stand behind it;
- * for a revocation also how many went, and the ids of those that are left.
+/* Grants, revocations and clearings: a line to a call, with 01's number of the refusal, 0 where it is accepted, and how many claims stand
+ * behind it; for a revocation and a clearing instead how many went, and the ids of those that are left.
  *
  * What is expected comes from 01, "Numbers a call can refuse with": "Grant tests 1 to 8 in order .. and, with a parent, 9 to 16; it is refused
- * for no other cause", "Revocation tests 1, 3, 17, 18; a number out of range there fails 3 or 17". By 02, T-03, 11 asks every claim from the
- * parent up. A line's name begins with the number that is given, and a line `n before m` has both faults. 9 and 10 cannot meet, nor can 8 and a root: an absent parent has no holder, and a root by
+ * for no other cause", "Revocation tests 1, 3, 17, 18; a number out of range there fails 3 or 17", and from 02, T-09, of the clearings: "1,
+ * for the second call 2 for the moment, 3 for the caller, for the first call 3 for the resource, then 18". By T-03, 11 asks every claim from the parent up. A line's name begins with the
+ * number that is given, and a line `n before m` has both faults. 9 and 10 cannot meet, nor can 8 and a root: an absent parent has no holder, and a root by
  * a machine is 6. Of the four faults that a tester will try, three are here: rights of two claims joined, direct children alone revoked, an
  * old child bound to a new claim under a reused id; the fourth is the gate's. */
 #include "calls.h"
@@ -17,11 +18,22 @@ void claim_ids(Register r) {
     for (size_t i = 0; i < r.claims.count; i++) printf(" %u", (unsigned)r.claims.list[i].id);
 }
 
-static void revoke(const char *label, Register r, uint32_t who, uint32_t id) {
-    guvrendik_revoked y = guvrendik_revoke(r, who, id);
+static void withdrawn(const char *label, guvrendik_revoked y) {
     printf("%s: %u removed=%zu left=", label, (unsigned)y.refusal, y.removed);
     claim_ids(y.state);
     printf("\n");
+}
+
+static void revoke(const char *label, Register r, uint32_t who, uint32_t id) {
+    withdrawn(label, guvrendik_revoke(r, who, id));
+}
+
+static void clear_resource(const char *label, Register r, uint32_t who, uint32_t id) {
+    withdrawn(label, guvrendik_clear_resource(r, who, id));
+}
+
+static void clear_expired(const char *label, Register r, uint32_t who, uint64_t now) {
+    withdrawn(label, guvrendik_clear_expired(r, who, now));
 }
 
 /* The base, where the machine without owner holds a claim that it could pass on. */
@@ -142,6 +154,56 @@ static void revocations(void) {
     revoke("18 grantor on another chain", r, 3, 2);
 }
 
+static void resource_clearings(void) {
+    Register r = base(), unsound = with_counts(r, 65, 2, 5);
+    clear_resource("0 report by its keeper", r, 1, 10);
+    clear_resource("0 the other report", r, 3, 11);
+    clear_resource("0 report without claims", with_resource(r, 2, resource(12, 0, 1)), 1, 12);
+    clear_resource("0 report of case R", case_r(), 1, 10);
+    clear_resource("1 clearing in a register not sound", unsound, 1, 10);
+    clear_resource("1 before 3", unsound, 9, 10);
+    clear_resource("1 before 18", unsound, 3, 10);
+    clear_resource("3 caller absent", r, 9, 10);
+    clear_resource("3 caller 0", r, 0, 10);
+    clear_resource("3 caller 65537 is not 1", r, 65537, 10);
+    clear_resource("3 report absent", r, 1, 12);
+    clear_resource("3 report 0", r, 1, 0);
+    clear_resource("3 report 65546 is not 10", r, 1, 65546);
+    clear_resource("3 caller and report absent", r, 9, 12);
+    clear_resource("3 before 18", r, 2, 12);
+    clear_resource("18 the keeper's machine", r, 2, 10);
+    clear_resource("18 keeper of another report", r, 3, 10);
+    clear_resource("18 machine of case R", case_r(), 2, 10);
+}
+
+static void expired_clearings(void) {
+    Register r = base(), unsound = with_counts(r, 65, 2, 5);
+    clear_expired("0 old claims at 0", r, 1, 0);
+    clear_expired("0 old claims at 1999", r, 1, 1999);
+    clear_expired("0 old claims at 2000, with what is drawn", r, 1, 2000);
+    clear_expired("0 old claims at 2^32 - 1", r, 3, UINT64_C(4294967295));
+    clear_expired("0 by a human who keeps nothing", with_actor(r, 5, human(6)), 6, 2000);
+    clear_expired("0 expiry 2001 stays at 2000", base_and(expiring(2001, claim(6, 2, 2, 5, 1))), 1, 2000);
+    clear_expired("0 weight 0 without expiry stays", base_and(weighing(0, claim(6, 2, 2, 5, 1))), 1, 2000);
+    clear_expired("0 weight 0 with an expiry goes", base_and(expiring(2000, weighing(0, claim(6, 2, 2, 5, 1)))), 1, 2000);
+    clear_expired("0 old root with all drawn from it", with_claim(r, 0, expiring(2000, claim(1, 0, 1, 1, 131071))), 1, 2000);
+    clear_expired("0 old claims of case R", case_r(), 1, 2000);
+    clear_expired("1 clearing in a register not sound", unsound, 1, 2000);
+    clear_expired("1 before 2", unsound, 1, UINT64_C(4294967296));
+    clear_expired("1 before 3", unsound, 9, 2000);
+    clear_expired("1 before 18", unsound, 2, 2000);
+    clear_expired("2 moment 2^32", r, 1, UINT64_C(4294967296));
+    clear_expired("2 moment 2^32 + 2000 is not 2000", r, 1, UINT64_C(4294969296));
+    clear_expired("2 before 3", r, 9, UINT64_C(4294967296));
+    clear_expired("2 before 18", r, 2, UINT64_C(4294967296));
+    clear_expired("3 caller absent", r, 9, 2000);
+    clear_expired("3 caller 0", r, 0, 2000);
+    clear_expired("3 caller 65537 is not 1", r, 65537, 2000);
+    clear_expired("18 machine", r, 2, 2000);
+    clear_expired("18 machine without owner", r, 4, 2000);
+    clear_expired("18 machine of case R", case_r(), 2, 2000);
+}
+
 /* Claim 2 goes with 3 and 4 drawn from it; another claim 2 comes, to another holder: claim 3 is not bound to it, and a new claim 3 can be. */
 static void used_again(void) {
     Register again = guvrendik_grant(guvrendik_revoke(base(), 1, 2).state, claim(2, 1, 1, 3, 17), 0).state;
@@ -149,6 +211,10 @@ static void used_again(void) {
     grant("10 old holder of a reused id", again, claim(3, 2, 2, 5, 1), 0);
     grant("0 new child of a reused id", again, claim(3, 2, 3, 5, 1), 0);
     revoke("0 reused id", guvrendik_grant(again, claim(3, 2, 3, 5, 1), 0).state, 1, 2);
+    /* Claim 3 is cleared with 4 drawn from it, and another claim 3 comes. */
+    Register cleared = guvrendik_grant(guvrendik_clear_expired(base(), 1, 2000).state, claim(3, 2, 2, 5, 17), 0).state;
+    revoke("17 old child of a cleared and reused id", cleared, 1, 4);
+    revoke("0 cleared and reused id", cleared, 1, 3);
 }
 
 void change_lines(void) {
@@ -158,5 +224,7 @@ void change_lines(void) {
     pairs();
     full_register();
     revocations();
+    resource_clearings();
+    expired_clearings();
     used_again();
 }

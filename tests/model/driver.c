@@ -41,6 +41,8 @@ enum {
     VERDICT_TEXT,
     READ_JSON,
     WRITE_JSON,
+    CLEAR_RESOURCE,
+    CLEAR_EXPIRED,
     BOUNDARY,
     THREADS,
     STACK,
@@ -273,15 +275,31 @@ static void do_grant(payload *p) {
     }
 }
 
-static void do_revoke(payload *p) {
-    bool keep = take32(p);
-    uint32_t revoker = take32(p), claim = take32(p);
-    guvrendik_revoked got = guvrendik_revoke(current, revoker, claim);
+/* Answers what a withdrawal came to, and keeps the register where it is asked to. */
+static void answer_withdrawn(bool keep, guvrendik_revoked got) {
     settle(&got.state);
     answer_marked(errno_mark(), &got, sizeof got);
     if (keep) {
         current = got.state;
     }
+}
+
+static void do_revoke(payload *p) {
+    bool keep = take32(p);
+    uint32_t revoker = take32(p), claim = take32(p);
+    answer_withdrawn(keep, guvrendik_revoke(current, revoker, claim));
+}
+
+static void do_clear_resource(payload *p) {
+    bool keep = take32(p);
+    uint32_t caller = take32(p), resource = take32(p);
+    answer_withdrawn(keep, guvrendik_clear_resource(current, caller, resource));
+}
+
+static void do_clear_expired(payload *p) {
+    bool keep = take32(p);
+    uint32_t caller = take32(p);
+    answer_withdrawn(keep, guvrendik_clear_expired(current, caller, take64(p)));
 }
 
 static void do_gate(payload *p) {
@@ -527,6 +545,16 @@ static void pass_registers(void) {
         visit_register(&reading, &revoked.state);
         expect(reading.wrong == 0 && revoked.accepted == 0 && revoked.refusal == GUVRENDIK_UNSOUND && revoked.removed == 0,
                "a register with distinct numbers through a refused revocation");
+        guvrendik_revoked cleared = guvrendik_clear_resource(r, 1, 1);
+        reading = (visitor){false, first << 20, 0};
+        visit_register(&reading, &cleared.state);
+        expect(reading.wrong == 0 && cleared.accepted == 0 && cleared.refusal == GUVRENDIK_UNSOUND && cleared.removed == 0,
+               "a register with distinct numbers through a refused clearing of a resource");
+        cleared = guvrendik_clear_expired(r, 1, 1);
+        reading = (visitor){false, first << 20, 0};
+        visit_register(&reading, &cleared.state);
+        expect(reading.wrong == 0 && cleared.accepted == 0 && cleared.refusal == GUVRENDIK_UNSOUND && cleared.removed == 0,
+               "a register with distinct numbers through a refused clearing of old claims");
     }
 }
 
@@ -820,6 +848,9 @@ typedef struct {
     guvrendik_claim c;
     uint64_t now;
     uint32_t revoker, claim;
+    uint32_t keeper, resource;
+    uint32_t caller;
+    uint64_t moment;
     char action_text[ACTION_TEXT];
     size_t action_len;
     uint8_t json_text[ACTION_TEXT];
@@ -839,6 +870,8 @@ typedef struct {
     guvrendik_written printed;
     guvrendik_json_read json;
     guvrendik_written json_written;
+    guvrendik_revoked cleared;
+    guvrendik_revoked renewed;
     uint8_t text[GUVRENDIK_REGISTER_TEXT];
     uint8_t lines[GUVRENDIK_VERDICT_TEXT];
     uint8_t page[GUVRENDIK_JSON_TEXT];
@@ -863,11 +896,15 @@ static void take_input(payload *p, input *in) {
     in->now = take64(p);
     in->revoker = take32(p);
     in->claim = take32(p);
+    in->keeper = take32(p);
+    in->resource = take32(p);
+    in->caller = take32(p);
+    in->moment = take64(p);
     in->action_len = take_text(p, in->action_text);
     in->json_len = take_text(p, in->json_text);
 }
 
-enum { CALLS = 12 };
+enum { CALLS = 14 };
 
 /* Where each call leaves its answer: a struct, and a text where it writes one. */
 static const struct {
@@ -880,6 +917,7 @@ static const struct {
     {PART(written), PART(text)}, {PART(read), 0, 0},
     {PART(action), 0, 0},       {PART(printed), PART(lines)},
     {PART(json), 0, 0},         {PART(json_written), PART(page)},
+    {PART(cleared), 0, 0},      {PART(renewed), 0, 0},
 #undef PART
 };
 
@@ -921,6 +959,14 @@ static void make_call(size_t call, const input *in, const answers *known, answer
     case 11:
         out->json_written = guvrendik_write_json(known->json.action, known->json.id, known->json.id_len, known->json.kind,
                                                  out->page, sizeof out->page);
+        break;
+    case 12:
+        out->cleared = guvrendik_clear_resource(in->r, in->keeper, in->resource);
+        settle(&out->cleared.state);
+        break;
+    case 13:
+        out->renewed = guvrendik_clear_expired(in->r, in->caller, in->moment);
+        settle(&out->renewed.state);
         break;
     }
 }
@@ -1014,6 +1060,12 @@ static void stack_grant(void) { stack_answers.granted = guvrendik_grant(stack_in
 static void stack_revoke(void) {
     stack_answers.revoked = guvrendik_revoke(stack_input.r, stack_input.revoker, stack_input.claim);
 }
+static void stack_clear_resource(void) {
+    stack_answers.cleared = guvrendik_clear_resource(stack_input.r, stack_input.keeper, stack_input.resource);
+}
+static void stack_clear_expired(void) {
+    stack_answers.renewed = guvrendik_clear_expired(stack_input.r, stack_input.caller, stack_input.moment);
+}
 static void stack_gate(void) { stack_answers.verdict = guvrendik_gate(stack_input.r, stack_input.a); }
 static void stack_judge_plan(void) { stack_answers.judged = guvrendik_judge_plan(stack_input.r, stack_input.p); }
 static void stack_contains(void) {
@@ -1074,7 +1126,7 @@ static void do_stack(payload *p) {
     static void (*const bodies[CALLS])(void) = {
         stack_sound,    stack_grant,          stack_revoke,        stack_gate,        stack_judge_plan,
         stack_contains, stack_write_register, stack_read_register, stack_read_action, stack_verdict_text,
-        stack_read_json, stack_write_json,
+        stack_read_json, stack_write_json,    stack_clear_resource, stack_clear_expired,
     };
     take_input(p, &stack_input);
     uint64_t idle = stack_of(no_call), used[CALLS];
@@ -1157,6 +1209,8 @@ int main(void) {
         case VERDICT_TEXT: do_verdict_text(&p); break;
         case READ_JSON: do_read_json(&p); break;
         case WRITE_JSON: do_write_json(&p); break;
+        case CLEAR_RESOURCE: do_clear_resource(&p); break;
+        case CLEAR_EXPIRED: do_clear_expired(&p); break;
         case BOUNDARY: do_boundary(&p); break;
         case THREADS: do_threads(&p); break;
         case STACK: do_stack(&p); break;

@@ -58,7 +58,7 @@ refusalNumber (RefusedFor why) = numberOf why
 abbrev pub grantAnswer : Granted → GrantAnswer
 grantAnswer g = record { state = g .register; accepted = acceptedNumber (g .outcome); refusal = refusalNumber (g .outcome) }
 
--- a revocation: the register as it leaves it, beside its outcome and how many claims went
+-- a revocation or a clearing: the register as it leaves it, beside its outcome and how many claims went
 abbrev pub revokeAnswer : Revoked → RevokeAnswer
 revokeAnswer g = record {
   state = g .register;

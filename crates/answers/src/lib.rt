@@ -1,8 +1,8 @@
 // The answers that cross to the portal: structs of numbers, and what gives the numbers of an inner answer. No call asks anything of its
 // caller, and no answer whose numbers are all zero is a yes.
 ghost use mathlib.Core.Path.{_≡_};
-ghost use Rattle.answers.specs.Answers.{yesNumber, acceptedNumber, refusalNumber, decisionNumber, stopNumber};
-ghost use Rattle.answers.specs.Answers.{violationNumbers, violationList, judgementNumbers, judgementList, writtenAnswer};
+ghost use Rattle.answers.specs.Answers.{yesNumber, acceptedNumber, refusalNumber, decisionNumber, stopNumber, violationNumbers, violationList, judgementNumbers};
+ghost use Rattle.answers.specs.Answers.{judgementList, writtenAnswer};
 use actions::Action;
 use actions::Decision;
 use actions::Judgement;
@@ -35,7 +35,8 @@ pub struct GrantAnswer {
     pub refusal: u32,
 }
 
-// The answer of a revocation: accepted is 1, with how many claims went. Else it is 0, with 01's number and the register as it came.
+// The answer of a revocation or a clearing: accepted is 1, with how many claims went. Else it is 0, with 01's number and the register as it
+// came.
 #[repr(C)]
 pub struct RevokeAnswer {
     pub state: Register,

@@ -1,4 +1,4 @@
--- Grant and revocation in 01's words: the tests of each in their order, and the register that it hands back.
+-- Grant and the three withdrawals in 01's and 02's words: the tests of each in their order, and the register that it hands back.
 use mathlib.Core.Bool.{Bool, false, not, _&&_, cond}
 use mathlib.Core.List.{List, [], _∷_, _++_}
 use Prim.Native.Nat.{ℕ, _+_, _-_}
@@ -8,10 +8,10 @@ use Rattle.lists.specs.Lists.{any, every}
 use Rattle.rights.specs.Rights.{delegating, hasRight, hasRights, barsMachine}
 use Rattle.register.specs.Limits.{claimLimit, momentEnd}
 use Rattle.register.specs.Register.{actorsOf, resourcesOf, claimsOf, noClaim}
-use Rattle.register.specs.Chain.{latest, chain, above, circling, current}
+use Rattle.register.specs.Chain.{latest, chain, above, circling, current, expired}
 use Rattle.register.specs.declared.Claim.{Claim}
 use Rattle.register.specs.declared.Register.{Register}
-use Rattle.rules.specs.Sound.{World, worldOf, sound, claimFits, namesStand, rootKept, withinHops, fresh}
+use Rattle.rules.specs.Sound.{World, worldOf, sound, claimFits, namesStand, rootKept, withinHops, fresh, human}
 use Rattle.rules.specs.Striking.{strike}
 use Rattle.refusals.specs.Refusals.{Test, outcomeOf, isAccepted}
 use Rattle.changes.specs.declared.Granted.{Granted}
@@ -88,6 +88,42 @@ revokeTests r who x =
     ∷ record { passed = any (λ c. eqb (c .grantor) who) (chain (λ c. c .id) (λ c. c .parent) (standing r) x); refusal = NoGrantor }
     ∷ []
 
+-- the tests of a clearing of a resource: 1, 3 for the caller, 3 for the resource, and 18 for a caller who is not its keeper
+unfoldable pub clearResourceTests : Register → ℕ → ℕ → List Test
+clearResourceTests r who o =
+    record { passed = sound r; refusal = Unsound }
+    ∷ record { passed = worldIn r .known who; refusal = Unknown }
+    ∷ record { passed = worldIn r .listed o; refusal = Unknown }
+    ∷ record { passed = worldIn r .keeps who o; refusal = NoGrantor }
+    ∷ []
+
+-- the tests of a clearing of old claims: 1, 2 for the moment, 3 for the caller, and 18 for a caller who is not human
+unfoldable pub clearExpiredTests : Register → ℕ → ℕ → List Test
+clearExpiredTests r who now =
+    record { passed = sound r; refusal = Unsound }
+    ∷ record { passed = ltb now momentEnd; refusal = OutOfRange }
+    ∷ record { passed = worldIn r .known who; refusal = Unknown }
+    ∷ record { passed = human (actorsOf (r .actors)) who; refusal = NoGrantor }
+    ∷ []
+
+-- a withdrawal: who revokes, and the id of the claim; who clears, and the resource; who clears what is old, and the moment
+pub data Withdrawal : Type 0 where
+  revoke : ℕ → ℕ → Withdrawal
+  clearResource : ℕ → ℕ → Withdrawal
+  clearExpired : ℕ → ℕ → Withdrawal
+
+-- the claims that it names: the one with the id; those on the resource; those that have expired at the moment
+abbrev pub names : Withdrawal → Claim → Bool
+names (revoke who x) c = eqb (c .id) x
+names (clearResource who o) c = eqb (c .resource) o
+names (clearExpired who now) c = expired now c
+
+-- its tests
+abbrev pub withdrawTests : Register → Withdrawal → List Test
+withdrawTests r (revoke who x) = revokeTests r who x
+withdrawTests r (clearResource who o) = clearResourceTests r who o
+withdrawTests r (clearExpired who now) = clearExpiredTests r who now
+
 -- the claims that are left, in their order, when those that P names go with all that is drawn from them
 abbrev pub leftOf : (Claim → Bool) → Register → List Claim
 leftOf P r = latest (strike (λ c. c .id) (λ c. c .parent) P (standing r))
@@ -100,10 +136,10 @@ holding r cs = record {
   claims = record { list = cs ++ replicate (claimLimit - length cs) noClaim; count = length cs };
 }
 
--- the answer of a revocation: accepted, the claim and every claim with it on its chain go; refused, the register is as it came
-unfoldable pub revoked : Register → ℕ → ℕ → Revoked
-revoked r who x = record {
-  register = cond (isAccepted (outcomeOf (revokeTests r who x))) (holding r (leftOf (λ c. eqb (c .id) x) r)) r;
-  outcome = outcomeOf (revokeTests r who x);
-  removed = cond (isAccepted (outcomeOf (revokeTests r who x))) (length (standing r) - length (leftOf (λ c. eqb (c .id) x) r)) 0;
+-- the answer of a withdrawal: accepted, what it names and every claim with such a one on its chain go; refused, the register is as it came
+unfoldable pub withdrawn : Register → Withdrawal → Revoked
+withdrawn r w = record {
+  register = cond (isAccepted (outcomeOf (withdrawTests r w))) (holding r (leftOf (names w) r)) r;
+  outcome = outcomeOf (withdrawTests r w);
+  removed = cond (isAccepted (outcomeOf (withdrawTests r w))) (length (standing r) - length (leftOf (names w) r)) 0;
 }

@@ -1,4 +1,4 @@
-// What a grant or a revocation answers: the register beside the outcome. Here are the types, and in specs/ the definitions that the two
+// What a grant or a withdrawal answers: the register beside the outcome. Here are the types, and in specs/ the definitions that the four
 // calls are proved to equal.
 use refusals::Outcome;
 use register::Register;
@@ -9,7 +9,7 @@ pub struct Granted {
     pub outcome: Outcome,
 }
 
-// The answer of a revocation, with how many claims went. Refused: the register as it came, and none.
+// The answer of a withdrawal, which is a revocation or a clearing, with how many claims went. Refused: the register as it came, and none.
 pub struct Revoked {
     pub register: Register,
     pub outcome: Outcome,

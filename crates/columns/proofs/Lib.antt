@@ -1,3 +1,2 @@
-pub mod Filling
 pub mod Pairing
 pub mod Walking

@@ -1,5 +1,5 @@
--- Nine calls on a small register: where they end, what is left and which grants are left to make again; and pairs of revocations in both
--- orders: what each call is told, how many go and what is left. All by computing. Assumes nothing.
+-- Calls on a small register: where they end, what is left and which grants are left to make again; clearings at their edges; and pairs of
+-- withdrawals in both orders: what each call is told, how many go and what is left. All by computing. Assumes nothing.
 use mathlib.Core.Path.{_≡_, refl}
 use mathlib.Core.Bool.{Bool, true, false}
 use mathlib.Core.List.{List, [], _∷_, _++_, map}
@@ -15,11 +15,12 @@ use Rattle.register.specs.declared.Register.{Register}
 use Rattle.rules.specs.Sound.{distinct, actorFits, resourceFits, claimFits, namesStand, rootKept, drawnFrom, machineMay, overChain, drawn, fresh, alone, over, acceptable}
 use Rattle.rules.specs.Sound.{soundClaims, soundActors, soundResources, withinLimits, sound}
 use Rattle.refusals.specs.Refusals.{outcomeOf, numberOf}
-use Rattle.changes.specs.Changes.{sourceLive, parentTests, worldTests, grantTests, granted, revokeTests, holding, revoked}
+use Rattle.changes.specs.Changes.{sourceLive, parentTests, worldTests, grantTests, granted, revokeTests, holding, Withdrawal, revoke, clearResource, clearExpired}
+use Rattle.changes.specs.Changes.{clearResourceTests, clearExpiredTests, withdrawn}
 use Rattle.changes.specs.declared.Revoked.{Revoked}
 use Rattle.refusals.specs.declared.Outcome.{Outcome}
 use Rattle.refusals.specs.declared.Outcome.the-variants.{Accepted, Refused}
-use Rattle.history.specs.History.{Call, grant, revoke, step, took, run, accepts, started, kept, left, olds, grants, History}
+use Rattle.history.specs.History.{Call, grant, step, took, run, accepts, started, kept, left, olds, grants, History, withdraw}
 use Rattle.history.specs.Replay.{history}
 
 -- on the one resource, with READ, WRITE and DELEGATE, until the moment 2,000
@@ -42,18 +43,18 @@ calls =
     grant (claim 1 0 1 1) 0
     ∷ grant (claim 2 1 1 2) 1999
     -- with 2, which is drawn from it
-    ∷ revoke 1 1
+    ∷ withdraw (revoke 1 1)
     -- the id again, to another, at an earlier moment
     ∷ grant (claim 1 0 1 3) 5
     -- refused: the parent is not live
     ∷ grant (claim 2 1 3 2) 2000
     ∷ grant (claim 2 1 3 2) 4
     -- refused: no grantor on its chain
-    ∷ revoke 2 1
+    ∷ withdraw (revoke 2 1)
     -- a claim of the start
-    ∷ revoke 1 8
+    ∷ withdraw (revoke 1 8)
     -- refused: it does not stand any more
-    ∷ revoke 1 8
+    ∷ withdraw (revoke 1 8)
     ∷ []
 
 desk-shaped : Shaped desk
@@ -65,7 +66,7 @@ unfolding desk sound withinLimits soundActors soundResources soundClaims accepta
 desk-sound = refl
 
 calls-end : claimsOf (run desk calls .claims) ≡ claim 7 0 1 1 ∷ claim 1 0 1 3 ∷ claim 2 1 3 2 ∷ []
-unfolding desk calls run granted revoked grantTests worldTests parentTests revokeTests sourceLive outcomeOf trim sound withinLimits soundActors soundResources soundClaims acceptable alone over fresh drawn overChain machineMay drawnFrom rootKept namesStand claimFits resourceFits actorFits distinct chain circling rootGranted hasRight hasRights barsMachine
+unfolding desk calls run granted withdrawn grantTests worldTests parentTests revokeTests sourceLive outcomeOf trim sound withinLimits soundActors soundResources soundClaims acceptable alone over fresh drawn overChain machineMay drawnFrom rootKept namesStand claimFits resourceFits actorFits distinct chain circling rootGranted hasRight hasRights barsMachine
 calls-end = refl
 
 -- which calls are accepted
@@ -74,30 +75,30 @@ accepted r [] = []
 accepted r (k ∷ ks) = took r k ∷ accepted (step r k) ks
 
 calls-accepted : accepted desk calls ≡ true ∷ true ∷ true ∷ true ∷ false ∷ true ∷ false ∷ true ∷ false ∷ []
-unfolding desk calls accepted granted revoked grantTests worldTests parentTests revokeTests sourceLive outcomeOf trim sound withinLimits soundActors soundResources soundClaims acceptable alone over fresh drawn overChain machineMay drawnFrom rootKept namesStand claimFits resourceFits actorFits distinct chain circling rootGranted hasRight hasRights barsMachine
+unfolding desk calls accepted granted withdrawn grantTests worldTests parentTests revokeTests sourceLive outcomeOf trim sound withinLimits soundActors soundResources soundClaims acceptable alone over fresh drawn overChain machineMay drawnFrom rootKept namesStand claimFits resourceFits actorFits distinct chain circling rootGranted hasRight hasRights barsMachine
 calls-accepted = refl
 
 -- serial numbers 0 and 1 stood at the start, 2 and 3 are the first claims with the ids 1 and 2, 4 and 5 the second
 calls-left : map (λ e. e .serial) (left desk calls) ≡ 0 ∷ 4 ∷ 5 ∷ []
-unfolding desk calls run started kept granted revoked grantTests worldTests parentTests revokeTests sourceLive outcomeOf trim sound withinLimits soundActors soundResources soundClaims acceptable alone over fresh drawn overChain machineMay drawnFrom rootKept namesStand claimFits resourceFits actorFits distinct chain circling rootGranted hasRight hasRights barsMachine
+unfolding desk calls run started kept granted withdrawn grantTests worldTests parentTests revokeTests sourceLive outcomeOf trim sound withinLimits soundActors soundResources soundClaims acceptable alone over fresh drawn overChain machineMay drawnFrom rootKept namesStand claimFits resourceFits actorFits distinct chain circling rootGranted hasRight hasRights barsMachine
 calls-left = refl
 
 calls-olds : olds (left desk calls) ≡ claim 7 0 1 1 ∷ []
-unfolding desk calls run started kept granted revoked grantTests worldTests parentTests revokeTests sourceLive outcomeOf trim sound withinLimits soundActors soundResources soundClaims acceptable alone over fresh drawn overChain machineMay drawnFrom rootKept namesStand claimFits resourceFits actorFits distinct chain circling rootGranted hasRight hasRights barsMachine
+unfolding desk calls run started kept granted withdrawn grantTests worldTests parentTests revokeTests sourceLive outcomeOf trim sound withinLimits soundActors soundResources soundClaims acceptable alone over fresh drawn overChain machineMay drawnFrom rootKept namesStand claimFits resourceFits actorFits distinct chain circling rootGranted hasRight hasRights barsMachine
 calls-olds = refl
 
 calls-grants : grants (left desk calls) ≡ grant (claim 1 0 1 3) 5 ∷ grant (claim 2 1 3 2) 4 ∷ []
-unfolding desk calls run started kept granted revoked grantTests worldTests parentTests revokeTests sourceLive outcomeOf trim sound withinLimits soundActors soundResources soundClaims acceptable alone over fresh drawn overChain machineMay drawnFrom rootKept namesStand claimFits resourceFits actorFits distinct chain circling rootGranted hasRight hasRights barsMachine
+unfolding desk calls run started kept granted withdrawn grantTests worldTests parentTests revokeTests sourceLive outcomeOf trim sound withinLimits soundActors soundResources soundClaims acceptable alone over fresh drawn overChain machineMay drawnFrom rootKept namesStand claimFits resourceFits actorFits distinct chain circling rootGranted hasRight hasRights barsMachine
 calls-grants = refl
 
 -- made again from claim 7 they are accepted, and end in the same claims
 calls-again : accepts (holding desk (olds (left desk calls))) (grants (left desk calls)) ≡ true
-unfolding desk calls run accepts started kept granted revoked grantTests worldTests parentTests revokeTests sourceLive outcomeOf trim sound withinLimits soundActors soundResources soundClaims acceptable alone over fresh drawn overChain machineMay drawnFrom rootKept namesStand claimFits resourceFits actorFits distinct chain circling rootGranted hasRight hasRights barsMachine
+unfolding desk calls run accepts started kept granted withdrawn grantTests worldTests parentTests revokeTests sourceLive outcomeOf trim sound withinLimits soundActors soundResources soundClaims acceptable alone over fresh drawn overChain machineMay drawnFrom rootKept namesStand claimFits resourceFits actorFits distinct chain circling rootGranted hasRight hasRights barsMachine
 calls-again = refl
 
 calls-same : claimsOf (run (holding desk (olds (left desk calls))) (grants (left desk calls)) .claims)
     ≡ claim 7 0 1 1 ∷ claim 1 0 1 3 ∷ claim 2 1 3 2 ∷ []
-unfolding desk calls run started kept granted revoked grantTests worldTests parentTests revokeTests sourceLive outcomeOf trim sound withinLimits soundActors soundResources soundClaims acceptable alone over fresh drawn overChain machineMay drawnFrom rootKept namesStand claimFits resourceFits actorFits distinct chain circling rootGranted hasRight hasRights barsMachine
+unfolding desk calls run started kept granted withdrawn grantTests worldTests parentTests revokeTests sourceLive outcomeOf trim sound withinLimits soundActors soundResources soundClaims acceptable alone over fresh drawn overChain machineMay drawnFrom rootKept namesStand claimFits resourceFits actorFits distinct chain circling rootGranted hasRight hasRights barsMachine
 calls-same = refl
 
 -- as the theorem says of every list of calls
@@ -123,18 +124,16 @@ spoilt = record {
   claims = record { list = claim 7 0 1 1 ∷ claim 8 7 1 3 ∷ claim 8 7 1 2 ∷ replicate 253 noClaim; count = 3 };
 }
 
--- v revokes x, and w revokes y
+-- one withdrawal and another
 record Pair : Type 0 where
-  v : ℕ
-  x : ℕ
-  w : ℕ
-  y : ℕ
+  one : Withdrawal
+  other : Withdrawal
 
-abbrev pair : ℕ → ℕ → ℕ → ℕ → Pair
-pair v x w y = record { v = v; x = x; w = w; y = y }
+abbrev pair : Withdrawal → Withdrawal → Pair
+pair v w = record { one = v; other = w }
 
 abbrev turned : Pair → Pair
-turned p = pair (p .w) (p .y) (p .v) (p .x)
+turned p = pair (p .other) (p .one)
 
 -- 0 for accepted, else the refusal's number
 abbrev toldNumber : Outcome → ℕ
@@ -142,10 +141,10 @@ toldNumber Accepted = 0
 toldNumber (Refused why) = numberOf why
 
 abbrev firstOf : Register → Pair → Revoked
-firstOf r p = revoked r (p .v) (p .x)
+firstOf r p = withdrawn r (p .one)
 
 abbrev secondOf : Register → Pair → Revoked
-secondOf r p = revoked (firstOf r p .register) (p .w) (p .y)
+secondOf r p = withdrawn (firstOf r p .register) (p .other)
 
 -- what the first call is told, what the second, how many go in all
 abbrev inTurn : Register → Pair → List ℕ
@@ -158,22 +157,22 @@ inBothOrders r p = inTurn r p ++ inTurn r (turned p)
 pairs : List Pair
 pairs =
     -- the same call twice
-    pair 1 8 1 8
+    pair (revoke 1 8) (revoke 1 8)
     -- two callers, one claim
-    ∷ pair 1 9 3 9
+    ∷ pair (revoke 1 9) (revoke 3 9)
     -- a claim, and one drawn from it
-    ∷ pair 1 8 3 9
+    ∷ pair (revoke 1 8) (revoke 3 9)
     -- two claims drawn from one
-    ∷ pair 1 8 1 10
+    ∷ pair (revoke 1 8) (revoke 1 10)
     -- a caller without standing on a claim, and the withdrawal of its parent
-    ∷ pair 2 9 1 8
+    ∷ pair (revoke 2 9) (revoke 1 8)
     -- a caller who does not stand, on the same claim
-    ∷ pair 4 9 1 8
+    ∷ pair (revoke 4 9) (revoke 1 8)
     -- no claim's number, and one out of range
-    ∷ pair 1 0 1 8
-    ∷ pair 1 65536 1 8
+    ∷ pair (revoke 1 0) (revoke 1 8)
+    ∷ pair (revoke 1 65536) (revoke 1 8)
     -- neither accepted
-    ∷ pair 3 10 4 7
+    ∷ pair (revoke 3 10) (revoke 4 7)
     ∷ []
 
 pairs-told : map (inBothOrders shelf) pairs ≡
@@ -187,7 +186,7 @@ pairs-told : map (inBothOrders shelf) pairs ≡
     ∷ (17 ∷ 0 ∷ 2 ∷ 0 ∷ 17 ∷ 2 ∷ [])
     ∷ (18 ∷ 3 ∷ 0 ∷ 3 ∷ 18 ∷ 0 ∷ [])
     ∷ []
-unfolding desk shelf pairs revoked revokeTests outcomeOf trim sound withinLimits soundActors soundResources soundClaims acceptable alone over fresh drawn overChain machineMay drawnFrom rootKept namesStand claimFits resourceFits actorFits distinct chain circling rootGranted hasRight hasRights barsMachine
+unfolding desk shelf pairs withdrawn revokeTests outcomeOf trim sound withinLimits soundActors soundResources soundClaims acceptable alone over fresh drawn overChain machineMay drawnFrom rootKept namesStand claimFits resourceFits actorFits distinct chain circling rootGranted hasRight hasRights barsMachine
 pairs-told = refl
 
 -- the ids that are left
@@ -208,19 +207,125 @@ pairs-left : map (leftInBothOrders shelf) pairs ≡
     ∷ ((7 ∷ 10 ∷ []) ∷ (7 ∷ 10 ∷ []) ∷ [])
     ∷ ((7 ∷ 8 ∷ 9 ∷ 10 ∷ []) ∷ (7 ∷ 8 ∷ 9 ∷ 10 ∷ []) ∷ [])
     ∷ []
-unfolding desk shelf pairs revoked revokeTests outcomeOf trim sound withinLimits soundActors soundResources soundClaims acceptable alone over fresh drawn overChain machineMay drawnFrom rootKept namesStand claimFits resourceFits actorFits distinct chain circling rootGranted hasRight hasRights barsMachine
+unfolding desk shelf pairs withdrawn revokeTests outcomeOf trim sound withinLimits soundActors soundResources soundClaims acceptable alone over fresh drawn overChain machineMay drawnFrom rootKept namesStand claimFits resourceFits actorFits distinct chain circling rootGranted hasRight hasRights barsMachine
 pairs-left = refl
 
 -- past the count every place is cleared where either call is accepted, and kept where neither is
-cleared-past : secondOf shelf (pair 2 9 1 8) .register .claims .list ≡ claim 7 0 1 1 ∷ claim 10 7 1 2 ∷ replicate 254 noClaim
-unfolding desk shelf revoked revokeTests outcomeOf trim sound withinLimits soundActors soundResources soundClaims acceptable alone over fresh drawn overChain machineMay drawnFrom rootKept namesStand claimFits resourceFits actorFits distinct chain circling rootGranted hasRight hasRights barsMachine
+cleared-past : secondOf shelf (pair (revoke 2 9) (revoke 1 8)) .register .claims .list ≡ claim 7 0 1 1 ∷ claim 10 7 1 2 ∷ replicate 254 noClaim
+unfolding desk shelf withdrawn revokeTests outcomeOf trim sound withinLimits soundActors soundResources soundClaims acceptable alone over fresh drawn overChain machineMay drawnFrom rootKept namesStand claimFits resourceFits actorFits distinct chain circling rootGranted hasRight hasRights barsMachine
 cleared-past = refl
 
-kept-past : secondOf shelf (pair 3 10 4 7) .register ≡ shelf
-unfolding desk shelf revoked revokeTests outcomeOf trim sound withinLimits soundActors soundResources soundClaims acceptable alone over fresh drawn overChain machineMay drawnFrom rootKept namesStand claimFits resourceFits actorFits distinct chain circling rootGranted hasRight hasRights barsMachine
+kept-past : secondOf shelf (pair (revoke 3 10) (revoke 4 7)) .register ≡ shelf
+unfolding desk shelf withdrawn revokeTests outcomeOf trim sound withinLimits soundActors soundResources soundClaims acceptable alone over fresh drawn overChain machineMay drawnFrom rootKept namesStand claimFits resourceFits actorFits distinct chain circling rootGranted hasRight hasRights barsMachine
 kept-past = refl
 
 -- a register that is not sound tells 1 to both
-spoilt-told : inBothOrders spoilt (pair 1 8 1 7) ≡ 1 ∷ 1 ∷ 0 ∷ 1 ∷ 1 ∷ 0 ∷ []
-unfolding desk spoilt revoked revokeTests outcomeOf trim sound withinLimits soundActors soundResources soundClaims acceptable alone over fresh drawn overChain machineMay drawnFrom rootKept namesStand claimFits resourceFits actorFits distinct chain circling rootGranted hasRight hasRights barsMachine
+spoilt-told : inBothOrders spoilt (pair (revoke 1 8) (revoke 1 7)) ≡ 1 ∷ 1 ∷ 0 ∷ 1 ∷ 1 ∷ 0 ∷ []
+unfolding desk spoilt withdrawn revokeTests outcomeOf trim sound withinLimits soundActors soundResources soundClaims acceptable alone over fresh drawn overChain machineMay drawnFrom rootKept namesStand claimFits resourceFits actorFits distinct chain circling rootGranted hasRight hasRights barsMachine
 spoilt-told = refl
+
+-- until a moment on a resource, with READ, WRITE and DELEGATE
+abbrev dated : ℕ → ℕ → ℕ → ℕ → ℕ → ℕ → ℕ → Claim
+dated id parent grantor holder resource weight expiry = record {
+  id = id;
+  parent = parent;
+  grantor = grantor;
+  holder = holder;
+  resource = resource;
+  rights = 19;
+  weight = weight;
+  expiry = expiry;
+}
+
+-- the same actors, and a second resource that the other human keeps: on the first a claim until 2,000 and one without end drawn from it, on the
+-- second a claim of weight 0 without end and one until 2,001 drawn from it
+cabinet : Register
+cabinet = record {
+  actors = desk .actors;
+  resources = record {
+    list = record { id = 10; public = 0; keeper = 1; len = 0; path = replicate 64 0 } ∷ record { id = 20; public = 0; keeper = 3; len = 0; path = replicate 64 0 }
+        ∷ replicate 62 noResource;
+    count = 2;
+  };
+  claims = record {
+    list = dated 7 0 1 1 10 600 2000 ∷ dated 8 7 1 3 10 600 0 ∷ dated 9 0 3 3 20 0 0 ∷ dated 11 9 3 2 20 0 2001 ∷ replicate 252 noClaim;
+    count = 4;
+  };
+}
+
+clearings : List Withdrawal
+clearings =
+    -- at 0 nothing has expired, and at 1,999 nothing yet; at 2,000 what is drawn from it goes too
+    clearExpired 1 0
+    ∷ clearExpired 3 1999
+    ∷ clearExpired 3 2000
+    ∷ clearExpired 1 2001
+    -- a moment out of range before a caller who is not known, and that before one who is not human
+    ∷ clearExpired 4 4294967296
+    ∷ clearExpired 4 2000
+    ∷ clearExpired 2 2000
+    -- a resource by its keeper; by the keeper of another, and by the keeper's machine
+    ∷ clearResource 1 10
+    ∷ clearResource 3 20
+    ∷ clearResource 1 20
+    ∷ clearResource 2 10
+    -- neither caller nor resource is known; one of them
+    ∷ clearResource 4 30
+    ∷ clearResource 4 10
+    ∷ clearResource 1 30
+    ∷ []
+
+-- what the call is told, and how many go
+clearings-told : map (λ w. toldNumber (withdrawn cabinet w .outcome) ∷ withdrawn cabinet w .removed ∷ []) clearings ≡
+    (0 ∷ 0 ∷ [])
+    ∷ (0 ∷ 0 ∷ [])
+    ∷ (0 ∷ 2 ∷ [])
+    ∷ (0 ∷ 3 ∷ [])
+    ∷ (2 ∷ 0 ∷ [])
+    ∷ (3 ∷ 0 ∷ [])
+    ∷ (18 ∷ 0 ∷ [])
+    ∷ (0 ∷ 2 ∷ [])
+    ∷ (0 ∷ 2 ∷ [])
+    ∷ (18 ∷ 0 ∷ [])
+    ∷ (18 ∷ 0 ∷ [])
+    ∷ (3 ∷ 0 ∷ [])
+    ∷ (3 ∷ 0 ∷ [])
+    ∷ (3 ∷ 0 ∷ [])
+    ∷ []
+unfolding desk cabinet clearings withdrawn revokeTests clearResourceTests clearExpiredTests outcomeOf trim sound withinLimits soundActors soundResources soundClaims acceptable alone over fresh drawn overChain machineMay drawnFrom rootKept namesStand claimFits resourceFits actorFits distinct chain circling rootGranted hasRight hasRights barsMachine
+clearings-told = refl
+
+-- the kinds of pair that have a clearing
+kinds : List Pair
+kinds =
+    pair (revoke 1 8) (clearResource 1 10)
+    -- a revoker without standing, whose claim goes with an old one
+    ∷ pair (revoke 3 8) (clearExpired 3 2000)
+    ∷ pair (clearResource 1 10) (clearResource 3 20)
+    ∷ pair (clearResource 3 20) (clearExpired 1 2001)
+    ∷ pair (clearExpired 1 2000) (clearExpired 3 2001)
+    -- neither accepted
+    ∷ pair (clearResource 1 20) (clearExpired 2 2000)
+    ∷ []
+
+kinds-told : map (inBothOrders cabinet) kinds ≡
+    (0 ∷ 0 ∷ 2 ∷ 0 ∷ 17 ∷ 2 ∷ [])
+    ∷ (18 ∷ 0 ∷ 2 ∷ 0 ∷ 17 ∷ 2 ∷ [])
+    ∷ (0 ∷ 0 ∷ 4 ∷ 0 ∷ 0 ∷ 4 ∷ [])
+    ∷ (0 ∷ 0 ∷ 4 ∷ 0 ∷ 0 ∷ 4 ∷ [])
+    ∷ (0 ∷ 0 ∷ 3 ∷ 0 ∷ 0 ∷ 3 ∷ [])
+    ∷ (18 ∷ 18 ∷ 0 ∷ 18 ∷ 18 ∷ 0 ∷ [])
+    ∷ []
+unfolding desk cabinet kinds withdrawn revokeTests clearResourceTests clearExpiredTests outcomeOf trim sound withinLimits soundActors soundResources soundClaims acceptable alone over fresh drawn overChain machineMay drawnFrom rootKept namesStand claimFits resourceFits actorFits distinct chain circling rootGranted hasRight hasRights barsMachine
+kinds-told = refl
+
+kinds-left : map (leftInBothOrders cabinet) kinds ≡
+    ((9 ∷ 11 ∷ []) ∷ (9 ∷ 11 ∷ []) ∷ [])
+    ∷ ((9 ∷ 11 ∷ []) ∷ (9 ∷ 11 ∷ []) ∷ [])
+    ∷ ([] ∷ [] ∷ [])
+    ∷ ([] ∷ [] ∷ [])
+    ∷ ((9 ∷ []) ∷ (9 ∷ []) ∷ [])
+    ∷ ((7 ∷ 8 ∷ 9 ∷ 11 ∷ []) ∷ (7 ∷ 8 ∷ 9 ∷ 11 ∷ []) ∷ [])
+    ∷ []
+unfolding desk cabinet kinds withdrawn revokeTests clearResourceTests clearExpiredTests outcomeOf trim sound withinLimits soundActors soundResources soundClaims acceptable alone over fresh drawn overChain machineMay drawnFrom rootKept namesStand claimFits resourceFits actorFits distinct chain circling rootGranted hasRight hasRights barsMachine
+kinds-left = refl

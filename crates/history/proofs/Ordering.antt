@@ -1,14 +1,14 @@
--- Two revocations, one after the other: what the second is told, and that a revocation is steady. Assumes nothing.
+-- Two withdrawals, one after the other: what the second is told, and that each is steady. Assumes nothing.
 use mathlib.Core.Path.{_≡_, refl, ap, sym, _∙_}
 use mathlib.Core.Logic.{inl, inr, ⊎-elim}
-use mathlib.Core.Bool.{Bool, true, false, not, _&&_, cond}
+use mathlib.Core.Bool.{Bool, true, false, not, _&&_, cond, and-false, false≢true}
 use mathlib.Core.List.{List}
 use Prim.Native.Nat.{ℕ, _+_, _<_}
 use borrow.Author.Tests.{ne-eqb, eq-eqb}
 use lib.Dec.{eqb}
 use Rattle.lists.specs.Tests.{cases, clash, and-left, and-right}
 use Rattle.lists.specs.Lists.{any}
-use Rattle.lists.specs.Each.{none-all, none-weaken, ands-out}
+use Rattle.lists.specs.Each.{none-all, none-weaken, All}
 use Rattle.register.specs.Chain.{chain, numbered}
 use Rattle.register.specs.Laws.{chain-ind, numbered-own, numbered-id}
 use Rattle.register.specs.declared.Claim.{Claim}
@@ -17,27 +17,17 @@ use Rattle.rules.specs.Sound.{sound}
 use Rattle.rules.specs.Registers.{sound-out}
 use Rattle.rules.specs.Striking.{Distinct, strike-sound, chain-strike, chain-gone, sound-distinct}
 use Rattle.refusals.specs.Refusals.{outcomeOf, isAccepted}
-use Rattle.changes.specs.Changes.{worldIn, standing, revokeTests, revoked}
+use Rattle.changes.specs.Changes.{worldIn, standing, revokeTests, Withdrawal, revoke, clearResource, clearExpired, names, clearResourceTests, clearExpiredTests, withdrawn}
+use Rattle.refusals.specs.Laws.{outcome-pass}
 use Rattle.refusals.specs.declared.Refusal.the-variants.{Unsound, Unknown, ClaimAbsent, NoGrantor}
 use Rattle.refusals.specs.declared.Outcome.{Outcome}
 use Rattle.refusals.specs.declared.Outcome.the-variants.{Accepted, Refused}
-use Rattle.history.specs.History.{revoke, took}
-use Rattle.history.specs.Calls.{revokeAsks, revoke-accepted, revoked-register, refused-register}
-use Rattle.history.specs.Holds.{standing-holding, revoked-sound}
-use Rattle.history.specs.Order.{SameOrAbsent, AcceptedOrBarred, isAbsent, turnsAbsent, takes}
-use Rattle.history.proofs.Withdrawing.{Withdrawal, after, went, leaving, without, Steady, either-order, either-sum}
-
--- a revocation as a withdrawal
-abbrev revocation : ℕ → ℕ → Withdrawal
-revocation who x = record { told = λ r. revoked r who x .outcome; names = λ c. eqb (c .id) x }
-
-revoked-after : (r : Register) (who x : ℕ) → revoked r who x .register ≡ after (revocation who x) r
-unfolding revoked
-revoked-after r who x = refl
-
-revoked-went : (r : Register) (who x : ℕ) → revoked r who x .removed ≡ went (revocation who x) r
-unfolding revoked
-revoked-went r who x = refl
+use Rattle.history.specs.History.{took, withdraw}
+use Rattle.history.specs.Calls.{refused-register, took-sound, withdrawn-register}
+use Rattle.history.specs.Holds.{standing-holding, without-sound}
+use Rattle.history.specs.Order.{AcceptedOrBarred, isAbsent, turnsAbsent, takes, SecondTold, loses}
+use Rattle.history.proofs.Withdrawing.{leaving, without, Steady}
+use Rattle.history.proofs.Withdrawing as withdrawing
 
 abbrev chainFrom : List Claim → ℕ → List Claim
 chainFrom L y = chain (λ c. c .id) (λ c. c .parent) L y
@@ -61,9 +51,9 @@ abbrev tell : Bool → Bool → Bool → Bool → Outcome
 tell judged known standing granting =
     cond judged (cond known (cond standing (cond granting Accepted (Refused NoGrantor)) (Refused ClaimAbsent)) (Refused Unknown)) (Refused Unsound)
 
-told-by : (r : Register) (w y : ℕ) → revoked r w y .outcome
+told-by : (r : Register) (w y : ℕ) → withdrawn r (revoke w y) .outcome
     ≡ tell (sound r) (worldIn r .known w) (stands (standing r) y) (any (λ c. eqb (c .grantor) w) (chainFrom (standing r) y))
-unfolding revoked revokeTests outcomeOf
+unfolding withdrawn revokeTests outcomeOf
 told-by r w y = refl
 
 distinct-standing : (r : Register) → sound r ≡ true → Distinct (λ c. c .id) (λ c. c .parent) (standing r)
@@ -91,89 +81,107 @@ module _ (P : Claim → Bool) (r : Register) (h : sound r ≡ true) where
       ∙ ap (any (λ c. true)) (chain-strike (λ c. c .id) (λ c. c .parent) P (standing r) y e) ∙ sym (stands-chain (standing r) y (distinct-standing r h))
 
   -- what a revocation is told behind a striking
-  told-without : (w y : ℕ) → revoked (without P r) w y .outcome
-      ≡ cond (worldIn r .known w && any P (chainFrom (standing r) y)) (Refused ClaimAbsent) (revoked r w y .outcome)
-  told-without w y =
-      told-by (without P r) w y
-      ∙ rw (revoked-sound r P h, standing-holding r (leaving P (standing r)), told-by r w y, h) (
-      cases (worldIn r .known w) (λ known. rw known (
+  revoke-without : (who y : ℕ) → withdrawn (without P r) (revoke who y) .outcome
+      ≡ cond (worldIn r .known who && any P (chainFrom (standing r) y)) (Refused ClaimAbsent) (withdrawn r (revoke who y) .outcome)
+  revoke-without who y =
+      told-by (without P r) who y
+      ∙ rw (without-sound r P h, standing-holding r (leaving P (standing r)), told-by r who y, h) (
+      cases (worldIn r .known who) (λ known. rw known (
       cases (any P (chainFrom (standing r) y))
       (λ e. rw (e, gone-stands y e))
       (λ e. rw (e, kept-stands y e, chain-strike (λ c. c .id) (λ c. c .parent) P (standing r) y e))))
       (λ unknown. rw unknown))
 
-steady : (w y : ℕ) → Steady (revocation w y)
-steady w y = record {
-  judges = λ r e. ands-out (revokeAsks r w y) (sym (revoke-accepted r w y) ∙ e) .0;
-  stays = λ P r h. cases (worldIn r .known w && any P (chainFrom (standing r) y))
-      (λ e. inr (none-all (λ c. eqb (c .id) y) (leaving P (standing r))
-      (gone-stands P r h y (and-right (worldIn r .known w) (any P (chainFrom (standing r) y)) e))))
-      (λ e. inl (ap isAccepted (told-without P r h w y ∙ ap (λ b. cond b (Refused ClaimAbsent) (revoked r w y .outcome)) e)));
+  -- a clearing looks at the claims for their soundness alone, and that stays
+  clear-resource-without : (who o : ℕ) → withdrawn (without P r) (clearResource who o) .outcome ≡ withdrawn r (clearResource who o) .outcome
+  unfolding withdrawn clearResourceTests
+  clear-resource-without who o = outcome-pass _ _ (without-sound r P h) ∙ sym (outcome-pass _ _ h)
+
+  clear-expired-without : (who now : ℕ) → withdrawn (without P r) (clearExpired who now) .outcome ≡ withdrawn r (clearExpired who now) .outcome
+  unfolding withdrawn clearExpiredTests
+  clear-expired-without who now = outcome-pass _ _ (without-sound r P h) ∙ sym (outcome-pass _ _ h)
+
+  -- what a withdrawal is told behind a striking
+  told-without : (w : Withdrawal) → withdrawn (without P r) w .outcome ≡ cond (loses r P w) (Refused ClaimAbsent) (withdrawn r w .outcome)
+  told-without (revoke who y) = revoke-without who y
+  told-without (clearResource who o) = clear-resource-without who o
+  told-without (clearExpired who now) = clear-expired-without who now
+
+  -- one that loses its claim names nothing that is left
+  lost-none : (w : Withdrawal) → loses r P w ≡ true → All (λ c. names w c ≡ false) (leaving P (standing r))
+  lost-none (revoke who y) e = none-all (λ c. eqb (c .id) y) (leaving P (standing r))
+      (gone-stands y (and-right (worldIn r .known who) (any P (chainFrom (standing r) y)) e))
+  lost-none (clearResource who o) e = absurd (false≢true e)
+  lost-none (clearExpired who now) e = absurd (false≢true e)
+
+steady : (w : Withdrawal) → Steady w
+steady w = record {
+  judges = λ r e. took-sound r w e;
+  stays = λ P r h. cases (loses r P w)
+      (λ e. inr (lost-none P r h w e))
+      (λ e. inl (ap isAccepted (told-without P r h w ∙ ap (λ b. cond b (Refused ClaimAbsent) (withdrawn r w .outcome)) e)));
 }
 
 -- the same register in either order
-pub revoke-order : (r : Register) (v x w y : ℕ) → revoked (revoked r v x .register) w y .register ≡ revoked (revoked r w y .register) v x .register
-revoke-order r v x w y =
-    revoked-after (revoked r v x .register) w y ∙ ap (after (revocation w y)) (revoked-after r v x)
-    ∙ either-order (revocation v x) (revocation w y) (steady v x) (steady w y) r
-    ∙ sym (revoked-after (revoked r w y .register) v x ∙ ap (after (revocation v x)) (revoked-after r w y))
+pub withdraw-order : (r : Register) (v w : Withdrawal)
+    → withdrawn (withdrawn r v .register) w .register ≡ withdrawn (withdrawn r w .register) v .register
+withdraw-order r v w = withdrawing.withdraw-order v w (steady v) (steady w) r
 
 -- as many removed in all
-pub revoke-sum : (r : Register) (v x w y : ℕ)
-    → revoked r v x .removed + revoked (revoked r v x .register) w y .removed ≡ revoked r w y .removed + revoked (revoked r w y .register) v x .removed
-revoke-sum r v x w y =
-    rw (
-      revoked-went r v x,
-      revoked-went (revoked r v x .register) w y,
-      revoked-after r v x,
-      revoked-went r w y,
-      revoked-went (revoked r w y .register) v x,
-      revoked-after r w y,
-    )
-    (either-sum (revocation v x) (revocation w y) (steady v x) (steady w y) r)
+pub withdraw-sum : (r : Register) (v w : Withdrawal)
+    → withdrawn r v .removed + withdrawn (withdrawn r v .register) w .removed ≡ withdrawn r w .removed + withdrawn (withdrawn r w .register) v .removed
+withdraw-sum r v w = withdrawing.withdraw-sum v w (steady v) (steady w) r
 
 -- the call that comes second is told 17 where the first takes its claim, and otherwise as alone
-second-told : (r : Register) (v x w y : ℕ)
-    → revoked (revoked r v x .register) w y .outcome ≡ cond (takes r v x w y) (Refused ClaimAbsent) (revoked r w y .outcome)
-second-told r v x w y = cases (took r (revoke v x))
-    (λ e. ap (λ s. revoked s w y .outcome) (revoked-register r v x e)
-    ∙ told-without (λ c. eqb (c .id) x) r (steady v x .judges r e) w y
-    ∙ ap (λ b. cond (b && (worldIn r .known w && any (λ c. eqb (c .id) x) (chainFrom (standing r) y))) (Refused ClaimAbsent) (revoked r w y .outcome)) (sym e))
-    (λ e. ap (λ s. revoked s w y .outcome) (refused-register r (revoke v x) e)
-    ∙ ap (λ b. cond (b && (worldIn r .known w && any (λ c. eqb (c .id) x) (chainFrom (standing r) y))) (Refused ClaimAbsent) (revoked r w y .outcome)) (sym e))
+second-told : (r : Register) (v w : Withdrawal)
+    → withdrawn (withdrawn r v .register) w .outcome ≡ cond (takes r v w) (Refused ClaimAbsent) (withdrawn r w .outcome)
+second-told r v w = cases (took r (withdraw v))
+    (λ e. ap (λ s. withdrawn s w .outcome) (withdrawn-register r v e)
+    ∙ told-without (names v) r (took-sound r v e) w
+    ∙ ap (λ b. cond (b && loses r (names v) w) (Refused ClaimAbsent) (withdrawn r w .outcome)) (sym e))
+    (λ e. ap (λ s. withdrawn s w .outcome) (refused-register r (withdraw v) e)
+    ∙ ap (λ b. cond (b && loses r (names v) w) (Refused ClaimAbsent) (withdrawn r w .outcome)) (sym e))
 
-pub revoke-second : (r : Register) (v x w y : ℕ) → SameOrAbsent (revoked r w y .outcome) (revoked (revoked r v x .register) w y .outcome)
-revoke-second r v x w y = cases (takes r v x w y)
-    (λ e. inr (second-told r v x w y ∙ ap (λ b. cond b (Refused ClaimAbsent) (revoked r w y .outcome)) e))
-    (λ e. inl (second-told r v x w y ∙ ap (λ b. cond b (Refused ClaimAbsent) (revoked r w y .outcome)) e))
+-- where the first takes nothing from it, the second is told as alone
+untaken-told : (r : Register) (v w : Withdrawal) → takes r v w ≡ false → withdrawn (withdrawn r v .register) w .outcome ≡ withdrawn r w .outcome
+untaken-told r v w e = second-told r v w ∙ ap (λ b. cond b (Refused ClaimAbsent) (withdrawn r w .outcome)) e
 
--- a call whose claim the other takes would have passed tests 1, 3 and 17
-taken-alone : (r : Register) (v x w y : ℕ) → takes r v x w y ≡ true
-    → revoked r w y .outcome ≡ cond (any (λ c. eqb (c .grantor) w) (chainFrom (standing r) y)) Accepted (Refused NoGrantor)
-taken-alone r v x w y e =
-    let first = and-left (took r (revoke v x)) _ e in
-    let rest = and-right (took r (revoke v x)) (worldIn r .known w && any (λ c. eqb (c .id) x) (chainFrom (standing r) y)) e in
-    let h = steady v x .judges r first in
-    told-by r w y
+pub withdraw-second : (r : Register) (v w : Withdrawal) → SecondTold w (withdrawn r w .outcome) (withdrawn (withdrawn r v .register) w .outcome)
+withdraw-second r v (revoke who y) = cases (takes r v (revoke who y))
+    (λ e. inr (second-told r v (revoke who y) ∙ ap (λ b. cond b (Refused ClaimAbsent) (withdrawn r (revoke who y) .outcome)) e))
+    (λ e. inl (untaken-told r v (revoke who y) e))
+withdraw-second r v (clearResource who o) = untaken-told r v (clearResource who o) (and-false (took r (withdraw v)))
+withdraw-second r v (clearExpired who now) = untaken-told r v (clearExpired who now) (and-false (took r (withdraw v)))
+
+-- a revocation whose claim another withdrawal takes would have passed tests 1, 3 and 17
+taken-alone : (r : Register) (v : Withdrawal) (who y : ℕ) → takes r v (revoke who y) ≡ true
+    → withdrawn r (revoke who y) .outcome ≡ cond (any (λ c. eqb (c .grantor) who) (chainFrom (standing r) y)) Accepted (Refused NoGrantor)
+taken-alone r v who y e =
+    let first = and-left (took r (withdraw v)) _ e in
+    let rest = and-right (took r (withdraw v)) (worldIn r .known who && any (names v) (chainFrom (standing r) y)) e in
+    let h = took-sound r v first in
+    told-by r who y
     ∙ rw (
       h,
-      and-left (worldIn r .known w) (any (λ c. eqb (c .id) x) (chainFrom (standing r) y)) rest,
-      named-stands (λ c. eqb (c .id) x) r h y (and-right (worldIn r .known w) (any (λ c. eqb (c .id) x) (chainFrom (standing r) y)) rest),
+      and-left (worldIn r .known who) (any (names v) (chainFrom (standing r) y)) rest,
+      named-stands (names v) r h y (and-right (worldIn r .known who) (any (names v) (chainFrom (standing r) y)) rest),
     )
 
 not-both : (a : Bool) → a && not a ≡ false
 not-both true = refl
 not-both false = refl
 
-pub revoke-lost : (r : Register) (v x w y : ℕ) → takes r v x w y ≡ true → AcceptedOrBarred (revoked r w y .outcome)
-revoke-lost r v x w y e = rw (taken-alone r v x w y e) (either (any (λ c. eqb (c .grantor) w) (chainFrom (standing r) y)))
-  where
-    either : (granting : Bool) → AcceptedOrBarred (cond granting Accepted (Refused NoGrantor))
-    either true = inl refl
-    either false = inr refl
+either-told : (granting : Bool) → AcceptedOrBarred (cond granting Accepted (Refused NoGrantor))
+either-told true = inl refl
+either-told false = inr refl
 
-pub revoke-told : (r : Register) (v x w y : ℕ)
-    → turnsAbsent (revoked r w y .outcome) (revoked (revoked r v x .register) w y .outcome) ≡ takes r v x w y
-revoke-told r v x w y = ap (turnsAbsent (revoked r w y .outcome)) (second-told r v x w y) ∙ cases (takes r v x w y)
-    (λ e. rw e (ap not (⊎-elim (ap isAbsent) (ap isAbsent) (revoke-lost r v x w y e))))
-    (λ e. rw e (not-both (isAbsent (revoked r w y .outcome))))
+pub withdraw-lost : (r : Register) (v w : Withdrawal) → takes r v w ≡ true → AcceptedOrBarred (withdrawn r w .outcome)
+withdraw-lost r v (revoke who y) e = rw (taken-alone r v who y e) (either-told (any (λ c. eqb (c .grantor) who) (chainFrom (standing r) y)))
+withdraw-lost r v (clearResource who o) e = absurd (false≢true (and-right (took r (withdraw v)) false e))
+withdraw-lost r v (clearExpired who now) e = absurd (false≢true (and-right (took r (withdraw v)) false e))
+
+pub withdraw-told : (r : Register) (v w : Withdrawal)
+    → turnsAbsent (withdrawn r w .outcome) (withdrawn (withdrawn r v .register) w .outcome) ≡ takes r v w
+withdraw-told r v w = ap (turnsAbsent (withdrawn r w .outcome)) (second-told r v w) ∙ cases (takes r v w)
+    (λ e. rw e (ap not (⊎-elim (ap isAbsent) (ap isAbsent) (withdraw-lost r v w e))))
+    (λ e. rw e (not-both (isAbsent (withdrawn r w .outcome))))

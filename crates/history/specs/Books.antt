@@ -1,4 +1,4 @@
--- What is left in a book after an accepted grant and after an accepted revocation, and what stays true of it: striking by lines is
+-- What is left in a book after an accepted grant and after an accepted withdrawal, and what stays true of it: striking by lines is
 -- striking by chains. Assumes nothing.
 use mathlib.Core.Path.{_≡_, refl, ap, sym, _∙_, fun-ext}
 use mathlib.Core.Bool.{Bool, true, false, not, _||_, or-true, or-false, false≢true, true≢false}
@@ -17,8 +17,8 @@ use Rattle.register.specs.Chain.{chain}
 use Rattle.register.specs.Laws.{all-chain, chain-map}
 use Rattle.register.specs.declared.Claim.{Claim}
 use Rattle.rules.specs.Striking.{struck, strike, above-kept, strike-same}
-use Rattle.changes.specs.Changes.{sourceLive}
-use Rattle.history.specs.History.{grant, revoke, Entry, Book, claims, serials, among, gone, remains, entered, started, wrote}
+use Rattle.changes.specs.Changes.{sourceLive, Withdrawal, names}
+use Rattle.history.specs.History.{grant, Entry, Book, claims, serials, among, gone, remains, entered, started, wrote, withdraw}
 
 -- each is to those behind it as R says and over its chain as F says: striking keeps that
 pub strike-each : {C : Type 0} (id up : C → ℕ) (R : C → C → Type 0) (F : List C → C → Type 0) (P : C → Bool) (L : List C)
@@ -101,30 +101,30 @@ kept-grant b c now v moment lives = record {
   spent = all-imp _ _ (λ t p. omega arith) (b .named) (v .spent);
 }
 
--- the entries that have the id x
-abbrev withId : ℕ → List Entry → List Entry
-withId x L = filter (λ e. eqb (e .claim .id) x) L
+-- the entries that P names
+abbrev naming : (Claim → Bool) → List Entry → List Entry
+naming P L = filter (λ e. P (e .claim)) L
 
--- among those that stand, their serial numbers are those of the claims with that id
-abbrev Agrees : ℕ → List ℕ → Entry → Type 0
-Agrees x named e = has named e ≡ eqb (e .claim .id) x
+-- among those that stand, their serial numbers are those of the claims that P names
+abbrev Agrees : (Claim → Bool) → List ℕ → Entry → Type 0
+Agrees P named e = has named e ≡ P (e .claim)
 
-agree : (x : ℕ) (L : List Entry) → Fine L → All (Agrees x (serials (withId x L))) L
-agree x [] h = tt
-agree x (e ∷ L) h = let low = all-imp (After e) (Below (e .serial)) (λ d a. a .0) L (h .0 .0) in
-    cases (eqb (e .claim .id) x)
-    (λ q. rw (filter-hit (λ e. eqb (e .claim .id) x) e L q) (
+agree : (P : Claim → Bool) (L : List Entry) → Fine L → All (Agrees P (serials (naming P L))) L
+agree P [] h = tt
+agree P (e ∷ L) h = let low = all-imp (After e) (Below (e .serial)) (λ d a. a .0) L (h .0 .0) in
+    cases (P (e .claim))
+    (λ q. rw (filter-hit (λ e. P (e .claim)) e L q) (
       rw (eq-eqb (e .serial) (e .serial) refl) (sym q),
-      all-both (Below (e .serial)) (Agrees x (serials (withId x L))) (Agrees x (e .serial ∷ serials (withId x L)))
-          (λ d l a. rw (ne-eqb (d .serial) (e .serial) (omega arith)) a) L low (agree x L (h .1)),
+      all-both (Below (e .serial)) (Agrees P (serials (naming P L))) (Agrees P (e .serial ∷ serials (naming P L)))
+          (λ d l a. rw (ne-eqb (d .serial) (e .serial) (omega arith)) a) L low (agree P L (h .1)),
     ))
-    (λ q. rw (filter-miss (λ e. eqb (e .claim .id) x) e L q) (
-      above-named (e .serial) (serials (withId x L))
-          (all-map (λ (d : Entry). d .serial) (λ t. t < e .serial) (withId x L) (all-trim (λ M e. not (eqb (e .claim .id) x)) (Below (e .serial)) L low)) ∙ sym q,
-      agree x L (h .1),
+    (λ q. rw (filter-miss (λ e. P (e .claim)) e L q) (
+      above-named (e .serial) (serials (naming P L))
+          (all-map (λ (d : Entry). d .serial) (λ t. t < e .serial) (naming P L) (all-trim (λ M e. not (P (e .claim))) (Below (e .serial)) L low)) ∙ sym q,
+      agree P L (h .1),
     ))
 
--- an accepted revocation: striking by lines is striking by chains
+-- an accepted withdrawal: striking by lines is striking by chains
 gone-strike : (named : List ℕ) (L : List Entry) → Fine L → trim (λ M. gone named) L ≡ strike idIn parentIn (has named) L
 gone-strike named L h = trim-same (λ M e. gone named e) (struck idIn parentIn (has named)) L (each-imp _ _
     (λ M e k. rw (k .1 .1, any-map (λ (e : Entry). e .serial) (among named) (chain idIn parentIn M (parentIn e)))) L h)
@@ -133,23 +133,23 @@ gone-either : (named more : List ℕ) (e : Entry) → gone (more ++ named) e ≡
 gone-either named more e = ap (λ P. any P (e .serial ∷ e .line)) (fun-ext (λ s. any-append (eqb s) more named))
     ∙ any-either (among more) (among named) (e .serial ∷ e .line)
 
-pub remains-revoke : (b : Book) (who x : ℕ) → Fine (remains b)
-    → remains (wrote b (revoke who x)) ≡ strike idIn parentIn (λ e. eqb (e .claim .id) x) (remains b)
-remains-revoke b who x h =
-    let more : List ℕ = serials (withId x (remains b)) in
-    remains-trim (wrote b (revoke who x)) ∙ sym (trim-trim (λ M. gone (more ++ b .named)) (λ M. gone more) (λ M. gone (b .named)) (b .all) (each-all _ (λ M e. (
+pub remains-withdraw : (b : Book) (w : Withdrawal) → Fine (remains b)
+    → remains (wrote b (withdraw w)) ≡ strike idIn parentIn (λ e. names w (e .claim)) (remains b)
+remains-withdraw b w h =
+    let more : List ℕ = serials (naming (names w) (remains b)) in
+    remains-trim (wrote b (withdraw w)) ∙ sym (trim-trim (λ M. gone (more ++ b .named)) (λ M. gone more) (λ M. gone (b .named)) (b .all) (each-all _ (λ M e. (
       (λ k. gone-either (b .named) more e ∙ rw k (or-true (gone more e))),
       λ k. sym (gone-either (b .named) more e ∙ rw k (or-false (gone more e))),
     )) (b .all)))
-    ∙ ap (trim (λ M. gone more)) (sym (remains-trim b)) ∙ gone-strike more (remains b) h ∙ strike-same idIn parentIn (has more) (λ e. eqb (e .claim .id) x) (remains b) (agree x (remains b) h)
+    ∙ ap (trim (λ M. gone more)) (sym (remains-trim b)) ∙ gone-strike more (remains b) h ∙ strike-same idIn parentIn (has more) (λ e. names w (e .claim)) (remains b) (agree (names w) (remains b) h)
 
-pub kept-revoke : (b : Book) (who x : ℕ) → Kept b → Kept (wrote b (revoke who x))
-kept-revoke b who x v = record {
-  fine = rw (remains-revoke b who x (v .fine)) (strike-each idIn parentIn After Lined (λ e. eqb (e .claim .id) x) (remains b) (v .fine));
-  used = rw (remains-revoke b who x (v .fine)) (all-trim (struck idIn parentIn (λ e. eqb (e .claim .id) x)) (Below (length (b .all))) (remains b) (v .used));
-  spent = all-append (λ t. t < length (b .all)) (serials (withId x (remains b))) (b .named)
-      (all-map (λ (e : Entry). e .serial) (λ t. t < length (b .all)) (withId x (remains b))
-      (all-trim (λ M e. not (eqb (e .claim .id) x)) (Below (length (b .all))) (remains b) (v .used))) (v .spent);
+pub kept-withdraw : (b : Book) (w : Withdrawal) → Kept b → Kept (wrote b (withdraw w))
+kept-withdraw b w v = record {
+  fine = rw (remains-withdraw b w (v .fine)) (strike-each idIn parentIn After Lined (λ e. names w (e .claim)) (remains b) (v .fine));
+  used = rw (remains-withdraw b w (v .fine)) (all-trim (struck idIn parentIn (λ e. names w (e .claim))) (Below (length (b .all))) (remains b) (v .used));
+  spent = all-append (λ t. t < length (b .all)) (serials (naming (names w) (remains b))) (b .named)
+      (all-map (λ (e : Entry). e .serial) (λ t. t < length (b .all)) (naming (names w) (remains b))
+      (all-trim (λ M e. not (names w (e .claim))) (Below (length (b .all))) (remains b) (v .used))) (v .spent);
 }
 
 -- the book at the start

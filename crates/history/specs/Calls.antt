@@ -10,14 +10,16 @@ use Rattle.lists.specs.Lists.{any, every}
 use Rattle.lists.specs.Each.{ands-out}
 use Rattle.rights.specs.Rights.{delegating, hasRight, hasRights, barsMachine}
 use Rattle.register.specs.Limits.{claimLimit, momentEnd}
+use Rattle.register.specs.Register.{actorsOf}
 use Rattle.register.specs.Chain.{chain, above, circling}
 use Rattle.register.specs.declared.Claim.{Claim}
 use Rattle.register.specs.declared.Register.{Register}
-use Rattle.rules.specs.Sound.{sound, claimFits, namesStand, rootKept, machineMay, drawnFrom, withinHops, overChain, drawn, fresh, acceptable}
+use Rattle.rules.specs.Sound.{sound, claimFits, namesStand, rootKept, machineMay, drawnFrom, withinHops, overChain, drawn, fresh, acceptable, human}
 use Rattle.rules.specs.Laws.{acceptable-out, acceptable-in}
 use Rattle.refusals.specs.Refusals.{Test, outcomeOf, isAccepted}
-use Rattle.changes.specs.Changes.{worldIn, standing, sourceLive, parentTests, worldTests, grantTests, appended, granted, revokeTests, leftOf, holding, revoked}
-use Rattle.history.specs.History.{Call, grant, revoke, step, took}
+use Rattle.changes.specs.Changes.{worldIn, standing, sourceLive, parentTests, worldTests, grantTests, appended, granted, revokeTests, leftOf, holding, Withdrawal, revoke}
+use Rattle.changes.specs.Changes.{clearResource, clearExpired, names, clearResourceTests, clearExpiredTests, withdrawn}
+use Rattle.history.specs.History.{Call, grant, step, took, withdraw}
 
 -- a call is accepted where it passes every test
 pub every-passed : (tests : List Test) → isAccepted (outcomeOf tests) ≡ every (λ t. t .passed) tests
@@ -143,30 +145,51 @@ revokeAsks r who x =
     ∷ any (λ c. eqb (c .grantor) who) (chain (λ c. c .id) (λ c. c .parent) (standing r) x)
     ∷ []
 
-pub revoke-accepted : (r : Register) (who x : ℕ) → isAccepted (revoked r who x .outcome) ≡ ands (revokeAsks r who x)
-unfolding revoked revokeTests
+pub revoke-accepted : (r : Register) (who x : ℕ) → took r (withdraw (revoke who x)) ≡ ands (revokeAsks r who x)
+unfolding withdrawn revokeTests
 revoke-accepted r who x = every-passed (revokeTests r who x)
+
+-- what tests 1, 3 and 18 of a clearing of a resource ask, and tests 1, 2, 3 and 18 of a clearing of old claims
+abbrev pub clearResourceAsks : Register → ℕ → ℕ → List Bool
+clearResourceAsks r who o = sound r ∷ worldIn r .known who ∷ worldIn r .listed o ∷ worldIn r .keeps who o ∷ []
+
+pub clear-resource-accepted : (r : Register) (who o : ℕ) → took r (withdraw (clearResource who o)) ≡ ands (clearResourceAsks r who o)
+unfolding withdrawn clearResourceTests
+clear-resource-accepted r who o = every-passed (clearResourceTests r who o)
+
+abbrev pub clearExpiredAsks : Register → ℕ → ℕ → List Bool
+clearExpiredAsks r who now = sound r ∷ ltb now momentEnd ∷ worldIn r .known who ∷ human (actorsOf (r .actors)) who ∷ []
+
+pub clear-expired-accepted : (r : Register) (who now : ℕ) → took r (withdraw (clearExpired who now)) ≡ ands (clearExpiredAsks r who now)
+unfolding withdrawn clearExpiredTests
+clear-expired-accepted r who now = every-passed (clearExpiredTests r who now)
+
+-- only in a sound register is a withdrawal accepted
+pub took-sound : (r : Register) (w : Withdrawal) → took r (withdraw w) ≡ true → sound r ≡ true
+took-sound r (revoke who x) e = ands-out (revokeAsks r who x) (sym (revoke-accepted r who x) ∙ e) .0
+took-sound r (clearResource who o) e = ands-out (clearResourceAsks r who o) (sym (clear-resource-accepted r who o) ∙ e) .0
+took-sound r (clearExpired who now) e = ands-out (clearExpiredAsks r who now) (sym (clear-expired-accepted r who now) ∙ e) .0
 
 -- the register that a call hands back
 pub granted-register : (r : Register) (c : Claim) (now : ℕ) → took r (grant c now) ≡ true → step r (grant c now) ≡ appended r c
 unfolding granted
 granted-register r c now e = ap (λ b. cond b (appended r c) r) e
 
-pub revoked-register : (r : Register) (who x : ℕ) → took r (revoke who x) ≡ true → step r (revoke who x) ≡ holding r (leftOf (λ c. eqb (c .id) x) r)
-unfolding revoked
-revoked-register r who x e = ap (λ b. cond b (holding r (leftOf (λ c. eqb (c .id) x) r)) r) e
+pub withdrawn-register : (r : Register) (w : Withdrawal) → took r (withdraw w) ≡ true → step r (withdraw w) ≡ holding r (leftOf (names w) r)
+unfolding withdrawn
+withdrawn-register r w e = ap (λ b. cond b (holding r (leftOf (names w) r)) r) e
 
-pub revoked-removed : (r : Register) (who x : ℕ) → took r (revoke who x) ≡ true
-    → revoked r who x .removed ≡ length (standing r) - length (leftOf (λ c. eqb (c .id) x) r)
-unfolding revoked
-revoked-removed r who x e = ap (λ b. cond b (length (standing r) - length (leftOf (λ c. eqb (c .id) x) r)) 0) e
+pub withdrawn-removed : (r : Register) (w : Withdrawal) → took r (withdraw w) ≡ true
+    → withdrawn r w .removed ≡ length (standing r) - length (leftOf (names w) r)
+unfolding withdrawn
+withdrawn-removed r w e = ap (λ b. cond b (length (standing r) - length (leftOf (names w) r)) 0) e
 
 -- refused, it is the register as it came
 pub refused-register : (r : Register) (k : Call) → took r k ≡ false → step r k ≡ r
-unfolding granted revoked
+unfolding granted withdrawn
 refused-register r (grant c now) e = ap (λ b. cond b (appended r c) r) e
-refused-register r (revoke who x) e = ap (λ b. cond b (holding r (leftOf (λ c. eqb (c .id) x) r)) r) e
+refused-register r (withdraw w) e = ap (λ b. cond b (holding r (leftOf (names w) r)) r) e
 
-pub refused-removed : (r : Register) (who x : ℕ) → took r (revoke who x) ≡ false → revoked r who x .removed ≡ 0
-unfolding revoked
-refused-removed r who x e = ap (λ b. cond b (length (standing r) - length (leftOf (λ c. eqb (c .id) x) r)) 0) e
+pub refused-removed : (r : Register) (w : Withdrawal) → took r (withdraw w) ≡ false → withdrawn r w .removed ≡ 0
+unfolding withdrawn
+refused-removed r w e = ap (λ b. cond b (length (standing r) - length (leftOf (names w) r)) 0) e

@@ -1,5 +1,5 @@
--- What any calls of grant and revocation come to: the record of all that ever stood, what is left of it, and the statement.
--- To read it: `Call`, `step` and `took` run the calls by the very definitions that the contracts of grant and revocation cite. `book` is
+-- What any calls of grant and withdrawal come to: the record of all that ever stood, what is left of it, and the statement.
+-- To read it: `Call`, `step` and `took` run the calls by the very definitions that the contracts of grant, revocation and clearing cite. `book` is
 -- kept beside the run and asks it one thing only, whether a call was accepted. `left` says what should stand at the end. `History` says
 -- that just this stands. `wrote` looks at `remains`, which begs no question: by `holds`, for the calls so far, it is what the register holds.
 use mathlib.Core.Path.{_≡_}
@@ -15,21 +15,21 @@ use Rattle.register.specs.Chain.{latest, chain}
 use Rattle.register.specs.declared.Claim.{Claim}
 use Rattle.register.specs.declared.Register.{Register}
 use Rattle.refusals.specs.Refusals.{isAccepted}
-use Rattle.changes.specs.Changes.{standing, granted, revoked, holding}
+use Rattle.changes.specs.Changes.{standing, granted, holding, Withdrawal, names, withdrawn}
 
--- a call: the claim to grant and the clock reading; who revokes and the id of the claim to revoke
+-- a call: the claim to grant and the clock reading; a withdrawal
 pub data Call : Type 0 where
   grant : Claim → ℕ → Call
-  revoke : ℕ → ℕ → Call
+  withdraw : Withdrawal → Call
 
 -- the register that a call hands back, and whether the call was accepted
 abbrev pub step : Register → Call → Register
 step r (grant c now) = granted r c now .register
-step r (revoke who x) = revoked r who x .register
+step r (withdraw w) = withdrawn r w .register
 
 abbrev pub took : Register → Call → Bool
 took r (grant c now) = isAccepted (granted r c now .outcome)
-took r (revoke who x) = isAccepted (revoked r who x .outcome)
+took r (withdraw w) = isAccepted (withdrawn r w .outcome)
 
 -- the register at the end of calls, and whether each of them was accepted
 unfoldable pub run : Register → List Call → Register
@@ -49,7 +49,7 @@ pub record Entry : Type 0 where
   pub serial : ℕ
   pub line : List ℕ
 
--- every claim that ever stood, latest first, and the serial numbers of those that an accepted revocation named while they stood
+-- every claim that ever stood, latest first, and the serial numbers of those that an accepted withdrawal named while they stood
 pub record Book : Type 0 where
   pub all : List Entry
   pub named : List ℕ
@@ -86,10 +86,10 @@ unfoldable pub started : List Claim → List Entry
 started [] = []
 started (c ∷ earlier) = let es = started earlier in entered true 0 es (length earlier) c ∷ es
 
--- what an accepted call writes: a grant a new entry, a revocation the serial number of what stands with the id
+-- what an accepted call writes: a grant a new entry, a withdrawal the serial numbers of what it names among those that stand
 abbrev pub wrote : Book → Call → Book
 wrote b (grant c now) = record { all = entered false now (remains b) (length (b .all)) c ∷ b .all; named = b .named }
-wrote b (revoke who x) = record { all = b .all; named = serials (filter (λ e. eqb (e .claim .id) x) (remains b)) ++ b .named }
+wrote b (withdraw w) = record { all = b .all; named = serials (filter (λ e. names w (e .claim)) (remains b)) ++ b .named }
 
 -- the book b, kept on through calls from the register r
 unfoldable pub kept : Register → Book → List Call → Book
@@ -109,7 +109,7 @@ olds es = claims (filter (λ e. e .old) es)
 abbrev pub grants : List Entry → List Call
 grants es = map (λ e. grant (e .claim) (e .clock)) (filter (λ e. not (e .old)) es)
 
--- Make any calls from a register. Strike every claim that an accepted revocation named while it stood, with all drawn from it. The register
+-- Make any calls from a register. Strike every claim that an accepted withdrawal named while it stood, with all drawn from it. The register
 -- at the end holds exactly what is left, in the order in which it came, over the same actors and resources. From the claims of the start
 -- that are left, the grants that are left, made again at their clock readings and without any other call, are each accepted; and that
 -- ends in the same register.

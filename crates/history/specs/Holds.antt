@@ -7,7 +7,7 @@ use Prim.Native.Nat.{ℕ, suc, _+_, _-_, _≤_, _<_}
 use native.Mathlib.Numerals.{add-one}
 use native.Mathlib.Omega.{arith}
 use borrow.Author.Tests.{ltb-true, ltb-false}
-use lib.Dec.{eqb, ltb}
+use lib.Dec.{ltb}
 use lib.ListN.{length, take, set, replicate, length-set, length-reverse, length-take}
 use lib.Seq.{take-all, take-suc-set, take-append-seam, set-out, length-take-le}
 use Rattle.lists.specs.Tests.{cases}
@@ -22,9 +22,9 @@ use Rattle.rules.specs.Sound.{soundClaims, sound}
 use Rattle.rules.specs.Registers.{SoundRegister, sound-out, sound-in}
 use Rattle.rules.specs.Places.{sound-claims-in}
 use Rattle.rules.specs.Striking.{strike, strike-sound, strike-length}
-use Rattle.changes.specs.Changes.{worldIn, standing, appended, leftOf, holding}
-use Rattle.history.specs.History.{Call, grant, revoke, step, took}
-use Rattle.history.specs.Calls.{GrantPassed, grant-out, granted-register, revoked-register, refused-register}
+use Rattle.changes.specs.Changes.{worldIn, standing, appended, leftOf, holding, names}
+use Rattle.history.specs.History.{Call, grant, step, took, withdraw}
+use Rattle.history.specs.Calls.{GrantPassed, grant-out, granted-register, refused-register, withdrawn-register}
 
 -- s holds the claims L, latest first, over the actors and resources of r
 pub record Holds (r s : Register) (L : List Claim) : Type 0 where
@@ -121,8 +121,8 @@ appended-sound r c now h =
     rw (take-short (r .claims .list) (r .claims .count) c short) (sr .claims)))
 
 -- a sound register stays sound when what P names is struck with all drawn from it
-pub revoked-sound : (r : Register) (P : Claim → Bool) → sound r ≡ true → sound (holding r (leftOf P r)) ≡ true
-revoked-sound r P h =
+pub without-sound : (r : Register) (P : Claim → Bool) → sound r ≡ true → sound (holding r (leftOf P r)) ≡ true
+without-sound r P h =
     let sr = sound-out r h in
     let K : List Claim = strike (λ c. c .id) (λ c. c .parent) P (standing r) in
     let stood : length (standing r) ≤ r .claims .count =
@@ -137,7 +137,7 @@ step-sound r k h = cases (took r k) (taken k) (λ e. rw (refused-register r k e)
   where
     taken : (k : Call) → took r k ≡ true → sound (step r k) ≡ true
     taken (grant c now) e = rw (granted-register r c now e) (appended-sound r c now (grant-out r c now e))
-    taken (revoke who x) e = rw (revoked-register r who x e) (revoked-sound r (λ c. eqb (c .id) x) h)
+    taken (withdraw w) e = rw (withdrawn-register r w e) (without-sound r (names w) h)
 
 -- every call leaves a register its shape
 pub step-shaped : (r : Register) (k : Call) → Shaped r → Shaped (step r k)
@@ -148,9 +148,9 @@ step-shaped r k h = cases (took r k) (taken k) (λ e. rw (refused-register r k e
 
     taken : (k : Call) → took r k ≡ true → Shaped (step r k)
     taken (grant c now) e = rw (granted-register r c now e) (with-claims _ (length-set (r .claims .list) (r .claims .count) c ∙ h .claims))
-    taken (revoke who x) e =
-        let K : List Claim = strike (λ c. c .id) (λ c. c .parent) (λ c. eqb (c .id) x) (standing r) in
-        let fewer : length K ≤ length (standing r) = strike-length (λ c. c .id) (λ c. c .parent) (λ c. eqb (c .id) x) (standing r) in
+    taken (withdraw w) e =
+        let K : List Claim = strike (λ c. c .id) (λ c. c .parent) (names w) (standing r) in
+        let fewer : length K ≤ length (standing r) = strike-length (λ c. c .id) (λ c. c .parent) (names w) (standing r) in
         let room : length (latest K) ≤ claimLimit =
         omega (arith, length-reverse K, fewer, length-reverse (claimsOf (r .claims)), length-take (r .claims .count) (r .claims .list), h .claims) in
-        rw (revoked-register r who x e) (with-claims _ (full-length (latest K) claimLimit noClaim room))
+        rw (withdrawn-register r w e) (with-claims _ (full-length (latest K) claimLimit noClaim room))

@@ -1,22 +1,28 @@
--- Two revocations, one after the other: what the call that comes second is told, beside what it would be told alone.
+-- Two withdrawals, one after the other: what the call that comes second is told, beside what it would be told alone.
 use mathlib.Core.Path.{_≡_}
 use mathlib.Core.Logic.{_⊎_}
 use mathlib.Core.Bool.{Bool, false, not, _&&_}
-use Prim.Native.Nat.{ℕ}
 use lib.Dec.{eqb}
 use Rattle.lists.specs.Lists.{any}
 use Rattle.register.specs.Chain.{chain}
+use Rattle.register.specs.declared.Claim.{Claim}
 use Rattle.register.specs.declared.Register.{Register}
 use Rattle.refusals.specs.Refusals.{numberOf}
-use Rattle.changes.specs.Changes.{worldIn, standing}
+use Rattle.changes.specs.Changes.{worldIn, standing, Withdrawal, revoke, clearResource, clearExpired, names}
 use Rattle.refusals.specs.declared.Refusal.the-variants.{ClaimAbsent, NoGrantor}
 use Rattle.refusals.specs.declared.Outcome.{Outcome}
 use Rattle.refusals.specs.declared.Outcome.the-variants.{Accepted, Refused}
-use Rattle.history.specs.History.{revoke, took}
+use Rattle.history.specs.History.{took, withdraw}
 
 -- told the same, or 17
 abbrev pub SameOrAbsent : Outcome → Outcome → Type 0
 SameOrAbsent alone second = (second ≡ alone) ⊎ (second ≡ Refused ClaimAbsent)
+
+-- what a withdrawal that comes second is told: as alone, or, a revocation only, 17
+abbrev pub SecondTold : Withdrawal → Outcome → Outcome → Type 0
+SecondTold (revoke who x) alone second = SameOrAbsent alone second
+SecondTold (clearResource who o) alone second = second ≡ alone
+SecondTold (clearExpired who now) alone second = second ≡ alone
 
 -- accepted, or told 18
 abbrev pub AcceptedOrBarred : Outcome → Type 0
@@ -31,6 +37,13 @@ isAbsent (Refused why) = eqb (numberOf why) (numberOf ClaimAbsent)
 abbrev pub turnsAbsent : Outcome → Outcome → Bool
 turnsAbsent alone second = isAbsent second && not (isAbsent alone)
 
--- whether v, revoking x, takes the claim y from w: v's call is accepted, w is known, and y stands with x on its chain, itself included
-abbrev pub takes : Register → ℕ → ℕ → ℕ → ℕ → Bool
-takes r v x w y = took r (revoke v x) && (worldIn r .known w && any (λ c. eqb (c .id) x) (chain (λ c. c .id) (λ c. c .parent) (standing r) y))
+-- Whether a withdrawal loses its claim where what P names goes with all drawn from it: its caller is known, and the claim to revoke stands
+-- with something that P names on its chain, itself included. A clearing has no such claim.
+abbrev pub loses : Register → (Claim → Bool) → Withdrawal → Bool
+loses r P (revoke who y) = worldIn r .known who && any P (chain (λ c. c .id) (λ c. c .parent) (standing r) y)
+loses r P (clearResource who o) = false
+loses r P (clearExpired who now) = false
+
+-- whether v takes from w its claim: v is accepted, and w loses its claim by what v names
+abbrev pub takes : Register → Withdrawal → Withdrawal → Bool
+takes r v w = took r (withdraw v) && loses r (names v) w

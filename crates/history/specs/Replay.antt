@@ -5,7 +5,6 @@ use mathlib.Core.List.{List, [], _∷_, _++_, map, map-append, reverse-cons, rev
 use Prim.Native.Nat.{ℕ, _≤_, _<_}
 use native.Mathlib.Omega.{arith}
 use borrow.Author.Tests.{ltb-true, lt-ltb}
-use lib.Dec.{eqb}
 use lib.ListN.{length, length-map}
 use Rattle.lists.specs.Tests.{cases, and-both}
 use Rattle.lists.specs.Each.{All, all-imp}
@@ -19,11 +18,12 @@ use Rattle.rules.specs.Sound.{soundClaims, sound}
 use Rattle.rules.specs.Registers.{SoundRegister, sound-out}
 use Rattle.rules.specs.Places.{latest-acceptable, earlier-sound}
 use Rattle.rules.specs.Striking.{strike, strike-length}
-use Rattle.changes.specs.Changes.{worldIn, standing, holding}
-use Rattle.history.specs.History.{Call, grant, revoke, step, took, run, accepts, Entry, Book, claims, remains, started, wrote, kept, book, olds, grants, History}
-use Rattle.history.specs.Calls.{grant-out, grant-in, granted-register, revoked-register, refused-register}
+use Rattle.changes.specs.Changes.{worldIn, standing, holding, Withdrawal, names}
+use Rattle.history.specs.History.{Call, grant, step, took, run, accepts, Entry, Book, claims, remains, started, wrote, kept, book, olds, grants, History, withdraw}
+use Rattle.history.specs.Calls.{grant-out, grant-in, granted-register, refused-register, withdrawn-register}
 use Rattle.history.specs.Holds.{Holds, holds-self, holds-appended, holds-holding, holds-same, holds-sound, step-sound, step-shaped}
-use Rattle.history.specs.Books.{Fine, Kept, After, Timely, chain-claims, strike-claims, remains-grant, kept-grant, remains-revoke, kept-revoke, started-claims, remains-started, kept-started}
+use Rattle.history.specs.Books.{Fine, Kept, After, Timely, chain-claims, strike-claims, remains-grant, kept-grant, started-claims, remains-started, kept-started}
+use Rattle.history.specs.Books.{remains-withdraw, kept-withdraw}
 
 run-nil : (r : Register) → run r [] ≡ r
 unfolding run
@@ -74,19 +74,19 @@ state-grant r s b c now v e =
       known = kept-grant b c now (v .known) (told .moment) (rw (v .held .claims) at (told .lives));
     }
 
-state-revoke : (r s : Register) (b : Book) (who x : ℕ) → State r s b → took s (revoke who x) ≡ true
-    → State r (step s (revoke who x)) (wrote b (revoke who x))
-state-revoke r s b who x v e =
-    let K = strike (λ c. c .id) (λ c. c .parent) (λ c. eqb (c .id) x) (standing s) in
-    let same : claims (remains (wrote b (revoke who x))) ≡ K =
-    ap claims (remains-revoke b who x (v .known .fine)) ∙ sym (strike-claims (λ c. eqb (c .id) x) (remains b))
-    ∙ ap (λ L. strike (λ c. c .id) (λ c. c .parent) (λ c. eqb (c .id) x) L) (sym (v .held .claims)) in
-    let fewer : length K ≤ length (standing s) = strike-length (λ c. c .id) (λ c. c .parent) (λ c. eqb (c .id) x) (standing s) in
+state-withdraw : (r s : Register) (b : Book) (w : Withdrawal) → State r s b → took s (withdraw w) ≡ true
+    → State r (step s (withdraw w)) (wrote b (withdraw w))
+state-withdraw r s b w v e =
+    let K = strike (λ c. c .id) (λ c. c .parent) (names w) (standing s) in
+    let same : claims (remains (wrote b (withdraw w))) ≡ K =
+    ap claims (remains-withdraw b w (v .known .fine)) ∙ sym (strike-claims (names w) (remains b))
+    ∙ ap (λ L. strike (λ c. c .id) (λ c. c .parent) (names w) L) (sym (v .held .claims)) in
+    let fewer : length K ≤ length (standing s) = strike-length (λ c. c .id) (λ c. c .parent) (names w) (standing s) in
     let stood : length (standing s) ≤ claimLimit = rw (v .held .claims) (held-room r s b v) in
     record {
-      held = rw (revoked-register s who x e, same) (holds-holding r s K (v .held .actors) (v .held .resources) (omega (arith, fewer, stood)));
-      judged = step-sound s (revoke who x) (v .judged);
-      known = kept-revoke b who x (v .known);
+      held = rw (withdrawn-register s w e, same) (holds-holding r s K (v .held .actors) (v .held .resources) (omega (arith, fewer, stood)));
+      judged = step-sound s (withdraw w) (v .judged);
+      known = kept-withdraw b w (v .known);
     }
 
 state-step : (r s : Register) (b : Book) (k : Call) → State r s b → State r (step s k) (cond (took s k) (wrote b k) b)
@@ -94,7 +94,7 @@ state-step r s b k v = cases (took s k) (λ e. rw e (taken k e)) (λ e. rw (e, r
   where
     taken : (k : Call) → took s k ≡ true → State r (step s k) (wrote b k)
     taken (grant c now) e = state-grant r s b c now v e
-    taken (revoke who x) e = state-revoke r s b who x v e
+    taken (withdraw w) e = state-withdraw r s b w v e
 
 state-run : (r s : Register) (b : Book) (ks : List Call) → State r s b → State r (run s ks) (kept s b ks)
 unfolding run kept

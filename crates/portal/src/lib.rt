@@ -4,7 +4,7 @@
 ghost use mathlib.Core.Path.{_≡_};
 ghost use Rattle.paths.specs.Containment.{contained};
 ghost use Rattle.rules.specs.Sound.{sound};
-ghost use Rattle.changes.specs.Changes.{granted, revoked};
+ghost use Rattle.changes.specs.Changes.{granted, revoke, clearResource, clearExpired, withdrawn};
 ghost use Rattle.verdicts.specs.Gate.{gated};
 ghost use Rattle.verdicts.specs.Plans.{planned};
 ghost use Rattle.texts.specs.Registers.{registerRead};
@@ -70,7 +70,7 @@ pub extern "C" fn guvrendik_grant(r: Register, c: Claim, now: u64) -> GrantAnswe
 // Revokes a claim with all that is drawn from it.
 #[no_mangle]
 pub extern "C" fn guvrendik_revoke(r: Register, revoker: u32, claim: u32) -> RevokeAnswer
-    ensures { λ y. ⌜ y ≡ revokeAnswer (revoked r revoker claim) ⌝ }
+    ensures { λ y. ⌜ y ≡ revokeAnswer (withdrawn r (revoke revoker claim)) ⌝ }
 {
     let g = revoking::revoke(r, revoker, claim);
     let outcome = g.outcome;
@@ -82,6 +82,42 @@ pub extern "C" fn guvrendik_revoke(r: Register, revoker: u32, claim: u32) -> Rev
         accepted,
         refusal,
         removed: g.removed,
+    }
+}
+
+// Clears a resource on behalf of its keeper: every claim on it goes.
+#[no_mangle]
+pub extern "C" fn guvrendik_clear_resource(r: Register, caller: u32, resource: u32) -> RevokeAnswer
+    ensures { λ y. ⌜ y ≡ revokeAnswer (withdrawn r (clearResource caller resource)) ⌝ }
+{
+    let cleared = clearing::clear_resource(r, caller, resource);
+    let outcome = cleared.outcome;
+    let accepted = answers::accepted(outcome);
+    let refusal = answers::refusal(outcome);
+    let state = cleared.register;
+    RevokeAnswer {
+        state,
+        accepted,
+        refusal,
+        removed: cleared.removed,
+    }
+}
+
+// Clears old claims on behalf of a human: every claim that has expired at the moment goes, with all that is drawn from it.
+#[no_mangle]
+pub extern "C" fn guvrendik_clear_expired(r: Register, caller: u32, now: u64) -> RevokeAnswer
+    ensures { λ y. ⌜ y ≡ revokeAnswer (withdrawn r (clearExpired caller now)) ⌝ }
+{
+    let cleared = clearing::clear_expired(r, caller, now);
+    let outcome = cleared.outcome;
+    let accepted = answers::accepted(outcome);
+    let refusal = answers::refusal(outcome);
+    let state = cleared.register;
+    RevokeAnswer {
+        state,
+        accepted,
+        refusal,
+        removed: cleared.removed,
     }
 }
 

@@ -8,7 +8,7 @@ pub enum Refusal {
     Unsound,
     // 2: a field or the moment is out of range.
     OutOfRange,
-    // 3: grantor, holder, granted resource or revoker is not in the register.
+    // 3: grantor, holder, granted or cleared resource, revoker or clearing caller is not in the register.
     Unknown,
     // 4: the claim's id already stands.
     IdStands,
@@ -38,7 +38,8 @@ pub enum Refusal {
     Circle,
     // 17: the claim to revoke does not stand.
     ClaimAbsent,
-    // 18: the revoker is no grantor on that claim's chain, the claim itself included.
+    // 18: the revoker is no grantor on that claim's chain, the claim itself included; who clears a resource is not its keeper; who clears
+    // old claims is not human.
     NoGrantor,
     // 19: the text is not of the form.
     BadForm,

@@ -79,11 +79,6 @@ module _ (r : Register) (who x : ℕ) where
   unfolding revokeTests
   refused-unsound f = outcome-fail _ _ f
 
-  -- what is accepted is sound
-  pub accepted-sound : outcomeOf (revokeTests r who x) ≡ Accepted → sound r ≡ true
-  unfolding revokeTests
-  accepted-sound h = outcome-accepted _ _ h
-
   module _ (whole : sound r ≡ true) where
     pub refused-unknown : worldIn r .known who ≡ false → outcomeOf (revokeTests r who x) ≡ Refused Unknown
     unfolding revokeTests

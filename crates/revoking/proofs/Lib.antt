@@ -1,4 +1,3 @@
-pub mod Going
 pub mod Passing
 pub mod Asking
 pub mod Answers

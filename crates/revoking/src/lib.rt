@@ -1,17 +1,16 @@
 // Revocation: tests 1, 3, 17 and 18. Accepted, the claim and every claim with it on its chain go, the rest keep their order, every place
-// behind them holds the zero claim, and the answer says how many went; refused, the register is handed back as it came.
+// behind them holds the zero claim, and the answer says how many went; refused, the register is handed back as it came. What strikes the
+// claims and puts the answer together takes any marks, and serves every withdrawal.
 ghost use mathlib.Core.Path.{_≡_};
-ghost use mathlib.Core.Bool.{_||_};
+ghost use mathlib.Core.Bool.{_||_, false};
+ghost use mathlib.Core.List.{map};
 ghost use lib.Dec.{eqb};
 ghost use lib.ListN.{getD, take};
 ghost use Rattle.lists.specs.Lists.{any};
-ghost use Rattle.register.specs.Register.{claimsOf};
-ghost use Rattle.register.specs.Chain.{latest};
-ghost use Rattle.rules.specs.Striking.{Distinct};
-ghost use Rattle.columns.specs.Columns.{claimId, parentOf, chainPlaces};
+ghost use Rattle.columns.specs.Columns.{chainPlaces};
 ghost use Rattle.refusals.specs.Refusals.{outcomeOf};
-ghost use Rattle.changes.specs.Changes.{revokeTests, revoked};
-ghost use Rattle.revoking.specs.Struck.{struckClaims};
+ghost use Rattle.changes.specs.Changes.{revokeTests, revoke, withdrawn};
+ghost use Rattle.revoking.specs.Struck.{struckClaims, answered};
 use changes::Revoked;
 use columns::Place;
 use refusals::Outcome;
@@ -60,11 +59,18 @@ pub fn grants_on<'a>(
     false
 }
 
-// Strikes the claim numbered `x` with all that is drawn from it, in one pass: a claim goes where it is the one, or where its parent's
-// number is among those that went. Parents stand earlier, and no two claims have one number.
-fn strike(k: Claims, x: u32) -> Struck
-    requires { ⌜ Distinct claimId parentOf (latest (claimsOf k)) ⌝ }
-    ensures { λ r. ⌜ r ≡ struckClaims k x ⌝ }
+// Whether the claim at a place is marked: past the end of the marks none is.
+fn is_marked(marks: &[bool], at: usize) -> bool
+    ensures { λ r. ⌜ r ≡ getD (now (marks .entry)) at false ⌝ }
+{
+    if at < marks.len() { marks[at] } else { false }
+}
+
+// Strikes the marked claims with all that is drawn from them, in one pass: a claim goes where it is marked, or where its parent's number
+// is among those that went. Where parents stand earlier and no two claims have one number, those are the claims with a marked one on
+// their chain.
+fn strike(k: Claims, marks: &[bool]) -> Struck
+    ensures { λ r. ⌜ r ≡ struckClaims k (now (marks .entry)) ⌝ }
 {
     let none = Claim::none();
     let mut list = [none; Register::CLAIMS];
@@ -75,7 +81,8 @@ fn strike(k: Claims, x: u32) -> Struck
     let top = columns::least(k.count, Register::CLAIMS);
     while i < top {
         let c = k.list[i];
-        if goes(&gone, went, c, x) {
+        let named = is_marked(marks, i);
+        if goes(&gone, went, c, named) {
             gone[went] = c.id;
             went += 1;
             i += 1;
@@ -92,14 +99,57 @@ fn strike(k: Claims, x: u32) -> Struck
     }
 }
 
-// Whether a claim goes: it is the one, or its parent's number is among those that went. A root's is not: 0 is no claim's number.
-fn goes(gone: &[u32], went: usize, c: Claim, x: u32) -> bool
-    ensures { λ r. ⌜ r ≡ eqb (c .id) x || any (eqb (c .parent)) (take went (now (gone .entry))) ⌝ }
+// Whether a claim goes: it is named, or its parent's number is among those that went. A root's is not: 0 is no claim's number.
+fn goes(gone: &[u32], went: usize, c: Claim, named: bool) -> bool
+    ensures { λ r. ⌜ r ≡ named || any (eqb (c .parent)) (take went (now (gone .entry))) ⌝ }
 {
-    if c.id == x {
+    if named {
         return true;
     }
     columns::is_among(gone, went, c.parent)
+}
+
+// The answer of a withdrawal with this outcome: accepted, the marked claims go with all that is drawn from them; refused, the register is
+// handed back as it came.
+pub fn withdraw(r: Register, outcome: Outcome, marks: &[bool]) -> Revoked
+    ensures { λ y. ⌜ y ≡ answered r outcome (now (marks .entry)) ⌝ }
+{
+    match outcome {
+        Outcome::Accepted => {
+            let k = r.claims;
+            let struck = strike(k, marks);
+            let actors = r.actors;
+            let resources = r.resources;
+            let claims = struck.claims;
+            Revoked {
+                register: Register {
+                    actors,
+                    resources,
+                    claims,
+                },
+                outcome: Outcome::Accepted,
+                removed: struck.removed,
+            }
+        }
+        Outcome::Refused(why) => Revoked {
+            register: r,
+            outcome: Outcome::Refused(why),
+            removed: 0,
+        },
+    }
+}
+
+// Marks the claim numbered `x`.
+fn mark_id(k: Claims, x: u32) -> [bool; Register::CLAIMS]
+    ensures { λ y. ⌜ y ≡ map (λ c. eqb (c .id) x) (k .list) ⌝ }
+{
+    let mut marks = [false; Register::CLAIMS];
+    let mut i: usize = 0;
+    while i < Register::CLAIMS {
+        marks[i] = k.list[i].id == x;
+        i += 1;
+    }
+    marks
 }
 
 // The outcome of a revocation.
@@ -131,30 +181,10 @@ fn revoke_outcome(r: Register, who: u32, x: u32) -> Outcome
 
 // Revokes the claim numbered `x` on behalf of `who`.
 pub fn revoke(r: Register, who: u32, x: u32) -> Revoked
-    ensures { λ y. ⌜ y ≡ revoked r who x ⌝ }
+    ensures { λ y. ⌜ y ≡ withdrawn r (revoke who x) ⌝ }
 {
     let outcome = revoke_outcome(r, who, x);
-    match outcome {
-        Outcome::Accepted => {
-            let k = r.claims;
-            let struck = strike(k, x);
-            let actors = r.actors;
-            let resources = r.resources;
-            let claims = struck.claims;
-            Revoked {
-                register: Register {
-                    actors,
-                    resources,
-                    claims,
-                },
-                outcome: Outcome::Accepted,
-                removed: struck.removed,
-            }
-        }
-        Outcome::Refused(why) => Revoked {
-            register: r,
-            outcome: Outcome::Refused(why),
-            removed: 0,
-        },
-    }
+    let k = r.claims;
+    let marks = mark_id(k, x);
+    withdraw(r, outcome, &marks)
 }

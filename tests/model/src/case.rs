@@ -23,6 +23,16 @@ pub enum Call {
         claim: u32,
         keep: bool,
     },
+    ClearResource {
+        caller: u32,
+        resource: u32,
+        keep: bool,
+    },
+    ClearExpired {
+        caller: u32,
+        now: u64,
+        keep: bool,
+    },
     Gate(Box<Action>),
     Plan(Box<Plan>),
     Contains {
@@ -62,7 +72,10 @@ pub struct Script {
     pub calls: Vec<Call>,
 }
 
-pub const CALLS: usize = 12;
+pub const CALLS: usize = 14;
+
+/// The calls that withdraw claims, by `Call::number`.
+pub const WITHDRAWALS: [usize; 3] = [2, 12, 13];
 
 /// The kinds of violation. 6 is not used.
 pub const KINDS: RangeInclusive<u32> = 1..=5;
@@ -81,6 +94,8 @@ pub const NAMES: [(&str, &[Outcome]); CALLS] = [
     ("verdict_text", &[YES, 21]),
     ("read_json", &[YES, 2, 24]),
     ("write_json", &[YES, 2, 25, 21]),
+    ("clear_resource", &[YES, 1, 3, 18]),
+    ("clear_expired", &[YES, 1, 2, 3, 18]),
 ];
 
 /// What an answer comes to: a refusal's number, or one of those below.
@@ -145,6 +160,8 @@ impl Call {
             Call::VerdictText { .. } => 9,
             Call::ReadJson { .. } => 10,
             Call::WriteJson { .. } => 11,
+            Call::ClearResource { .. } => 12,
+            Call::ClearExpired { .. } => 13,
         }
     }
 
@@ -162,6 +179,13 @@ impl Call {
             }),
             Call::Revoke { revoker, claim, keep } => put_request(out, Request::Revoke, |out| {
                 [u32::from(*keep), *revoker, *claim].put(out);
+            }),
+            Call::ClearResource { caller, resource, keep } => put_request(out, Request::ClearResource, |out| {
+                [u32::from(*keep), *caller, *resource].put(out);
+            }),
+            Call::ClearExpired { caller, now, keep } => put_request(out, Request::ClearExpired, |out| {
+                [u32::from(*keep), *caller].put(out);
+                now.put(out);
             }),
             Call::Gate(action) => put_request(out, Request::Gate, |out| action.put(out)),
             Call::Plan(plan) => put_request(out, Request::Plan, |out| plan.put(out)),
@@ -200,7 +224,7 @@ impl Call {
             + match self {
                 Call::Sound => size_of::<Soundness>(),
                 Call::Grant { .. } => size_of::<Granted>(),
-                Call::Revoke { .. } => size_of::<Revoked>(),
+                Call::Revoke { .. } | Call::ClearResource { .. } | Call::ClearExpired { .. } => size_of::<Revoked>(),
                 Call::Gate(_) => size_of::<Verdict>(),
                 Call::Plan(_) => size_of::<PlanVerdict>(),
                 Call::Contains { .. } => size_of::<Containment>(),
@@ -233,15 +257,13 @@ impl Call {
                 outcome(result)
             }
             Call::Revoke { revoker, claim, keep } => {
-                let before = (!keep).then(|| state.claims.clone());
-                let result = model.revoke(state, *revoker, *claim);
-                state.put(out);
-                put_result(result, out);
-                result.unwrap_or(0).put(out);
-                if let Some(before) = before {
-                    state.claims = before;
-                }
-                outcome(result)
+                put_withdrawn(*keep, state, out, |state| model.revoke(state, *revoker, *claim))
+            }
+            Call::ClearResource { caller, resource, keep } => {
+                put_withdrawn(*keep, state, out, |state| model.clear_resource(state, *caller, *resource))
+            }
+            Call::ClearExpired { caller, now, keep } => {
+                put_withdrawn(*keep, state, out, |state| model.clear_expired(state, *caller, *now))
             }
             Call::Gate(action) => {
                 let verdict = model.gate(state, action);
@@ -311,7 +333,9 @@ impl Call {
         let mut fields = match self {
             Call::Sound => fields(&Soundness::take(from)),
             Call::Grant { .. } => fields(&Granted::take(from)),
-            Call::Revoke { .. } => fields(&Revoked::take(from)),
+            Call::Revoke { .. } | Call::ClearResource { .. } | Call::ClearExpired { .. } => {
+                fields(&Revoked::take(from))
+            }
             Call::Gate(_) => fields(&Verdict::take(from)),
             Call::Plan(_) => fields(&PlanVerdict::take(from)),
             Call::Contains { .. } => fields(&Containment::take(from)),
@@ -344,6 +368,24 @@ fn outcome<T>(result: Result<T, Refusal>) -> Outcome {
 /// `accepted` and `refusal`.
 fn put_result<T>(result: Result<T, Refusal>, out: &mut Vec<u8>) {
     [u32::from(result.is_ok()), outcome(result)].put(out);
+}
+
+/// The register that a withdrawal leaves, its result and how many claims went. Not kept, the state is as it was.
+fn put_withdrawn(
+    keep: bool,
+    state: &mut Register,
+    out: &mut Vec<u8>,
+    withdraw: impl FnOnce(&mut Register) -> Result<usize, Refusal>,
+) -> Outcome {
+    let before = (!keep).then(|| state.claims.clone());
+    let result = withdraw(state);
+    state.put(out);
+    put_result(result, out);
+    result.unwrap_or(0).put(out);
+    if let Some(before) = before {
+        state.claims = before;
+    }
+    outcome(result)
 }
 
 fn put_text(

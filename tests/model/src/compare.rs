@@ -1,6 +1,6 @@
 //! The comparison: scripts go to the driver in batches, and each whole answer is held against the model's.
 
-use crate::case::{outcome_name, Call, Outcome, Script, CALLS, KINDS, NAMES};
+use crate::case::{outcome_name, Call, Outcome, Script, CALLS, KINDS, NAMES, WITHDRAWALS};
 use crate::driver::Driver;
 use crate::generate::random::Random;
 use crate::generate::{actions, changes, json, registers, texts};
@@ -45,7 +45,8 @@ pub struct Tally {
     pub calls: [u64; CALLS],
     /// How often each outcome of each call was met.
     pub outcomes: BTreeMap<(usize, Outcome), u64>,
-    pub pairs: u64,
+    /// How many pairs had these calls, by `Call::number`, in this order.
+    pub pairs: BTreeMap<(usize, usize), u64>,
     pub pairs_on_one_chain: u64,
     /// How often a call of a pair had these outcomes, when it came first and when it came second.
     pub pair_outcomes: BTreeMap<(Outcome, Outcome), u64>,
@@ -192,7 +193,7 @@ impl<'c> Comparison<'c> {
         Ok(found)
     }
 
-    /// Compares pairs of revocations in both orders until there are `most` findings, and answers these: each answer with the
+    /// Compares pairs of withdrawals in both orders until there are `most` findings, and answers these: each answer with the
     /// model's, and the library's answers in one order with those in the other.
     pub fn pairs(&mut self, pairs: impl Iterator<Item = Pair>, most: usize) -> io::Result<Vec<Finding>> {
         let mut findings = Vec::new();
@@ -207,7 +208,7 @@ impl<'c> Comparison<'c> {
                 }
             }
             if let ([one, two, three, four], true) = (&seen[..], findings.len() == known) {
-                self.check_orders(&pair, &scripts, &Answers([[one, two], [three, four]]));
+                self.check_orders(&pair, &scripts, &Answers([[one, two], [three, four]], pair.revokes()));
             }
             if findings.len() >= most {
                 break;
@@ -218,7 +219,10 @@ impl<'c> Comparison<'c> {
 
     /// Counts a pair, passed where its answers are as proved.
     fn check_orders(&mut self, pair: &Pair, scripts: &[Script], answers: &Answers) {
-        self.tally.pairs += 1;
+        let [one, two] = [0, 1].map(|at| pair.calls[at].number());
+        for calls in [(one, two), (two, one)] {
+            *self.tally.pairs.entry(calls).or_default() += 1;
+        }
         self.tally.pairs_on_one_chain += u64::from(pair.on_one_chain);
         for told in answers.told() {
             *self.tally.pair_outcomes.entry(told).or_default() += 1;
@@ -227,7 +231,7 @@ impl<'c> Comparison<'c> {
             None => self.tally.passed += 1,
             Some(how) => {
                 self.tally.failed += 1;
-                println!("two revocations: {how}");
+                println!("two withdrawals: {how}");
                 scripts.iter().for_each(|script| print!("{}", saved::write(script)));
             }
         }
@@ -479,6 +483,13 @@ fn put_input(random: &mut Random, shape: Shape, out: &mut Vec<u8>) {
     if let Call::Revoke { revoker, claim, .. } = changes::revoke(random, &register, false) {
         [revoker, claim].put(out);
     }
+    if let Call::ClearResource { caller, resource, .. } = changes::clear_resource(random, &register, false) {
+        [caller, resource].put(out);
+    }
+    if let Call::ClearExpired { caller, now, .. } = changes::clear_expired(random, &register, false) {
+        caller.put(out);
+        now.put(out);
+    }
     for text in [text, json::full_page(random)] {
         text.len().put(out);
         out.extend(text);
@@ -529,15 +540,26 @@ impl Tally {
         }
     }
 
-    /// Prints the pairs of revocations, and counts that enough were on one chain and that each demanded change was met.
+    /// Prints the pairs of withdrawals, and counts that each of the nine kinds was met and each demanded change, and that enough of the pairs
+    /// of revocations were on one chain.
     fn summarise_pairs(&mut self) {
         let met: Vec<String> = self
             .pair_outcomes
             .iter()
             .map(|((first, second), count)| format!("{} to {} {count}", outcome_name(*first), outcome_name(*second)))
             .collect();
-        let (pairs, chained) = (self.pairs, self.pairs_on_one_chain);
-        println!("{pairs:>7} pairs of revocations in both orders, {chained} on one chain: {}", met.join(", "));
+        println!("pairs of withdrawals in both orders: {}", met.join(", "));
+        for first in WITHDRAWALS {
+            for second in WITHDRAWALS {
+                let count = self.pairs.get(&(first, second)).copied().unwrap_or(0);
+                println!("{count:>7} pairs of {} and then {}", NAMES[first].0, NAMES[second].0);
+                self.count(count > 0);
+            }
+        }
+        // A pair of two calls of one kind was counted in both orders.
+        let pairs = self.pairs.get(&(WITHDRAWALS[0], WITHDRAWALS[0])).copied().unwrap_or(0) / 2;
+        let chained = self.pairs_on_one_chain;
+        println!("{pairs:>7} pairs of revocations, {chained} on one chain");
         for (first, second) in DEMANDED {
             if self.pair_outcomes.contains_key(&(first, second)) {
                 self.passed += 1;

@@ -49,14 +49,28 @@ pub extern "C" fn guvrendik_grant(register: Register, claim: Claim, now: u64) ->
     answer
 }
 
-#[no_mangle]
-pub extern "C" fn guvrendik_revoke(register: Register, revoker: u32, claim: u32) -> Revoked {
+fn withdrawn(register: Register, withdraw: impl FnOnce(&mut Register) -> Result<usize, Refusal>) -> Revoked {
     let mut answer = Revoked { state: register, accepted: 1, refusal: 0, removed: 0 };
-    match MODEL.revoke(&mut answer.state, revoker, claim) {
+    match withdraw(&mut answer.state) {
         Ok(removed) => answer.removed = removed,
         Err(refusal) => (answer.accepted, answer.refusal) = (0, refusal as u32),
     }
     answer
+}
+
+#[no_mangle]
+pub extern "C" fn guvrendik_revoke(register: Register, revoker: u32, claim: u32) -> Revoked {
+    withdrawn(register, |state| MODEL.revoke(state, revoker, claim))
+}
+
+#[no_mangle]
+pub extern "C" fn guvrendik_clear_resource(register: Register, caller: u32, resource: u32) -> Revoked {
+    withdrawn(register, |state| MODEL.clear_resource(state, caller, resource))
+}
+
+#[no_mangle]
+pub extern "C" fn guvrendik_clear_expired(register: Register, caller: u32, now: u64) -> Revoked {
+    withdrawn(register, |state| MODEL.clear_expired(state, caller, now))
 }
 
 #[no_mangle]

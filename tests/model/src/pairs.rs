@@ -1,4 +1,4 @@
-//! Two revocations on one register, in both orders: what the theorems of the crate `history` on their order say of the answers.
+//! Two withdrawals on one register, in both orders: what the theorems of the crate `history` on their order say of the answers.
 
 use crate::case::{Call, Outcome, Script, YES};
 use guvrendik_model::model::Refusal;
@@ -14,11 +14,16 @@ pub struct Pair {
     pub register: Box<Register>,
     /// Each keeps what it leaves, so that the second is made on that.
     pub calls: [Call; 2],
-    /// Whether one of the two claims stands on the other's chain, itself included.
+    /// Whether both are revocations, and one of the two claims stands on the other's chain, itself included.
     pub on_one_chain: bool,
 }
 
 impl Pair {
+    /// Whether each of the calls is a revocation.
+    pub fn revokes(&self) -> [bool; 2] {
+        [0, 1].map(|at| matches!(self.calls[at], Call::Revoke { .. }))
+    }
+
     /// The calls in the order given, and in the other.
     pub fn scripts(&self) -> [Script; 2] {
         let [one, two] = &self.calls;
@@ -27,8 +32,8 @@ impl Pair {
     }
 }
 
-/// The answers to a pair: to the calls in the order given, and to the calls in the other.
-pub struct Answers<'a>(pub [[&'a Revoked; 2]; 2]);
+/// The answers to a pair: to the calls in the order given, and to the calls in the other; and whether each call is a revocation.
+pub struct Answers<'a>(pub [[&'a Revoked; 2]; 2], pub [bool; 2]);
 
 impl Answers<'_> {
     /// By call: its outcome when it comes first, and when it comes second.
@@ -47,12 +52,12 @@ impl Answers<'_> {
             return Some("the numbers removed come to another sum in the other order");
         }
         let [one, two] = self.told();
-        for ((first, second), other) in [(one, two.0), (two, one.0)] {
+        for ((first, second), other, revokes) in [(one, two.0, self.1[0]), (two, one.0, self.1[1])] {
             if second == first {
                 continue;
             }
-            if second != NO_CLAIM {
-                return Some("a call that comes second is told neither the same nor 17");
+            if second != NO_CLAIM || !revokes {
+                return Some("a call that comes second is told neither the same nor, as a revocation, 17");
             }
             if other != YES || first != YES && first != NO_GRANTOR {
                 return Some("a call is told 17 that the other one took nothing from");
@@ -91,9 +96,12 @@ mod tests {
         register
     }
 
-    fn check(model: &Model, one: (u32, u32), two: (u32, u32)) -> (Option<&'static str>, [(Outcome, Outcome); 2]) {
-        let calls = [one, two].map(|(revoker, claim)| Call::Revoke { revoker, claim, keep: true });
-        let pair = Pair { register: line(), calls, on_one_chain: true };
+    fn by(revoker: u32, claim: u32) -> Call {
+        Call::Revoke { revoker, claim, keep: true }
+    }
+
+    fn check(model: &Model, one: Call, two: Call) -> (Option<&'static str>, [(Outcome, Outcome); 2]) {
+        let pair = Pair { register: line(), calls: [one, two], on_one_chain: true };
         let [[one, two], [three, four]] = pair.scripts().map(|script| {
             let mut state = script.start();
             [0, 1].map(|at| {
@@ -102,25 +110,38 @@ mod tests {
                 Revoked::take(&mut &answer[size_of::<u32>()..])
             })
         });
-        let answers = Answers([[&one, &two], [&three, &four]]);
+        let answers = Answers([[&one, &two], [&three, &four]], pair.revokes());
         (answers.broken(), answers.told())
     }
 
     #[test]
     fn a_claim_and_one_drawn_from_it() {
         let told = [(YES, YES), (YES, NO_CLAIM)];
-        assert_eq!(check(&Model::default(), (1, 1), (3, 3)), (None, told));
+        assert_eq!(check(&Model::default(), by(1, 1), by(3, 3)), (None, told));
     }
 
     #[test]
     fn a_caller_without_standing() {
         let told = [(NO_GRANTOR, NO_CLAIM), (YES, YES)];
-        assert_eq!(check(&Model::default(), (4, 2), (1, 1)), (None, told));
+        assert_eq!(check(&Model::default(), by(4, 2), by(1, 1)), (None, told));
     }
 
     #[test]
     fn a_model_that_leaves_what_was_drawn_is_found() {
         let model = Model { fault: Some(Fault::OnlyNamed) };
-        assert_eq!(check(&model, (1, 1), (3, 3)).0, Some("the other order leaves another register"));
+        assert_eq!(check(&model, by(1, 1), by(3, 3)).0, Some("the other order leaves another register"));
+    }
+
+    #[test]
+    fn a_clearing_takes_a_claim_from_a_revocation() {
+        let clear = Call::ClearResource { caller: 1, resource: 1, keep: true };
+        assert_eq!(check(&Model::default(), by(3, 3), clear), (None, [(YES, NO_CLAIM), (YES, YES)]));
+    }
+
+    #[test]
+    fn two_clearings_are_told_the_same() {
+        let clear = Call::ClearResource { caller: 1, resource: 1, keep: true };
+        let old = Call::ClearExpired { caller: 4, now: 9, keep: true };
+        assert_eq!(check(&Model::default(), clear, old), (None, [(YES, YES), (YES, YES)]));
     }
 }

@@ -19,6 +19,8 @@ pub enum Request {
     VerdictText,
     ReadJson,
     WriteJson,
+    ClearResource,
+    ClearExpired,
     Boundary,
     Threads,
     Stack,
@@ -36,7 +38,7 @@ pub fn put_request(out: &mut Vec<u8>, request: Request, put: impl FnOnce(&mut Ve
 }
 
 /// The calls, in the order in which the driver answers how much stack each of them took.
-pub const STACK_ORDER: [&str; 12] = [
+pub const STACK_ORDER: [&str; 14] = [
     "sound",
     "grant",
     "revoke",
@@ -49,4 +51,6 @@ pub const STACK_ORDER: [&str; 12] = [
     "verdict_text",
     "read_json",
     "write_json",
+    "clear_resource",
+    "clear_expired",
 ];

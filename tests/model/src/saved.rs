@@ -90,6 +90,12 @@ fn write_call(call: &Call, out: &mut String) {
         Call::Revoke { revoker, claim, keep } => {
             line(out, format_args!("call {name} revoker={revoker} claim={claim} keep={}", u8::from(*keep)));
         }
+        Call::ClearResource { caller, resource, keep } => {
+            line(out, format_args!("call {name} caller={caller} resource={resource} keep={}", u8::from(*keep)));
+        }
+        Call::ClearExpired { caller, now, keep } => {
+            line(out, format_args!("call {name} caller={caller} now={now} keep={}", u8::from(*keep)));
+        }
         Call::Gate(action) => {
             line(out, format_args!("call {name}"));
             write_action(action, out);
@@ -292,6 +298,14 @@ fn call(name: &str, parts: &Parts) -> Result<Call, String> {
         "sound" => Call::Sound,
         "grant" => Call::Grant { claim: claim(parts)?, now: number(parts, "now")?, keep: keep()? },
         "revoke" => Call::Revoke { revoker: number(parts, "revoker")?, claim: number(parts, "claim")?, keep: keep()? },
+        "clear_resource" => Call::ClearResource {
+            caller: number(parts, "caller")?,
+            resource: number(parts, "resource")?,
+            keep: keep()?,
+        },
+        "clear_expired" => {
+            Call::ClearExpired { caller: number(parts, "caller")?, now: number(parts, "now")?, keep: keep()? }
+        }
         "gate" => Call::Gate(Box::new(Action::ZERO)),
         "judge_plan" => Call::Plan(Box::new(Plan { count: number(parts, "count")?, ..Plan::EMPTY })),
         "contains" => {

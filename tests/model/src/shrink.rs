@@ -126,6 +126,7 @@ fn call_steps(call: &Call) -> usize {
         Call::ReadJson { text, .. } => text_steps(text, MEMBER) + 1,
         Call::WriteJson { action, id, .. } => action_steps(action) + id.len() + 2,
         Call::Sound | Call::Grant { .. } | Call::Revoke { .. } => 0,
+        Call::ClearResource { .. } | Call::ClearExpired { .. } => 0,
         Call::WriteRegister { .. } => 1,
     }
 }
@@ -193,6 +194,7 @@ fn step_call(call: &mut Call, mut step: usize) {
         }
         Call::WriteRegister { room, .. } => *room /= 2,
         Call::Sound | Call::Grant { .. } | Call::Revoke { .. } => (),
+        Call::ClearResource { .. } | Call::ClearExpired { .. } => (),
     }
 }
 

@@ -7,7 +7,7 @@ use borrow.Author.Needs.{needs}
 use Rattle.lists.specs.Loops.{length-mapped}
 use Rattle.register.specs.Limits.{claimLimit}
 use Rattle.columns.specs.Columns.{claimId, parentOf, grantorOf, holderOf, claimedOf, rightsOf, weightOf, expiryOf}
-use Rattle.columns.proofs.Filling.{Filling, empty, fill, full}
+use Rattle.columns.specs.Filling.{Filling, empty, fill, full}
 use Rattle.columns.proofs.claim_columns.Statement.{statement}
 use Rattle.columns.proofs.claim_columns.Tie as tie
 

@@ -1,25 +1,23 @@
 -- `revoking::strike` meets its contract. The loop's invariant: the claims before place `i` are passed (Passing). What `goes` tells of a
--- claim is whether it is struck, since ids are distinct. The measure is the number of claims left. Assumes nothing.
-use mathlib.Core.Path.{_≡_, sym, _∙_}
+-- claim is whether it goes by its mark and the numbers gone. The measure is the number of claims left. Assumes nothing.
+use mathlib.Core.Path.{_≡_, _∙_}
 use Prim.Native.Nat.{_-_, _≤_, _<_}
 use native.Mathlib.Omega.{arith}
 use borrow.Author.Needs.{needs}
-use lib.Dec.{eqb}
-use lib.ListN.{length, take, getD, length-take}
+use lib.ListN.{length, length-take}
 use Rattle.lists.specs.Loops.{length-mapped}
 use Rattle.register.specs.Limits.{claimLimit}
-use Rattle.register.specs.Register.{claimsOf, noClaim}
-use Rattle.register.specs.Chain.{latest}
-use Rattle.revoking.proofs.Passing.{Pass, distinct-taken, latest-next, pass-start, pass-told, pass-goes, pass-stays, pass-done}
+use Rattle.register.specs.Register.{claimsOf}
+use Rattle.revoking.proofs.Passing.{Pass, pass-start, pass-told, pass-goes, pass-stays, pass-done, read-within}
 use Rattle.revoking.proofs.strike.Statement.{statement}
 use Rattle.revoking.proofs.strike.Tie as tie
 
 abbrev Inv-loop : tie.InvT-loop
-Inv-loop x k list₀ gone₀ kept₀ went₀ i₀ top list gone kept went i =
-    (i ≤ top) × (top ≡ length (claimsOf k)) × (top ≤ claimLimit) × Pass (λ c. eqb (c .id) x) (latest (take i (claimsOf k))) list gone kept went i
+Inv-loop marks k list₀ gone₀ kept₀ went₀ i₀ top list gone kept went i =
+    (i ≤ top) × (top ≡ length (claimsOf k)) × (top ≤ claimLimit) × Pass (claimsOf k) marks list gone kept went i
 
 abbrev μ-loop : tie.MeasureT-loop
-μ-loop x k list₀ gone₀ kept₀ went₀ i₀ top list gone kept went i = top - i
+μ-loop marks k list₀ gone₀ kept₀ went₀ i₀ top list gone kept went i = top - i
 
 none-requires : tie.Need-none-requires Inv-loop μ-loop
 none-requires c κs = search needs
@@ -29,16 +27,19 @@ least-requires c κs = search needs
 
 loop-holds : tie.Need-loop-holds Inv-loop μ-loop
 loop-holds c =
-    let k = c .before .before .args .t1 in
+    let k = c .before .before .before .args .t1 in
     let long : length (k .list) ≡ claimLimit = search (needs, length-mapped) in
     let counted : c .least .result ≡ length (claimsOf k) = rw (length-take (k .count) (k .list), long) (c .least .ensures) in
-    (omega arith, counted, omega arith, rw (c .before .none .ensures) (pass-start _))
+    (omega arith, counted, omega arith, rw (c .before .none .ensures) (pass-start _ _))
 
 mul-c : tie.Need-mul-c Inv-loop μ-loop
 mul-c c = search needs
 
 element-copy-out-c : tie.Need-element-copy-out-c Inv-loop μ-loop
 element-copy-out-c c = search needs
+
+is-marked-requires : tie.Need-is-marked-requires Inv-loop μ-loop
+is-marked-requires c κs = search needs
 
 slice-aggregate-goes : tie.Need-slice-aggregate-goes Inv-loop μ-loop
 slice-aggregate-goes c = search needs
@@ -63,19 +64,17 @@ loop-less c = search needs
 
 loop-again : tie.Need-loop-again Inv-loop μ-loop
 loop-again c =
-    let turn = c .before .before .before .before .before in
-    let start = turn .before .before .before in
+    let turn = c .before .before .before .before .before .before in
+    let start = turn .before .before .before .before in
     let k = start .args .t1 in
     let i = turn .loop .i in
     let inside : i < length (claimsOf k) = omega arith in
-    let read = latest-next (k .count) (k .list) i noClaim inside in
-    let apart = distinct-taken (claimsOf k) i (start .pre) in (
+    let read = read-within (k .count) (k .list) i inside in (
       omega arith,
       turn .loop .inv .1,
       turn .loop .inv .2,
-      rw read
-          (pass-goes (turn .loop .inv .3) (getD (k .list) i noClaim)
-          (pass-told (turn .loop .inv .3) apart (getD (k .list) i noClaim) ∙ sym (c .before .goes .ensures) ∙ c .if1 .taken) (omega arith)),
+      pass-goes (turn .loop .inv .3) read
+          (pass-told (turn .loop .inv .3) read (c .before .before .before .is-marked .ensures) (c .before .goes .ensures) ∙ c .if1 .taken) (omega arith),
     )
 
 mul-list : tie.Need-mul-list Inv-loop μ-loop
@@ -95,23 +94,21 @@ loop-less-2 c = search needs
 
 loop-again-2 : tie.Need-loop-again-2 Inv-loop μ-loop
 loop-again-2 c =
-    let turn = c .before .before .before .before .before in
-    let start = turn .before .before .before in
+    let turn = c .before .before .before .before .before .before in
+    let start = turn .before .before .before .before in
     let k = start .args .t1 in
     let i = turn .loop .i in
     let inside : i < length (claimsOf k) = omega arith in
-    let read = latest-next (k .count) (k .list) i noClaim inside in
-    let apart = distinct-taken (claimsOf k) i (start .pre) in (
+    let read = read-within (k .count) (k .list) i inside in (
       omega arith,
       turn .loop .inv .1,
       turn .loop .inv .2,
-      rw read
-          (pass-stays (turn .loop .inv .3) (getD (k .list) i noClaim)
-          (pass-told (turn .loop .inv .3) apart (getD (k .list) i noClaim) ∙ sym (c .before .goes .ensures) ∙ c .if1 .left) (omega arith)),
+      pass-stays (turn .loop .inv .3) read
+          (pass-told (turn .loop .inv .3) read (c .before .before .before .is-marked .ensures) (c .before .goes .ensures) ∙ c .if1 .left) (omega arith),
     )
 
 returns : tie.Need-returns Inv-loop μ-loop
-returns c = pass-done (c .before .before .before .before .args .t1) (c .before .before .before .before .args .x) (c .before .loop .i) (c .before .loop .inv .3) (omega arith)
+returns c = pass-done (c .before .before .before .before .before .args .t1) (c .before .before .before .before .before .args .marks .now) (c .before .loop .i) (c .before .loop .inv .3) (omega arith)
 
 pub strike-spec : {M : Type 1} → statement M
 strike-spec =
@@ -124,6 +121,7 @@ strike-spec =
     loop-holds
     mul-c
     element-copy-out-c
+    is-marked-requires
     slice-aggregate-goes
     goes-requires
     mul-gone

@@ -1,4 +1,4 @@
-//! Grants and revocations on a register, and sequences of them.
+//! Grants and withdrawals on a register, and pairs of withdrawals.
 
 use super::actions::moment;
 use super::random::Random;
@@ -172,6 +172,60 @@ fn revocation(random: &mut Random, register: &Register) -> (u32, u32) {
     call
 }
 
+/// A clearing of a resource, mostly by its keeper.
+pub fn clear_resource(random: &mut Random, register: &Register, keep: bool) -> Call {
+    let resources = standing(&register.resources);
+    let some_id = random.between(0, ID_MAX as usize) as u32;
+    let (mut caller, mut resource) = (some_id, some_id);
+    if !resources.is_empty() {
+        let cleared = random.pick(resources);
+        (caller, resource) = (cleared.keeper, cleared.id);
+    }
+    match random.below(10) {
+        0 => caller = someone(random, register),
+        // Often the keeper's machine, or the keeper of another.
+        1 if !resources.is_empty() => caller = random.pick(resources).keeper,
+        2 => caller = *random.pick(&[0, some_id, caller.wrapping_add(65_536)]),
+        3 => resource = *random.pick(&[0, some_id, resource.wrapping_add(65_536)]),
+        _ => (),
+    }
+    Call::ClearResource { caller, resource, keep }
+}
+
+/// A clearing of old claims, mostly by a human.
+pub fn clear_expired(random: &mut Random, register: &Register, keep: bool) -> Call {
+    let some_id = random.between(0, ID_MAX as usize) as u32;
+    let humans: Vec<u32> =
+        standing(&register.actors).iter().filter(|actor| actor.kind == HUMAN).map(|actor| actor.id).collect();
+    let mut caller = if humans.is_empty() { some_id } else { *random.pick(&humans) };
+    let mut now = moment(random, register);
+    match random.below(10) {
+        0 => caller = someone(random, register),
+        1 => caller = *random.pick(&[0, some_id, caller.wrapping_add(65_536)]),
+        2 => now = *random.pick(&[1 << 32, u64::MAX, (1 << 32) + now]),
+        _ => (),
+    }
+    Call::ClearExpired { caller, now, keep }
+}
+
+/// An actor, of whatever kind.
+fn someone(random: &mut Random, register: &Register) -> u32 {
+    let actors = standing(&register.actors);
+    if actors.is_empty() {
+        return random.between(0, ID_MAX as usize) as u32;
+    }
+    random.pick(actors).id
+}
+
+/// Any of the two clearings.
+pub fn clear(random: &mut Random, register: &Register, keep: bool) -> Call {
+    if random.chance(50) {
+        clear_resource(random, register, keep)
+    } else {
+        clear_expired(random, register, keep)
+    }
+}
+
 /// The claim with this id, its parent, and so on.
 fn chain(claims: &[Claim], id: u32) -> Vec<&Claim> {
     let named = |id: u32| claims.iter().find(|claim| claim.id == id);
@@ -179,8 +233,18 @@ fn chain(claims: &[Claim], id: u32) -> Vec<&Claim> {
     std::iter::successors(named(id), |claim| named(claim.parent)).take(HOPS + 1).collect()
 }
 
+/// Two withdrawals on a register, two in five of them revocations.
+pub fn withdraw_pair(random: &mut Random, register: Box<Register>) -> Pair {
+    if random.chance(40) {
+        return revoke_pair(random, register);
+    }
+    let one = clear(random, &register, true);
+    let two = if random.chance(50) { revoke(random, &register, true) } else { clear(random, &register, true) };
+    Pair { register, calls: [one, two], on_one_chain: false }
+}
+
 /// Two revocations on a register, half of them of claims on one chain.
-pub fn revoke_pair(random: &mut Random, register: Box<Register>) -> Pair {
+fn revoke_pair(random: &mut Random, register: Box<Register>) -> Pair {
     let claims = standing(&register.claims);
     let one = revocation(random, &register);
     let [one, two] = match random.below(10) {

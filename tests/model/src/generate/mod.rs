@@ -60,7 +60,7 @@ impl Generator {
         ]
     }
 
-    /// The pairs of revocations of one round: on a sound register, and now and then on one with a defect.
+    /// The pairs of withdrawals of one round: on a sound register, and now and then on one with a defect.
     pub fn pairs(&mut self, round: usize) -> Vec<Pair> {
         let shape = self.shape(round);
         let litter = self.random.chance(50);
@@ -68,7 +68,7 @@ impl Generator {
         if round % 8 == 0 {
             registers.extend(self.defect(round).register);
         }
-        registers.into_iter().map(|register| changes::revoke_pair(&mut self.random, register)).collect()
+        registers.into_iter().map(|register| changes::withdraw_pair(&mut self.random, register)).collect()
     }
 
     /// Large registers take the most time, and are the rarest.
@@ -96,6 +96,8 @@ impl Generator {
         calls.extend((0..5).map(|_| Call::Plan(actions::plan(random, &register))));
         calls.extend((0..14).map(|_| changes::grant(random, &register, false)));
         calls.extend((0..8).map(|_| changes::revoke(random, &register, false)));
+        calls.extend((0..4).map(|_| changes::clear_resource(random, &register, false)));
+        calls.extend((0..4).map(|_| changes::clear_expired(random, &register, false)));
         let length = texts::register_text(&register).len();
         calls.extend((0..2).map(|_| {
             let room = texts::room(random, length, REGISTER_TEXT);
@@ -128,6 +130,8 @@ impl Generator {
             Call::Plan(actions::plan(random, &register)),
             changes::grant(random, &register, false),
             changes::revoke(random, &register, false),
+            changes::clear_resource(random, &register, false),
+            changes::clear_expired(random, &register, false),
             Call::WriteRegister { room: random.below(REGISTER_TEXT), fill: random.word() as u8 },
         ];
         if register.actors.count <= ACTORS && register.resources.count <= RESOURCES && register.claims.count <= CLAIMS {
@@ -136,7 +140,7 @@ impl Generator {
         Script { register: Some(register), calls }
     }
 
-    /// Grants and revocations one after the other, each on what the last one left; clocks go back, ids come again.
+    /// Grants and withdrawals one after the other, each on what the last one left; clocks go back, ids come again.
     fn sequence(&mut self, register: Box<Register>) -> Script {
         let random = &mut self.random;
         let model = Model::default();
@@ -148,6 +152,8 @@ impl Generator {
                 0 => Call::Gate(actions::action(random, &state)),
                 1 if step % 3 == 0 => Call::Sound,
                 2..=3 => changes::revoke(random, &state, true),
+                // It takes more with it.
+                4 if step % 3 == 0 => changes::clear(random, &state, true),
                 _ => changes::grant(random, &state, true),
             };
             answer.clear();

@@ -6,9 +6,9 @@ mod ids;
 pub mod json;
 pub mod paths;
 mod plan;
-mod revoke;
 mod rules;
 pub mod text;
+mod withdraw;
 
 #[cfg(test)]
 mod json_tests;
@@ -25,7 +25,7 @@ pub enum Refusal {
     Unsound = 1,
     /// A field or count of the call is out of range.
     Range = 2,
-    /// The grantor, holder, granted resource, revoker or acting actor is not in the register.
+    /// The grantor, holder, granted or cleared resource, revoker, clearing caller or acting actor is not in the register.
     Absent = 3,
     /// The claim's id already stands.
     Stands = 4,
@@ -55,7 +55,7 @@ pub enum Refusal {
     Circle = 16,
     /// The claim to revoke does not stand.
     NoClaim = 17,
-    /// The revoker is no grantor on the claim's chain.
+    /// The revoker is no grantor on the claim's chain; who clears a resource is not its keeper, who clears old claims not human.
     NoGrantor = 18,
     /// The text is not of the form.
     Form = 19,
@@ -80,6 +80,12 @@ pub enum Fault {
     DirectChildren,
     /// A revocation takes the claim alone.
     OnlyNamed,
+    /// A clearing of old claims keeps a claim whose expiry equals the moment.
+    ExpiryEqualKept,
+    /// A clearing of old claims keeps what is drawn from them.
+    DrawnKept,
+    /// A clearing of old claims takes claims of weight 0.
+    WeightlessCleared,
     /// A number with a leading zero is read.
     LeadingZero,
     /// The hop count is that of the last covering claim.
@@ -93,11 +99,14 @@ pub enum Fault {
 }
 
 impl Fault {
-    pub const ALL: [(&'static str, Fault); 9] = [
+    pub const ALL: [(&'static str, Fault); 12] = [
         ("expiry-equal-live", Fault::ExpiryEqualLive),
         ("source-unasked", Fault::SourceUnasked),
         ("direct-children", Fault::DirectChildren),
         ("only-named", Fault::OnlyNamed),
+        ("expiry-equal-kept", Fault::ExpiryEqualKept),
+        ("drawn-kept", Fault::DrawnKept),
+        ("weightless-cleared", Fault::WeightlessCleared),
         ("leading-zero", Fault::LeadingZero),
         ("other-hops", Fault::OtherHops),
         ("cancelled-judged", Fault::CancelledJudged),

@@ -233,6 +233,38 @@ fn revocation_takes_the_whole_branch() {
 }
 
 #[test]
+fn a_resource_is_cleared_by_its_keeper() {
+    let mut register = case_r();
+    let mut unsound = case_r();
+    unsound.actors.count = 65;
+    assert_eq!(refusal(MODEL.clear_resource(&mut unsound, 3, 10)), 1);
+    assert_eq!(refusal(MODEL.clear_resource(&mut register, 3, 11)), 3);
+    assert_eq!(refusal(MODEL.clear_resource(&mut register, 1, 11)), 3);
+    assert_eq!(refusal(MODEL.clear_resource(&mut register, 2, 10)), 18);
+    assert_eq!(register, case_r());
+    assert_eq!(MODEL.clear_resource(&mut register, 1, 10), Ok(2));
+    assert_eq!(MODEL.clear_resource(&mut register, 1, 10), Ok(0));
+    assert_eq!(register.claims, Register::EMPTY.claims);
+}
+
+#[test]
+fn old_claims_are_cleared_by_a_human() {
+    let mut register = chain(16);
+    register.claims.list[4].expiry = 2000;
+    let before = register.clone();
+    assert_eq!(refusal(MODEL.clear_expired(&mut register, 99, 1 << 32)), 2);
+    assert_eq!(refusal(MODEL.clear_expired(&mut register, 99, 2000)), 3);
+    assert_eq!(refusal(MODEL.clear_expired(&mut case_r(), 2, 2000)), 18);
+    assert_eq!(MODEL.clear_expired(&mut register, 1, 1999), Ok(0));
+    assert_eq!(register, before);
+    // The chain below it goes too.
+    assert_eq!(MODEL.clear_expired(&mut register, 2, 2000), Ok(13));
+    assert_eq!(register, chain(3));
+    register.claims.list[3].weight = 0;
+    assert_eq!(MODEL.clear_expired(&mut register, 1, 2000), Ok(0));
+}
+
+#[test]
 fn texts_fail_at_their_first_bad_line() {
     let text = lines(CASE_R);
     for (text, expected) in [

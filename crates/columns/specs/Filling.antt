@@ -1,4 +1,4 @@
--- A loop that fills an array of numbers from the front, each place with f of the element that stands there. Assumes nothing.
+-- A loop that fills an array from the front, each place with f of the element that stands there. Assumes nothing.
 use mathlib.Core.Path.{_≡_, refl, sym, _∙_}
 use mathlib.Core.List.{List, map}
 use Prim.Native.Nat.{ℕ, _+_, _≤_, _<_}
@@ -8,17 +8,17 @@ use lib.ListN.{length, take, getD, set, length-set, length-map, List·getD-map}
 use lib.Seq.{take-suc, take-suc-set, take-all}
 
 -- of the n places of the column the first i hold f of the elements of l
-pub record Filling {A : Type 0} (f : A → ℕ) (l : List A) (n i : ℕ) (column : List ℕ) : Type 0 where
+pub record Filling {A B : Type 0} (f : A → B) (l : List A) (n i : ℕ) (column : List B) : Type 0 where
   pub within : i ≤ n
   pub long : length l ≡ n
   pub room : length column ≡ n
   pub filled : take i column ≡ take i (map f l)
 
-module _ {A : Type 0} {f : A → ℕ} {l : List A} {n : ℕ} where
-  pub empty : {column : List ℕ} → length l ≡ n → length column ≡ n → Filling f l n 0 column
+module _ {A B : Type 0} {f : A → B} {l : List A} {n : ℕ} where
+  pub empty : {column : List B} → length l ≡ n → length column ≡ n → Filling f l n 0 column
   empty h k = record { within = omega arith; long = h; room = k; filled = refl }
 
-  module _ {i : ℕ} {column : List ℕ} (s : Filling f l n i column) where
+  module _ {i : ℕ} {column : List B} (s : Filling f l n i column) where
     pub fill : (d : A) → i < n → Filling f l n (i + 1) (set column i (f (getD l i d)))
     fill d h =
         let place : i < length column = omega arith in
