@@ -283,7 +283,8 @@ typedef struct guvrendik_verdict {
     uint32_t refusal;                                     /* of a stopped one the number, else 0 */
     guvrendik_violation violations[GUVRENDIK_VIOLATIONS]; /* past the count {0, 0} */
     size_t count;                                         /* 0 where permitted or stopped */
-    size_t hops[GUVRENDIK_USES]; /* by use: the hop count of the first claim in the list by which the actor covers it; 0 where
+    size_t hops[GUVRENDIK_USES]; /* by use: the hop count of the nearest claim by which the actor covers it, which is the one whose
+                                  * path has the greatest length by guvrendik_contains, the first in the list on a tie; 0 where
                                   * there is none, past the uses, and where stopped */
 } guvrendik_verdict;
 
@@ -330,17 +331,18 @@ guvrendik_plan_verdict guvrendik_judge_plan(guvrendik_register r, guvrendik_plan
 /* The answer of a containment. A struct that was never written, all zeros, reads as a no. */
 typedef struct guvrendik_containment {
     uint32_t contained; /* 1: outer contains inner. 0: it does not. No other number. */
+    size_t length;      /* with a yes: how long outer is without the slashes at its end, which may be 0. With a no: 0 */
 } guvrendik_containment;
 
-/* Whether the outer path contains the inner one.
+/* Whether the outer path contains the inner one, and how long the outer one then is without the slashes at its end.
  *  outer/outer_len  a path of any length and any bytes. The caller owns it; read during the call only, never written. May be
  *                   NULL where outer_len is 0.
  *  inner/inner_len  the same. The two may overlap.
  * The answer is a no where either path has a component equal to `..`. Else it is a yes where outer is empty, where inner equals
  * outer without the slashes at its end, and where inner goes on from there with a slash. No refusal: every input is answered.
  * Stack: 128 bytes.
- * Proved: the answer is that of `contained` in crates/paths/specs/Containment.antt, for all bytes and lengths. Not proved: that
- * the caller's pointers and lengths are good. */
+ * Proved: the answer is that of `contained` and `reached` in crates/paths/specs/Containment.antt, for all bytes and lengths. Not
+ * proved: that the caller's pointers and lengths are good. */
 guvrendik_containment guvrendik_contains(const uint8_t *outer, size_t outer_len, const uint8_t *inner, size_t inner_len);
 
 /* ---- Texts ----

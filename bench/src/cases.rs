@@ -351,8 +351,7 @@ pub fn write_json(what: &str, actions: Vec<JsonAction>) -> Case {
 pub fn contains(what: &str, outer: Vec<u8>, inner: Vec<u8>) -> Case {
     let (outer, inner) = (leak(outer), leak(inner));
     let name = format!("contains, {what}");
-    let contained: u32 = model_paths::contains(outer, inner).into();
-    same(&name, 0, &library::contains(outer, inner).contained, &contained);
+    same(&name, 0, &library::contains(outer, inner), &Containment::of(outer, inner));
     Case {
         name,
         shape: None,
@@ -419,6 +418,11 @@ pub fn all() -> Vec<Case> {
             cases.push(plan(shape, &chains, 4, ", chains of 16 hops"));
             let chains = chains.cut(CLAIMS - 1);
             cases.push(grant(shape, &chains, "grant, claim of 16 hops", chains.deep_grants()));
+            for (by, what) in [(Covering::OnePath, "each by all 256 claims"), (Covering::Nested, "by 64 paths in each other")] {
+                let world = covering(by);
+                let actions = world.actions(world.human, USES, Covered::All);
+                cases.push(gate(shape, &world, &format!("32 uses, {what}"), actions));
+            }
         }
         cases.push(plan(shape, &usual(), 4, ""));
         cases.push(plan(shape, &usual(), USES, ""));

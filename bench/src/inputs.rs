@@ -159,6 +159,40 @@ pub fn deep() -> World {
     world
 }
 
+/// What covers the uses, of a human who holds all 256 claims, each with every right.
+#[derive(Clone, Copy, PartialEq, Eq)]
+pub enum Covering {
+    /// All claims are on one path, in which every other lies.
+    OnePath,
+    /// The 64 paths lie in each other, but for slashes at their ends; those of the claims from the outermost on, four to a path.
+    Nested,
+}
+
+/// A full register in which every claim covers every use.
+pub fn covering(by: Covering) -> World {
+    let mut world = world(FULL, Holding { human: CLAIMS, machine: 0 });
+    let register = &mut world.register;
+    for (at, resource) in register.resources.list.iter_mut().enumerate() {
+        let path = match by {
+            Covering::OnePath if at == 0 => b"/delivery".to_vec(),
+            Covering::OnePath => path(at),
+            Covering::Nested => "a/".repeat(PATH / 2).into_bytes()[..=at].to_vec(),
+        };
+        resource.len = path.len();
+        resource.path = [0; PATH];
+        resource.path[..path.len()].copy_from_slice(&path);
+    }
+    let resource = |at: usize| register.resources.list[at].id;
+    for (at, claim) in register.claims.list.iter_mut().enumerate() {
+        claim.resource = if by == Covering::Nested { resource(at / 4) } else { resource(0) };
+        claim.rights = RIGHTS_MAX;
+    }
+    let used = |at: usize| if by == Covering::Nested { RESOURCES - 1 } else { at % RESOURCES };
+    world.held = (0..CLAIMS).map(|at| Usage { resource: resource(used(at)), right: at as u32 % 17 }).collect();
+    assert!(Sound::of(&world.register).is_some());
+    world
+}
+
 /// Whether the uses of an action are covered.
 #[derive(Clone, Copy, PartialEq, Eq)]
 pub enum Covered {

@@ -10,22 +10,24 @@
 #include <ucontext.h>
 #include <unistd.h>
 
-_Static_assert(sizeof(guvrendik_containment) == 4 && offsetof(guvrendik_containment, contained) == 0, "layout");
+_Static_assert(sizeof(guvrendik_containment) == 16 && offsetof(guvrendik_containment, contained) == 0 &&
+                   offsetof(guvrendik_containment, length) == 8, "layout");
 
-/* 01, "Fixed examples": containment. */
+/* 01, "Fixed examples": containment; and T-12, "the length of the trimmed outer path, 0 with a no". */
 static const struct {
     const char *inner, *outer;
     uint32_t contained;
+    size_t length;
 } examples[] = {
-    {"site/a", "site/a", 1},   /* `site/a` in itself yes */
-    {"site/a/b", "site/a", 1}, /* `site/a/b` in `site/a` yes */
-    {"site/ab", "site/a", 0},  /* `site/ab` in `site/a` no */
-    {"site/a", "site/a/", 1},  /* `site/a` in `site/a/` yes */
-    {"x", "", 1},              /* `x` in empty yes */
-    {"", "/", 1},              /* empty in `/` yes */
-    {"x", "/", 0},             /* `x` in `/` no */
-    {"a/../b", "a/../b", 0},   /* `a/../b` in itself no */
-    {"a..b", "a..b", 1},       /* `a..b` in itself yes */
+    {"site/a", "site/a", 1, 6},   /* `site/a` in itself yes */
+    {"site/a/b", "site/a", 1, 6}, /* `site/a/b` in `site/a` yes */
+    {"site/ab", "site/a", 0, 0},  /* `site/ab` in `site/a` no */
+    {"site/a", "site/a/", 1, 6},  /* `site/a` in `site/a/` yes */
+    {"x", "", 1, 0},              /* `x` in empty yes */
+    {"", "/", 1, 0},              /* empty in `/` yes */
+    {"x", "/", 0, 0},             /* `x` in `/` no */
+    {"a/../b", "a/../b", 0, 0},   /* `a/../b` in itself no */
+    {"a..b", "a..b", 1, 4},       /* `a..b` in itself yes */
 };
 
 static unsigned passed, failed;
@@ -62,7 +64,7 @@ static void run_examples(void) {
             guvrendik_containment answer = guvrendik_contains(o, outer_len, p, inner_len);
             char what[64];
             snprintf(what, sizeof what, "'%s' in '%s'", examples[i].inner, examples[i].outer);
-            expect(answer.contained == examples[i].contained, what);
+            expect(answer.contained == examples[i].contained && answer.length == examples[i].length, what);
             expect(memcmp(o, examples[i].outer, outer_len) == 0 && memcmp(p, examples[i].inner, inner_len) == 0, what);
         }
     }
@@ -103,11 +105,13 @@ static size_t stack_of(void (*body)(void)) {
 
 int main(void) {
     run_examples();
-    expect(guvrendik_contains(NULL, 0, NULL, 0).contained == 1, "the empty path in itself, as NULL");
-    expect(guvrendik_contains(NULL, 0, (const uint8_t *)"x", 1).contained == 1, "'x' in the empty path, as NULL");
+    guvrendik_containment answer = guvrendik_contains(NULL, 0, NULL, 0);
+    expect(answer.contained == 1 && answer.length == 0, "the empty path in itself, as NULL");
+    answer = guvrendik_contains(NULL, 0, (const uint8_t *)"x", 1);
+    expect(answer.contained == 1 && answer.length == 0, "'x' in the empty path, as NULL");
     memset(longest, 'a', sizeof longest);
     size_t idle = stack_of(no_call), used = stack_of(one_call);
-    expect(longest_answer.contained == 1, "a path of 65,536 bytes in itself");
+    expect(longest_answer.contained == 1 && longest_answer.length == sizeof longest, "a path of 65,536 bytes in itself");
     printf("stack of one call: %zu bytes\n", used - idle);
     expect(idle < used && used < idle + 1024, "a call takes some stack, less than 1 KB");
     printf("%u passed, %u failed\n", passed, failed);

@@ -3,13 +3,15 @@
  *
  * What is expected comes from 01, "The gate". 1: "one for each set flag, lowest first: its i". 2: "machine without owner: its actor id". 3:
  * "machine, one for each governed entry: its position from 0". 4 "where the actor does not cover it; else kind 5 where the actor is a machine
- * with an owner who does not cover it", by use position from 0. "Tests 1, 2, 3 (the actor), then violations." A hop count is that "of the first
- * covering claim of the actor in register order, 0 when there is none". In the base human 1 holds claim 1 on resource 10 (0 hops), its
+ * with an owner who does not cover it", by use position from 0. "Tests 1, 2, 3 (the actor), then violations." A hop count is that of "the
+ * covering claim of the actor with the greatest such length", which is that of the trimmed path of its resource, "the first in register order on
+ * a tie" (T-12), "0 when there is none" (01). In the base human 1 holds claim 1 on resource 10 (0 hops), its
  * machine 2 claim 2 (1 hop) and claim 5 on resource 11; human 3 holds claim 3 (2 hops, READ and DELEGATE, run out
  * at 2000) and its machine 5 claim 4 (3 hops, READ), drawn from claim 3; resources 10 and 11 both have the path `site/a`, and 11 is public.
  * 02, T-03: "a claim is live at a moment when every claim on its chain has weight above 0 and hasn't expired", so a claim with a dead source
  * covers nothing and lends no hop count.
- * A line `inner in outer` has human 1 read a resource of the one path by its root on one of the other (01, "Path containment"). */
+ * A line `inner in outer` has human 1 read a resource of the one path by its root on one of the other (01, "Path containment"). A line
+ * `inner by one and other` has human 3 read by a root on the one (0 hops) and a claim of 1 hop on the other, in that order. */
 #include "calls.h"
 
 static void ask(const char *label, Register r, Action a) {
@@ -101,11 +103,57 @@ static void paths(void) {
     ask("public READ of a/../b", with_resource(base(), 2, resource_at(12, 1, 3, "a/../b")), reads);
 }
 
+/* Human 1 keeps resources 10, 11 and 12 of three paths, grants human 3 a root on 10, and itself one on 11, from which it grants human 3 READ. */
+static Register holding(const char *first, const char *second, const char *inner) {
+    Register r = with_actor(with_actor(empty(), 0, human(1)), 1, human(3));
+    r = with_resource(r, 0, resource_at(10, 0, 1, first));
+    r = with_resource(r, 1, resource_at(11, 0, 1, second));
+    r = with_resource(r, 2, resource_at(12, 0, 1, inner));
+    r = with_claim(r, 0, claim(1, 0, 1, 3, 3));
+    r = with_claim(r, 1, on(11, claim(2, 0, 1, 1, 17)));
+    return with_claim(r, 2, on(11, claim(3, 2, 1, 3, 1)));
+}
+
+/* Machine 2 of human 1 holds claims of 1 hop on `site` and of 2 hops on `site/a`; `owners` is what its owner holds. */
+static Register machine_holding(Claim owners) {
+    Register r = with_actor(with_actor(with_actor(empty(), 0, human(1)), 1, machine(2, 1)), 2, human(3));
+    r = with_resource(with_resource(r, 0, resource_at(10, 0, 3, "site")), 1, resource_at(11, 0, 3, "site/a"));
+    r = with_actor(with_resource(r, 2, resource_at(12, 0, 3, "site/a/b")), 3, human(4));
+    r = with_claim(with_claim(r, 0, claim(1, 0, 3, 4, 17)), 1, claim(2, 1, 4, 2, 1));
+    r = with_claim(with_claim(r, 2, on(11, claim(3, 0, 3, 3, 17))), 3, on(11, claim(4, 3, 3, 4, 17)));
+    return with_claim(with_claim(r, 4, on(11, claim(5, 4, 4, 2, 1))), 5, owners);
+}
+
+static void nearest(void) {
+    Action reads = using(action(3, 2000), 12, 0);
+    Register nested = holding("site", "site/a", "site/a/b");
+    ask("site/a/b by site and site/a", nested, reads);
+    ask("site/a/b by site/a and site", holding("site/a", "site", "site/a/b"), reads);
+    ask("a/b by a and a//", holding("a", "a//", "a/b"), reads);
+    ask("a/b by a// and a", holding("a//", "a", "a/b"), reads);
+    ask("/x by the empty path and /", holding("", "/", "/x"), reads);
+    ask("/x by / and the empty path", holding("/", "", "/x"), reads);
+    ask("x by site and the empty path", holding("site", "", "x"), reads);
+    ask("/x by site and /", holding("site", "/", "/x"), reads);
+    ask("a/b by the empty path and a/..", holding("", "a/..", "a/b"), reads);
+    ask("the nearer claim without the right", nested, using(action(3, 2000), 12, 1));
+    ask("the nearer claim of weight 0", with_claim(nested, 2, weighing(0, on(11, claim(3, 2, 1, 3, 1)))), reads);
+    ask("the nearer claim run out", with_claim(nested, 2, expiring(2000, on(11, claim(3, 2, 1, 3, 1)))), reads);
+    ask("the nearer claim on a public report", with_resource(nested, 2, resource_at(12, 1, 1, "site/a/b")), reads);
+    Register one = with_claim(with_claim(nested, 1, claim(2, 0, 1, 1, 17)), 2, claim(3, 2, 1, 3, 1));
+    ask("two claims on one report", one, reads);
+    ask("the same in the other order",
+        with_claim(with_claim(with_claim(one, 0, claim(2, 0, 1, 1, 17)), 1, claim(3, 2, 1, 3, 1)), 2, claim(1, 0, 1, 3, 1)), reads);
+    ask("the owner's nearer claim", machine_holding(on(12, claim(6, 0, 3, 1, 1))), using(action(2, 0), 12, 0));
+    ask("kind 5 beside the nearest", machine_holding(on(12, claim(6, 0, 3, 1, 2))), using(action(2, 0), 12, 0));
+}
+
 void gate_lines(void) {
     decided();
     sources();
     stopped();
     paths();
+    nearest();
     ask("51 violations", base(), most());
     /* 01's case R: its action, and the same action when the machine's claim has run out. */
     ask("case R", case_r(), using(using(action(2, 1999), 10, 0), 10, 1));

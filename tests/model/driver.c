@@ -238,6 +238,11 @@ static void settle_plan(guvrendik_plan_verdict *v) {
     }
 }
 
+static void settle_containment(guvrendik_containment *c) {
+    size_t gap = offsetof(guvrendik_containment, contained) + sizeof(uint32_t);
+    memset((uint8_t *)c + gap, 0, offsetof(guvrendik_containment, length) - gap);
+}
+
 static void settle_json(guvrendik_json_read *read) {
     size_t gap = offsetof(guvrendik_json_read, kind) + sizeof(uint32_t);
     memset((uint8_t *)read + gap, 0, offsetof(guvrendik_json_read, id_len) - gap);
@@ -326,6 +331,7 @@ static void do_contains(payload *p) {
         const uint8_t *lent_outer = lend(arena_one, outer, outer_len, where);
         const uint8_t *lent_inner = lend(arena_two, inner, inner_len, where);
         got[where] = guvrendik_contains(lent_outer, outer_len, lent_inner, inner_len);
+        settle_containment(&got[where]);
         marks |= input_mark(lent_outer, outer, outer_len) | input_mark(lent_inner, inner, inner_len);
     }
     marks |= memcmp(&got[0], &got[1], sizeof *got) == 0 ? 0 : PLACES_DIFFER;
@@ -802,7 +808,8 @@ static void pass_nulls(void) {
     expect(j.accepted == 0 && j.refusal == GUVRENDIK_RANGE, "no JSON text, and a moment out of range");
     guvrendik_written n = guvrendik_write_json(json_action(), NULL, 0, 0, NULL, 0);
     expect(n.accepted == 0 && n.refusal == GUVRENDIK_BUFFER && n.length == 0, "no id, and no buffer for a JSON action");
-    expect(guvrendik_contains(NULL, 0, NULL, 0).contained == 1, "the empty path in itself");
+    guvrendik_containment empty = guvrendik_contains(NULL, 0, NULL, 0);
+    expect(empty.contained == 1 && empty.length == 0, "the empty path in itself");
 }
 
 static char *text_of(payload *p, size_t length) {
@@ -928,7 +935,10 @@ static void make_call(size_t call, const input *in, const answers *known, answer
     memset((uint8_t *)out + parts[call].text_at, 0, parts[call].text_size);
     switch (call) {
     case 0: out->sound = guvrendik_sound(in->r); break;
-    case 1: out->contained = guvrendik_contains(one->path, one->len, two->path, two->len); break;
+    case 1:
+        out->contained = guvrendik_contains(one->path, one->len, two->path, two->len);
+        settle_containment(&out->contained);
+        break;
     case 2:
         out->granted = guvrendik_grant(in->r, in->c, in->now);
         settle(&out->granted.state);

@@ -4,6 +4,8 @@ use mathlib.Core.Bool.{Bool, cond}
 use mathlib.Core.List.{List, _++_, map}
 use Prim.Native.Nat.{ℕ, _-_}
 use lib.ListN.{length, take, replicate}
+use Rattle.paths.specs.Containment.{contained, reached, isInside, lengthOf}
+use Rattle.paths.specs.declared.Reach.{Reach}
 use Rattle.refusals.specs.Refusals.{numberOf}
 use Rattle.refusals.specs.declared.Outcome.{Outcome}
 use Rattle.refusals.specs.declared.Outcome.the-variants.{Accepted, Refused as RefusedFor}
@@ -38,8 +40,13 @@ use Rattle.answers.specs.declared.JsonAnswer.{JsonAnswer}
 abbrev pub yesNumber : Bool → ℕ
 yesNumber held = cond held 1 0
 
-abbrev pub containment : Bool → Containment
-containment held = record { contained = yesNumber held }
+-- of two paths: whether outer contains inner, and how far it reaches
+abbrev pub containment : List ℕ → List ℕ → Containment
+containment outer inner = record { contained = yesNumber (contained outer inner); length = reached outer inner }
+
+-- the same by the one answer that tells both
+abbrev pub containmentOf : Reach → Containment
+containmentOf w = record { contained = yesNumber (isInside w); length = lengthOf w }
 
 abbrev pub soundness : Bool → Soundness
 soundness held = record { sound = yesNumber held }

@@ -2,6 +2,8 @@
 use mathlib.Core.Path.{_≡_, sym}
 use mathlib.Core.List.{List}
 use Prim.Native.Nat.{ℕ}
+use Rattle.paths.specs.Containment.{reachBetween}
+use Rattle.paths.specs.Laws.{reach-told}
 use Rattle.changes.specs.declared.Granted.{Granted}
 use Rattle.changes.specs.declared.Revoked.{Revoked}
 use Rattle.actions.specs.declared.Verdict.{Verdict}
@@ -18,8 +20,12 @@ use Rattle.answers.specs.declared.PlanAnswer.{PlanAnswer}
 use Rattle.answers.specs.declared.RegisterAnswer.{RegisterAnswer}
 use Rattle.answers.specs.declared.ActionAnswer.{ActionAnswer}
 use Rattle.answers.specs.declared.JsonAnswer.{JsonAnswer}
+use Rattle.answers.specs.Answers.{containment, containmentOf}
 use Rattle.answers.specs.Answers.{acceptedNumber, refusalNumber, grantAnswer, revokeAnswer}
 use Rattle.answers.specs.Answers.{decisionNumber, stopNumber, violationList, gateAnswer, judgementList, planAnswer, registerAnswer, actionAnswer, jsonAnswer}
+
+pub containment-told : (p q : List ℕ) → containmentOf (reachBetween p q) ≡ containment p q
+containment-told p q = rw (reach-told p q .0, reach-told p q .1)
 
 pub grant-told : {g h : Granted} {a n : ℕ} → g ≡ h → a ≡ acceptedNumber (g .outcome) → n ≡ refusalNumber (g .outcome)
     → _≡_ {A = GrantAnswer} (record { state = g .register; accepted = a; refusal = n }) (grantAnswer h)

@@ -2,7 +2,7 @@
 // caller, and no answer whose numbers are all zero is a yes.
 ghost use mathlib.Core.Path.{_≡_};
 ghost use Rattle.answers.specs.Answers.{yesNumber, acceptedNumber, refusalNumber, decisionNumber, stopNumber, violationNumbers, violationList, judgementNumbers};
-ghost use Rattle.answers.specs.Answers.{judgementList, writtenAnswer};
+ghost use Rattle.answers.specs.Answers.{judgementList, writtenAnswer, containmentOf};
 use actions::Action;
 use actions::Decision;
 use actions::Judgement;
@@ -11,14 +11,16 @@ use actions::PlanVerdict;
 use actions::Violation;
 use actions::Violations;
 use json_actions::ID_BYTES;
+use paths::Reach;
 use refusals::Outcome;
 use register::Register;
 use texts::Written;
 
-// The answer of a containment: 1 for a yes, 0 for a no.
+// The answer of a containment: 1 for a yes, with the length of the trimmed outer path, which may be 0. Else zeros.
 #[repr(C)]
 pub struct Containment {
     pub contained: u32,
+    pub length: usize,
 }
 
 // Whether a register is sound: 1 for a yes, 0 for a no.
@@ -125,6 +127,22 @@ pub fn yes(held: bool) -> u32
     ensures { λ y. ⌜ y ≡ yesNumber held ⌝ }
 {
     if held { 1 } else { 0 }
+}
+
+// A containment: a yes with its length, or a no.
+pub fn contained(w: Reach) -> Containment
+    ensures { λ y. ⌜ y ≡ containmentOf w ⌝ }
+{
+    match w {
+        Reach::Outside => Containment {
+            contained: yes(false),
+            length: 0,
+        },
+        Reach::Inside(n) => Containment {
+            contained: yes(true),
+            length: n,
+        },
+    }
 }
 
 // Accepted is 1 and refused is 0.

@@ -2,10 +2,11 @@
 use mathlib.Core.Path.{_≡_, refl, sym, ap, _∙_}
 use mathlib.Core.Bool.{Bool, true, false, _&&_, cond, and-false}
 use mathlib.Core.List.{List, [], _∷_, _++_, map}
-use Prim.Native.Nat.{ℕ, _≤_, _<_}
+use Prim.Native.Nat.{ℕ, _≤_, _<_, suc, _+_}
+use native.Mathlib.Numerals.{add-one}
 use native.Mathlib.Omega.{arith}
-use borrow.Author.Tests.{lt-ltb, le-ltb}
-use lib.Dec.{ltb}
+use borrow.Author.Tests.{lt-ltb, le-ltb, eq-eqb, ne-eqb}
+use lib.Dec.{ltb, eqb, leb}
 use lib.ListN.{length, getD, List·getD-map}
 use Rattle.lists.specs.Tests.{cases}
 use Rattle.lists.specs.Each.{All}
@@ -21,7 +22,7 @@ use Rattle.columns.specs.declared.Place.{Place}
 use Rattle.columns.specs.declared.Place.the-variants.{At, Nowhere}
 use Rattle.flat_paths.specs.Laid.{laid}
 use Rattle.flat_paths.specs.Laws.{part-laid}
-use Rattle.coverage.specs.Coverage.{reaching, firstCovering}
+use Rattle.coverage.specs.Coverage.{reaching, firstCovering, nearestFrom}
 
 -- ---- a claim reaches by its rights and by the paths of two resources
 
@@ -128,3 +129,52 @@ module _ (rights spots bytes lens : List ℕ) (right spot : ℕ) where
   pub covering-filtered : (s : ℕ → Bool) (l : List ℕ)
       → firstCovering (filter s l) rights spots bytes lens right spot ≡ firstPlaceOf (λ j. s j && reaching rights spots bytes lens right spot j) l
   covering-filtered s l = covering-first (filter s l) ∙ first-filtered (reaching rights spots bytes lens right spot) s l
+
+-- ---- the nearest place
+module _ (p : ℕ → Bool) (f : ℕ → ℕ) (best bar : ℕ) where
+  pub nearest-none : bar ≡ 0 → nearestFrom p f best bar [] ≡ Nowhere
+  unfolding nearestFrom
+  nearest-none none = rw (eq-eqb bar 0 none)
+
+  pub nearest-found : (bar ≡ 0 → ⊥) → nearestFrom p f best bar [] ≡ At best
+  unfolding nearestFrom
+  nearest-found some = rw (ne-eqb bar 0 some)
+
+  module _ (j : ℕ) (l : List ℕ) where
+    pub nearest-taken : (n : ℕ) → n ≡ f j → p j && leb bar (f j) ≡ true → nearestFrom p f best bar (j ∷ l) ≡ nearestFrom p f j (n + 1) l
+    unfolding nearestFrom
+    nearest-taken n same e = rw (e, same, add-one)
+
+    pub nearest-passed : p j && leb bar (f j) ≡ false → nearestFrom p f best bar (j ∷ l) ≡ nearestFrom p f best bar l
+    unfolding nearestFrom
+    nearest-passed e = rw e
+
+module _ (f : ℕ → ℕ) where
+  -- of what passes a filter, the nearest that passes a test is the nearest that passes both
+  pub nearest-filtered : (p s : ℕ → Bool) (best bar : ℕ) (l : List ℕ)
+      → nearestFrom p f best bar (filter s l) ≡ nearestFrom (λ j. s j && p j) f best bar l
+  unfolding nearestFrom
+  nearest-filtered p s best bar [] = rw (filter-nil s)
+  nearest-filtered p s best bar (i ∷ l) =
+      cases (s i) (λ e. rw (filter-hit s i l e, e, nearest-filtered p s i (suc (f i)) l, nearest-filtered p s best bar l))
+      (λ e. rw (filter-miss s i l e, e) (nearest-filtered p s best bar l))
+
+  -- tests that agree on a list, and numbers that agree where these pass, find the same
+  pub nearest-same : (p q : ℕ → Bool) (g : ℕ → ℕ) (best bar : ℕ) (l : List ℕ) → All (λ j. (p j ≡ q j) × (q j ≡ true → f j ≡ g j)) l
+      → nearestFrom p f best bar l ≡ nearestFrom q g best bar l
+  unfolding nearestFrom
+  nearest-same p q g best bar [] h = refl
+  nearest-same p q g best bar (i ∷ l) h =
+      cases (q i)
+      (λ e. rw (h .0 .0, e, h .0 .1 e, nearest-same p q g i (suc (g i)) l (h .1), nearest-same p q g best bar l (h .1)))
+      (λ e. rw (h .0 .0, e) (nearest-same p q g best bar l (h .1)))
+
+  -- what holds of the place taken so far, or of none, and of each place of a list, holds of the nearest
+  pub nearest-any : (M : Place → Type 0) (p : ℕ → Bool) (best bar : ℕ) (l : List ℕ) → M (cond (eqb bar 0) Nowhere (At best)) → All (λ j. M (At j)) l
+      → M (nearestFrom p f best bar l)
+  unfolding nearestFrom
+  nearest-any M p best bar [] so-far each = so-far
+  nearest-any M p best bar (i ∷ l) so-far each =
+      cases (p i && leb bar (f i))
+      (λ e. rw e (nearest-any M p i (suc (f i)) l (rw (ne-eqb (suc (f i)) 0 (λ none. omega arith)) (each .0)) (each .1)))
+      (λ e. rw e (nearest-any M p best bar l so-far (each .1)))

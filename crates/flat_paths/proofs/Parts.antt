@@ -1,7 +1,6 @@
 -- The path at a place by the tests that the code makes: whether the lengths and the bytes hold the place, and where it ends; and
 -- what is judged of two of them. Assumes nothing.
 use mathlib.Core.Path.{_≡_, sym}
-use mathlib.Core.Bool.{Bool}
 use mathlib.Core.List.{List, []}
 use Prim.Native.Nat.{ℕ, _+_, _*_, _-_, _/_, _≤_, _<_, min}
 use native.Mathlib.Omega.{arith}
@@ -10,7 +9,8 @@ use lib.Dec.{ltb, leb}
 use lib.ListN.{length, take, drop, getD, length-take, List·getD-eq-default}
 use lib.Seq.{take-take, take-all}
 use Rattle.lists.specs.Tests.{cases}
-use Rattle.paths.specs.Containment.{contained}
+use Rattle.paths.specs.Containment.{reachBetween}
+use Rattle.paths.specs.declared.Reach.{Reach}
 use Rattle.register.specs.Limits.{pathLimit}
 use Rattle.flat_paths.specs.Laid.{partAt}
 
@@ -39,5 +39,5 @@ module _ (bytes lens : List ℕ) (x : ℕ) where
       rw (lt-ltb x (length bytes / pathLimit) inside, long, least) (sym (take-least (getD lens x 0) pathLimit (drop (x * pathLimit) bytes)))
 
 -- what is judged of two parts is judged of the paths that they are
-pub judged : {outer inner p q : List ℕ} {r : Bool} → outer ≡ p → inner ≡ q → r ≡ contained outer inner → r ≡ contained p q
+pub judged : {outer inner p q : List ℕ} {r : Reach} → outer ≡ p → inner ≡ q → r ≡ reachBetween outer inner → r ≡ reachBetween p q
 judged e f h = rw (← e, ← f) h

@@ -1,12 +1,12 @@
 -- What the laid paths of resources say of the resources: the part at a place is the path of the resource there. Assumes nothing.
-use mathlib.Core.Path.{_≡_, refl, _∙_}
+use mathlib.Core.Path.{_≡_, refl, ap, _∙_}
 use mathlib.Core.List.{List, [], _∷_, map}
 use Prim.Native.Nat.{ℕ, zero, suc, _+_, _*_, _/_, _≤_, _<_}
 use native.Mathlib.Nat.{mul-div-cancel}
 use native.Mathlib.Omega.{arith}
 use borrow.Author.Tests.{lt-ltb, le-ltb, ltb-true, ltb-false}
 use lib.Dec.{ltb}
-use lib.ListN.{length, take, drop, getD, length-append, length-map, List·getD-map, List·getD-eq-default}
+use lib.ListN.{length, take, drop, getD, length-append, length-take, length-map, List·getD-map, List·getD-eq-default}
 use lib.Seq.{take-at, drop-append-add}
 use Rattle.lists.specs.Tests.{cases}
 use Rattle.lists.specs.Each.{All, all-map}
@@ -44,6 +44,17 @@ part-inside : (bytes lens : List ℕ) (x : ℕ) → x < length bytes / pathLimit
     → partAt bytes lens x ≡ take (getD lens x 0) (take pathLimit (drop (x * pathLimit) bytes))
 unfolding partAt
 part-inside bytes lens x inside = rw (lt-ltb x (length bytes / pathLimit) inside)
+
+-- a part is no longer than its length says, nor than a place has bytes
+pub part-length : (bytes lens : List ℕ) (x : ℕ) → (length (partAt bytes lens x) ≤ getD lens x 0) × (length (partAt bytes lens x) ≤ pathLimit)
+part-length bytes lens x =
+    let place = take pathLimit (drop (x * pathLimit) bytes) in
+    let short = length-take (getD lens x 0) place in
+    let limited = length-take pathLimit (drop (x * pathLimit) bytes) in
+    cases (ltb x (length bytes / pathLimit))
+    (λ e. let part = ap length (part-inside bytes lens x (ltb-true x (length bytes / pathLimit) e)) in
+    (omega (arith, part, short), omega (arith, part, short, limited)))
+    (λ e. let part = ap length (part-past bytes lens x (ltb-false x (length bytes / pathLimit) e)) in (omega (arith, part), omega (arith, part)))
 
 -- what is told place by place of a list's paths is told of each
 pub paths-sized : (l : List Resource) → ((j : ℕ) → j < length l → length (getD l j noResource .path) ≡ pathLimit)

@@ -6,8 +6,9 @@ ghost use lib.ListN.{length};
 ghost use lib.Seq.{paste};
 ghost use Rattle.register.specs.Limits.{pathLimit};
 ghost use Rattle.lists.specs.Each.{All};
-ghost use Rattle.paths.specs.Containment.{contained};
+ghost use Rattle.paths.specs.Containment.{reachBetween};
 ghost use Rattle.flat_paths.specs.Laid.{laid, partAt};
+use paths::Reach;
 use register::Register;
 use register::Resource;
 use register::Resources;
@@ -50,9 +51,9 @@ pub fn lay(k: Resources) -> Paths
     Paths { bytes, lens }
 }
 
-// Whether the path at place `x` contains the path at place `y`. Past the places there is the empty path.
-pub fn is_inside<'a>(bytes: &'a [u8], lens: &'a [usize], x: usize, y: usize) -> bool
-    ensures { λ r. ⌜ r ≡ contained (partAt (now (bytes .entry)) (now (lens .entry)) x) (partAt (now (bytes .entry)) (now (lens .entry)) y) ⌝ }
+// Whether the path at place `x` contains the path at place `y`, and how far it reaches. Past the places there is the empty path.
+pub fn is_inside<'a>(bytes: &'a [u8], lens: &'a [usize], x: usize, y: usize) -> Reach
+    ensures { λ r. ⌜ r ≡ reachBetween (partAt (now (bytes .entry)) (now (lens .entry)) x) (partAt (now (bytes .entry)) (now (lens .entry)) y) ⌝ }
 {
     let outer = part_at(bytes, lens, x);
     let inner = part_at(bytes, lens, y);

@@ -3,7 +3,7 @@
 use mathlib.Core.Path.{_≡_, refl}
 use mathlib.Core.Bool.{true, false}
 use mathlib.Core.List.{[], _∷_}
-use Rattle.paths.specs.Containment.{slash, dot, same, isEmpty, joined, components, climbing, trimmed, starting, slashed, contained}
+use Rattle.paths.specs.Containment.{slash, dot, same, isEmpty, joined, components, climbing, trimmed, starting, slashed, contained, reached}
 use Rattle.paths.specs.Components.{written, unslashed}
 use Rattle.paths.specs.Pairs.{dotted, paired}
 use Rattle.paths.specs.Trimming.{beneath}
@@ -105,6 +105,21 @@ contained-no :
     × (contained [] (dot ∷ dot ∷ []) ≡ false)
 unfolding contained climbing components same trimmed starting
 contained-no = (refl, refl, refl, refl, refl)
+
+-- how far, in the fixed examples of 01: `site/a` to itself and to `site/a/b`, not to `site/ab`; `site/a/` to `site/a`; the empty path to `x`
+-- and `/` to the empty path, with a yes; `/` not to `x`, `a/../b` not to itself; `a..b` to itself
+reached-cases :
+    (reached (115 ∷ 105 ∷ 116 ∷ 101 ∷ slash ∷ 97 ∷ []) (115 ∷ 105 ∷ 116 ∷ 101 ∷ slash ∷ 97 ∷ []) ≡ 6)
+    × (reached (115 ∷ 105 ∷ 116 ∷ 101 ∷ slash ∷ 97 ∷ []) (115 ∷ 105 ∷ 116 ∷ 101 ∷ slash ∷ 97 ∷ slash ∷ 98 ∷ []) ≡ 6)
+    × (reached (115 ∷ 105 ∷ 116 ∷ 101 ∷ slash ∷ 97 ∷ []) (115 ∷ 105 ∷ 116 ∷ 101 ∷ slash ∷ 97 ∷ 98 ∷ []) ≡ 0)
+    × (reached (115 ∷ 105 ∷ 116 ∷ 101 ∷ slash ∷ 97 ∷ slash ∷ []) (115 ∷ 105 ∷ 116 ∷ 101 ∷ slash ∷ 97 ∷ []) ≡ 6)
+    × (reached [] (120 ∷ []) ≡ 0)
+    × (reached (slash ∷ []) [] ≡ 0)
+    × (reached (slash ∷ []) (120 ∷ []) ≡ 0)
+    × (reached (97 ∷ slash ∷ dot ∷ dot ∷ slash ∷ 98 ∷ []) (97 ∷ slash ∷ dot ∷ dot ∷ slash ∷ 98 ∷ []) ≡ 0)
+    × (reached (97 ∷ dot ∷ dot ∷ 98 ∷ []) (97 ∷ dot ∷ dot ∷ 98 ∷ []) ≡ 4)
+unfolding reached contained climbing components same trimmed starting
+reached-cases = (refl, refl, refl, refl, refl, refl, refl, refl, refl)
 
 -- `a` and `b` are written `a/b`; no component is written as nothing, and so is one that is empty
 written-cases : (written ((97 ∷ []) ∷ (98 ∷ []) ∷ []) ≡ 97 ∷ slash ∷ 98 ∷ []) × (written [] ≡ []) × (written ([] ∷ []) ≡ [])

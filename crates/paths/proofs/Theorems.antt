@@ -1,16 +1,17 @@
 -- What is proved of path containment, over the definitions of specs/Containment. The contract of `paths::contains` says that its
--- answer is `contained`. Assumes nothing.
+-- answer is `contained`, and with a yes `reached`. Assumes nothing.
 use mathlib.Core.Path.{_≡_}
 use mathlib.Core.Bool.{true, false, not}
 use mathlib.Core.List.{List, [], _∷_, _++_}
-use Prim.Native.Nat.{ℕ}
-use lib.ListN.{replicate}
+use Prim.Native.Nat.{ℕ, _≤_}
+use lib.ListN.{length, replicate}
 use Rattle.lists.specs.Lists.{every}
-use Rattle.paths.specs.Containment.{slash, same, isEmpty, components, climbing, trimmed, contained}
+use Rattle.paths.specs.Containment.{slash, same, isEmpty, components, climbing, trimmed, contained, reached, reachBetween, isInside, lengthOf}
 use Rattle.paths.specs.Components.{written, unslashed, components-natural}
 use Rattle.paths.specs.Trimming.{same-sound, same-complete, trimmed-twice}
 use Rattle.paths.specs.Laws.{Under, contained-clean, contained-sound, contained-complete, contained-refl, contained-trans}
 use Rattle.paths.specs.Laws.{contained-not-trans, contained-antisym, contained-trimmed, trimmed-natural}
+use Rattle.paths.specs.Laws as laws
 
 -- 1. A path contains itself exactly when it has no `..` component.
 pub reflexive : (p : List ℕ) → contained p p ≡ not (climbing p)
@@ -59,3 +60,12 @@ sound p q some held = contained-sound p q some held
 -- 12. And, where neither path has a `..` component, it contains each of these.
 pub complete : (p q : List ℕ) → climbing p ≡ false → climbing q ≡ false → Under (trimmed p) q → contained p q ≡ true
 complete p q clean-p clean-q under = contained-complete p q clean-p clean-q under
+
+-- 13. How far a path reaches: with a yes the length of the trimmed outer path, at most the inner path's; with a no 0.
+pub reached-sound : (p q : List ℕ)
+    → (contained p q ≡ true → (reached p q ≡ length (trimmed p)) × (reached p q ≤ length q)) × (contained p q ≡ false → reached p q ≡ 0)
+reached-sound p q = laws.reached-sound p q
+
+-- 14. The answer of the call is a yes exactly where outer contains inner, and its length is how far.
+pub reach-told : (p q : List ℕ) → (isInside (reachBetween p q) ≡ contained p q) × (lengthOf (reachBetween p q) ≡ reached p q)
+reach-told p q = laws.reach-told p q

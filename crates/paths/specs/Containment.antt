@@ -6,6 +6,8 @@ use Prim.Native.Nat.{ℕ}
 use lib.Dec.{eqb}
 use lib.ListN.{length, drop}
 use Rattle.lists.specs.Lists.{any}
+use Rattle.paths.specs.declared.Reach.{Reach}
+use Rattle.paths.specs.declared.Reach.the-variants.{Outside, Inside}
 
 -- the bytes `/` and `.`
 abbrev pub slash : ℕ
@@ -62,3 +64,20 @@ unfoldable pub contained : List ℕ → List ℕ → Bool
 contained outer inner =
     (not (climbing outer) && not (climbing inner))
     && (isEmpty outer || same inner (trimmed outer) || (starting (trimmed outer) inner && slashed (drop (length (trimmed outer)) inner)))
+
+-- how far outer reaches to inner: the length of the trimmed outer path, 0 where it does not contain inner
+unfoldable pub reached : List ℕ → List ℕ → ℕ
+reached outer inner = cond (contained outer inner) (length (trimmed outer)) 0
+
+-- both as one answer: a no, or a yes with how far
+abbrev pub reachBetween : List ℕ → List ℕ → Reach
+reachBetween outer inner = cond (contained outer inner) (Inside (reached outer inner)) Outside
+
+-- an answer's yes or no, and its length
+abbrev pub isInside : Reach → Bool
+isInside Outside = false
+isInside (Inside n) = true
+
+abbrev pub lengthOf : Reach → ℕ
+lengthOf Outside = 0
+lengthOf (Inside n) = n

@@ -3,16 +3,17 @@
 use mathlib.Core.Path.{_≡_, refl, sym, ap, _∙_}
 use mathlib.Core.Bool.{true, false, not, _&&_, _||_, or-assoc}
 use mathlib.Core.List.{List, [], _∷_, _++_, append-assoc, append-nil}
-use Prim.Native.Nat.{ℕ, zero, suc}
+use Prim.Native.Nat.{ℕ, zero, suc, _≤_}
 use native.Mathlib.Omega.{arith}
 use lib.Dec.{eqb}
 use lib.ListN.{length, drop, replicate, length-append}
 use lib.Seq.{drop-append-seam}
 use borrow.Author.Tests.{eqb-true, not-true}
 use Rattle.lists.specs.Tests.{cases, and-left, and-right, or-left}
-use Rattle.paths.specs.Containment.{slash, same, isEmpty, components, climbing, trimmed, starting, slashed, contained}
+use Rattle.paths.specs.Containment.{slash, same, isEmpty, components, climbing, trimmed, starting, slashed, contained, reached}
+use Rattle.paths.specs.Containment.{reachBetween, isInside, lengthOf}
 use Rattle.paths.specs.Components.{climbing-append, climbing-behind}
-use Rattle.paths.specs.Trimming.{isEmpty-sound, starting-sound, starting-complete, trimmed-append, trimmed-twice, trimmed-slashes, trimmed-end, beneath, followed}
+use Rattle.paths.specs.Trimming.{isEmpty-sound, starting-sound, starting-complete, trimmed-append, trimmed-twice, trimmed-slashes, trimmed-length, trimmed-end, beneath, followed}
 
 -- ---- what containment says
 
@@ -209,3 +210,39 @@ beneath-clean (b ∷ p) q here clean =
     let starts = starting-sound t q (and-left (starting t q) (isEmpty (drop (length t) q) || slashed (drop (length t) q)) here) in
     let ends = and-right (starting t q) (isEmpty (drop (length t) q) || slashed (drop (length t) q)) here in
     sym (climbing-trimmed (b ∷ p)) ∙ followed-clean t (drop (length t) q) ends (ap climbing (sym starts) ∙ clean)
+
+-- ---- how far a path reaches
+
+pub reached-yes : (p q : List ℕ) → contained p q ≡ true → reached p q ≡ length (trimmed p)
+unfolding reached
+reached-yes p q held = rw held
+
+pub reached-no : (p q : List ℕ) → contained p q ≡ false → reached p q ≡ 0
+unfolding reached
+reached-no p q away = rw away
+
+-- no further than the outer path is long, as it is written
+pub reached-written : (p q : List ℕ) → reached p q ≤ length p
+reached-written p q =
+    cases (contained p q)
+    (λ held. omega (arith, reached-yes p q held, trimmed-length p))
+    (λ away. omega (arith, reached-no p q away))
+
+-- and no further than the inner path is long
+pub reached-inner : (p q : List ℕ) → contained p q ≡ true → reached p q ≤ length q
+reached-inner p q held =
+    cases (isEmpty p)
+    (λ none. omega (arith, reached-written p q, ap length (isEmpty-sound p none)))
+    (λ some.
+    let under = contained-sound p q some held in
+    omega (arith, reached-yes p q held, ap length (under .whole), length-append (trimmed p) (under .rest)))
+
+-- with a yes the length of the trimmed outer path, at most the inner path's; with a no 0
+pub reached-sound : (p q : List ℕ)
+    → (contained p q ≡ true → (reached p q ≡ length (trimmed p)) × (reached p q ≤ length q)) × (contained p q ≡ false → reached p q ≡ 0)
+reached-sound p q = (λ held. (reached-yes p q held, reached-inner p q held), λ away. reached-no p q away)
+
+-- the answer for two paths is containment and how far
+pub reach-told : (p q : List ℕ) → (isInside (reachBetween p q) ≡ contained p q) × (lengthOf (reachBetween p q) ≡ reached p q)
+reach-told p q =
+    cases (contained p q) (λ held. (rw held, rw held)) (λ away. (rw away, rw away (sym (reached-no p q away))))

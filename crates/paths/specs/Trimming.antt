@@ -9,6 +9,8 @@ use lib.ListN.{length, drop, replicate, length-append}
 use borrow.Author.Tests.{eq-eqb, ne-eqb, eqb-true, eqb-false}
 use Rattle.lists.specs.Tests.{cases, and-left, and-right}
 use Rattle.paths.specs.Containment.{slash, same, isEmpty, trimmed, starting, slashed}
+use Rattle.paths.specs.declared.Reach.{Reach}
+use Rattle.paths.specs.declared.Reach.the-variants.{Outside, Inside}
 
 -- two byte strings are the same exactly when they are equal
 pub same-sound : (p q : List ℕ) → same p q ≡ true → p ≡ q
@@ -133,6 +135,10 @@ trimmed-end p q e =
 -- whether path q starts with t, and what follows is nothing or begins with a slash
 abbrev pub beneath : List ℕ → List ℕ → Bool
 beneath t q = starting t q && (isEmpty (drop (length t) q) || slashed (drop (length t) q))
+
+-- how far outer reaches to what is beneath it, whatever `..` components there are
+abbrev pub reachBeneath : List ℕ → List ℕ → Reach
+reachBeneath outer inner = cond (isEmpty outer || beneath (trimmed outer) inner) (Inside (length (trimmed outer))) Outside
 
 -- inner is outer, or starts with outer and a slash: inner starts with outer, and what follows is nothing or begins with a slash
 pub followed : (t q : List ℕ) → same q t || (starting t q && slashed (drop (length t) q)) ≡ beneath t q

@@ -2,17 +2,23 @@
 // and the inner path's tail from that length on is handed as a part to the judgement of what follows. All tests must hold, so the
 // cheap ones are made first and `..` is looked for last.
 ghost use mathlib.Core.Path.{_≡_};
-ghost use mathlib.Core.Bool.{not, _&&_, _||_, cond};
+ghost use mathlib.Core.Bool.{_&&_, _||_, cond};
 ghost use Prim.Native.Nat.{_+_, _≤_};
 ghost use lib.Dec.{eqb, ltb};
 ghost use lib.ListN.{length, take};
-ghost use Rattle.paths.specs.Containment.{dot, climbing, trimmed, starting, isEmpty, slashed, contained};
+ghost use Rattle.paths.specs.Containment.{dot, climbing, trimmed, starting, isEmpty, slashed, reachBetween};
 ghost use Rattle.paths.specs.Pairs.{paired};
-ghost use Rattle.paths.specs.Trimming.{beneath};
+ghost use Rattle.paths.specs.Trimming.{reachBeneath};
 
 const SLASH: u8 = 47;
 
 const DOT: u8 = 46;
+
+// Whether an outer path contains an inner one and, with a yes, the length of the trimmed outer path. That may be 0.
+pub enum Reach {
+    Outside,
+    Inside(usize),
+}
 
 // The dots that a component consists of so far, with one byte more: 0, 1 or 2, and 3 where it is not `.` or `..` any longer.
 fn dots_with(dots: u8, b: u8) -> u8
@@ -115,33 +121,42 @@ fn follows(tail: &[u8]) -> bool
     tail[0] == SLASH
 }
 
-// Whether the outer path is empty, or the inner one is the trimmed outer path, or that with a slash and more. What follows the
+// A yes where the outer path is empty, or the inner one is the trimmed outer path, or that with a slash and more. What follows the
 // trimmed length is asked before the bytes up to it are compared: it is one byte, and most pairs part there.
-fn is_beneath(outer: &[u8], inner: &[u8]) -> bool
-    ensures { λ r. ⌜ r ≡ (isEmpty (now (outer .entry)) || beneath (trimmed (now (outer .entry))) (now (inner .entry))) ⌝ }
+fn reach_beneath(outer: &[u8], inner: &[u8]) -> Reach
+    ensures { λ r. ⌜ r ≡ reachBeneath (now (outer .entry)) (now (inner .entry)) ⌝ }
 {
     if outer.len() == 0 {
-        return true;
+        return Reach::Inside(0);
     }
     let n = trimmed_len(outer);
     if inner.len() < n {
-        return false;
+        return Reach::Outside;
     }
     if follows(&inner[n..]) {
-        starts(&outer[..n], inner)
+        if starts(&outer[..n], inner) {
+            Reach::Inside(n)
+        } else {
+            Reach::Outside
+        }
     } else {
-        false
+        Reach::Outside
     }
 }
 
-// Whether the outer path contains the inner one. Only the inner path is asked for `..`: where it stands beneath the outer one, a component
-// of the outer path is one of it too.
-pub fn contains(outer: &[u8], inner: &[u8]) -> bool
-    ensures { λ r. ⌜ r ≡ contained (now (outer .entry)) (now (inner .entry)) ⌝ }
+// Whether the outer path contains the inner one, and how far it reaches. Only the inner path is asked for `..`: where it stands beneath the
+// outer one, a component of the outer path is one of it too.
+pub fn contains(outer: &[u8], inner: &[u8]) -> Reach
+    ensures { λ r. ⌜ r ≡ reachBetween (now (outer .entry)) (now (inner .entry)) ⌝ }
 {
-    if is_beneath(outer, inner) {
-        !climbs(inner)
-    } else {
-        false
+    match reach_beneath(outer, inner) {
+        Reach::Outside => Reach::Outside,
+        Reach::Inside(length) => {
+            if climbs(inner) {
+                Reach::Outside
+            } else {
+                Reach::Inside(length)
+            }
+        }
     }
 }

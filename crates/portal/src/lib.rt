@@ -2,7 +2,6 @@
 // here: each call hands its arguments on, and gives the inner answer as a struct of numbers. No call asks anything of its caller,
 // and no answer whose numbers are all zero is a yes.
 ghost use mathlib.Core.Path.{_≡_};
-ghost use Rattle.paths.specs.Containment.{contained};
 ghost use Rattle.rules.specs.Sound.{sound};
 ghost use Rattle.changes.specs.Changes.{granted, revoke, clearResource, clearExpired, withdrawn};
 ghost use Rattle.verdicts.specs.Gate.{gated};
@@ -13,8 +12,7 @@ ghost use Rattle.sheets.specs.Sheets.{put};
 ghost use Rattle.writing.specs.Writing.{delivered, registerWritten, registerBuffer};
 ghost use Rattle.verdict_text.specs.Printed.{printed};
 ghost use Rattle.json_actions.specs.Actions.{jsonRead, jsonWritten, jsonBuffer};
-ghost use Rattle.answers.specs.Answers.{containment, soundness, grantAnswer, revokeAnswer, gateAnswer, planAnswer};
-ghost use Rattle.answers.specs.Answers.{registerAnswer, actionAnswer, writtenAnswer, jsonAnswer};
+ghost use Rattle.answers.specs.Answers.{containment, soundness, grantAnswer, revokeAnswer, gateAnswer, planAnswer, registerAnswer, actionAnswer, writtenAnswer, jsonAnswer};
 use actions::Action;
 use actions::Plan;
 use answers::ActionAnswer;
@@ -30,14 +28,12 @@ use answers::WrittenAnswer;
 use register::Claim;
 use register::Register;
 
-// Whether the outer path contains the inner one.
+// Whether the outer path contains the inner one, and how far it reaches.
 #[no_mangle]
 pub extern "C" fn guvrendik_contains(outer: &[u8], inner: &[u8]) -> Containment
-    ensures { λ r. ⌜ r ≡ containment (contained (now (outer .entry)) (now (inner .entry))) ⌝ }
+    ensures { λ r. ⌜ r ≡ containment (now (outer .entry)) (now (inner .entry)) ⌝ }
 {
-    Containment {
-        contained: answers::yes(paths::contains(outer, inner)),
-    }
+    answers::contained(paths::contains(outer, inner))
 }
 
 // Whether the register is sound.

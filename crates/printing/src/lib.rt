@@ -16,6 +16,11 @@ pub fn answer(held: bool) {
     }
 }
 
+// Writes a number in decimal.
+pub fn number(n: usize) {
+    io::print_decimal(STANDARD_OUTPUT, n as u64);
+}
+
 // Writes a label, and a number in decimal behind it.
 pub fn labelled_number(label: &[u8], n: u32) {
     text(label);

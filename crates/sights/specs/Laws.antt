@@ -28,11 +28,13 @@ use Rattle.verdicts.specs.Gate.{covers, ownerLacks, useViolation, hopsIn, hopsF
 use Rattle.verdicts.specs.Places.{latest-split, IsIn}
 use Rattle.verdicts.specs.Coverage.{sound-place}
 use Rattle.verdicts.specs.Trace.{place-hops-most}
-use Rattle.use_judging.specs.Uses.{openTo, hopsFrom, coveredBy, faultOf, reliedOn, useJudged}
+use Rattle.coverage.specs.Laws.{nearest-any}
+use Rattle.use_judging.specs.Uses.{openTo, hopsFrom, coveredBy, faultOf, reliedOn, useJudged, coveringOn}
 use Rattle.gathering.specs.Gathering.{coverPlaces}
 use Rattle.sights.specs.Sights.{ownerAt, ownerIn, ownedIn, upsOf, sightOf, spotFor, faultAt}
 use Rattle.sights.specs.Climbing.{hops-climbed}
-use Rattle.sights.specs.Relying.{claimAt, claimPlaces, firstPlace, first-any, places-within, relied-natural, place-natural, covers-natural, onlyAt}
+use Rattle.sights.specs.Relying.{claimAt, claimPlaces, places-within, relied-natural, place-natural, covers-natural, onlyAt, reachFor, nearestPlace, nearest-covers}
+use Rattle.sights.specs.Relying.{nearest-natural}
 
 -- ---- the claim relied on: its hops
 module _ (r : Register) (shaped : Shaped r) (h : sound r ≡ true) where
@@ -89,11 +91,11 @@ module _ (r : Register) (shaped : Shaped r) (h : sound r ≡ true) where
       ∙ rw chained (omega (arith, place-hops-most r h (claimAt r j) at)))
 
   -- the hop count of the claim relied on, by columns
-  pub hops-natural : (now x : ℕ) (u : Usage) → hopsFor r now x u ≡ hopsFrom parents (upsOf r) (firstPlace r now x u)
+  pub hops-natural : (now x : ℕ) (u : Usage) → hopsFor r now x u ≡ hopsFrom parents (upsOf r) (nearestPlace r now x u)
   unfolding hopsFor
   hops-natural now x u =
       ap (hopsIn r) (relied-natural r now x u)
-      ∙ first-any (λ p. hopsIn r (onlyAt (claimAt r) p) ≡ hopsFrom parents (upsOf r) p) _ (claimPlaces r) refl
+      ∙ nearest-any (reachFor r u) (λ p. hopsIn r (onlyAt (claimAt r) p) ≡ hopsFrom parents (upsOf r) p) _ 0 0 (claimPlaces r) refl
       (all-imp (λ j. j < length (claimsOf (r .claims)))
       (λ j. hopsIn r (onlyAt (claimAt r) (At j)) ≡ hopsFrom parents (upsOf r) (At j)) hops-at (claimPlaces r) (places-within r))
 
@@ -146,30 +148,32 @@ module _ (r : Register) (shaped : Shaped r) (h : sound r ≡ true) (now x : ℕ)
   abbrev freely : Bool
   freely = openTo (map publicOf (r .resources .list)) (spotFor r u) (u .right)
 
-  -- the place relied on by the gathered places of y
-  abbrev place : ℕ → Place
-  place y = reliedOn (sightOf r now x) (coverPlaces (r .claims) y now) (spotFor r u) (u .right)
+  -- the actor covers the use by its nearest claim
+  covered-natural : coveredBy freely (reliedOn (sightOf r now x) (coverPlaces (r .claims) x now) (spotFor r u) (u .right)) ≡ covers r now x u
+  covered-natural =
+      ap (coveredBy freely) (nearest-natural r shaped h now x u x) ∙ nearest-covers r now x u freely ∙ sym (covers-natural r shaped h now x u)
 
-  covered-natural : (y : ℕ) → coveredBy freely (place y) ≡ covers r now y u
-  covered-natural y = ap (coveredBy freely) (place-natural r shaped h now y u x) ∙ sym (covers-natural r shaped h now y u)
+  -- and its owner y by the first
+  owner-covers : (y : ℕ) → coveredBy freely (coveringOn (sightOf r now x) (coverPlaces (r .claims) y now) (spotFor r u) (u .right)) ≡ covers r now y u
+  owner-covers y = ap (coveredBy freely) (place-natural r shaped h now y u x) ∙ sym (covers-natural r shaped h now y u)
 
-  lacking-natural : ownedIn r x && not (coveredBy freely (reliedOn (sightOf r now x) (sightOf r now x .theirs) (spotFor r u) (u .right)))
+  lacking-natural : ownedIn r x && not (coveredBy freely (coveringOn (sightOf r now x) (sightOf r now x .theirs) (spotFor r u) (u .right)))
       ≡ ownerLacks r now x u
   lacking-natural =
-      asked-where (λ places. not (coveredBy freely (reliedOn (sightOf r now x) places (spotFor r u) (u .right)))) (ownedIn r x)
+      asked-where (λ places. not (coveredBy freely (coveringOn (sightOf r now x) places (spotFor r u) (u .right)))) (ownedIn r x)
       (coverPlaces (r .claims) (ownerIn r x) now) []
-      ∙ ap (λ b. ownedIn r x && not b) (covered-natural (ownerIn r x))
+      ∙ ap (λ b. ownedIn r x && not b) (owner-covers (ownerIn r x))
       ∙ sym (owner-natural r h x now u)
 
   pub fault-natural : (n : ℕ) → faultAt n (useJudged (sightOf r now x) (spotFor r u) (u .right) .fault) ≡ useViolation r now x n u
   unfolding useJudged useViolation
   fault-natural n =
-      rw (covered-natural x, lacking-natural) (fault-chosen n (covers r now x u) (ownerLacks r now x u))
+      rw (covered-natural, lacking-natural) (fault-chosen n (covers r now x u) (ownerLacks r now x u))
 
   pub hop-natural : useJudged (sightOf r now x) (spotFor r u) (u .right) .hops ≡ hopsFor r now x u
   unfolding useJudged
   hop-natural =
-      ap (hopsFrom (map parentOf (r .claims .list)) (upsOf r)) (place-natural r shaped h now x u x) ∙ sym (hops-natural r shaped h now x u)
+      ap (hopsFrom (map parentOf (r .claims .list)) (upsOf r)) (nearest-natural r shaped h now x u x) ∙ sym (hops-natural r shaped h now x u)
 
 -- a use judged by columns is the use as the gate judges it: its violations and its hop count
 pub use-natural : (r : Register) → Shaped r → sound r ≡ true → (now x n : ℕ) (u : Usage)

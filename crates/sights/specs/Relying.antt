@@ -1,12 +1,12 @@
--- The claim that a use relies on, by gathered places: the first covering claim of the register. Assumes nothing.
+-- The claim that a use relies on, by gathered places: the nearest covering claim of the register. Assumes nothing.
 use mathlib.Core.Path.{_≡_, refl, sym, ap, _∙_}
-use mathlib.Core.Bool.{Bool, true, false, _&&_, _||_, and-true, or-true, or-false}
+use mathlib.Core.Bool.{Bool, true, false, _&&_, _||_, and-true, or-true, or-false, cond}
 use mathlib.Core.List.{List, [], _∷_, map}
-use Prim.Native.Nat.{ℕ, _≤_, _<_, min}
+use Prim.Native.Nat.{ℕ, _≤_, _<_, min, suc}
 use native.Mathlib.Nat.{zero-add}
 use native.Mathlib.Omega.{arith}
-use borrow.Author.Tests.{lt-ltb}
-use lib.Dec.{eqb, ltb}
+use borrow.Author.Tests.{lt-ltb, ne-eqb, leb-false}
+use lib.Dec.{eqb, ltb, leb}
 use lib.ListN.{length, getD, length-map, length-take, List·getD-map}
 use Rattle.lists.specs.Tests.{cases}
 use Rattle.lists.specs.Lists.{any}
@@ -24,19 +24,21 @@ use Rattle.columns.specs.declared.Place.the-variants.{At, Nowhere}
 use Rattle.rules.specs.Sound.{sound}
 use Rattle.rules.specs.Registers.{sound-out}
 use Rattle.actions.specs.declared.Usage.{Usage}
-use Rattle.verdicts.specs.Gate.{contains, covering, covers, firstOf as foundIn, relied}
-use Rattle.verdicts.specs.Places.{first-hit, first-miss, first-none}
+use Rattle.verdicts.specs.Gate.{contains, covering, covers, relied, nearestOf, reachOf}
+use Rattle.verdicts.specs.Nearest.{nearerFrom, nearest-walked}
+use Rattle.verdicts.specs.Coverage.{covering-out}
 use Rattle.flat_paths.specs.Laid.{laid}
+use Rattle.flat_paths.specs.Laws.{part-laid}
 use Rattle.finding.specs.Finding.{asked, placesOf}
 use Rattle.finding.specs.Laws.{tabled-length, places-at}
 use Rattle.gathering.specs.Gathering.{canCover, coverPlaces}
-use Rattle.coverage.specs.Coverage.{reaching}
-use Rattle.coverage.specs.Laws.{containing, reaching-natural, firstPlaceOf, first-same, covering-filtered}
-use Rattle.use_judging.specs.Uses.{coveredBy, reliedOn, openTo}
+use Rattle.coverage.specs.Coverage.{reaching, reachAt, nearestFrom}
+use Rattle.coverage.specs.Laws.{containing, reaching-natural, firstPlaceOf, first-same, covering-filtered, nearest-filtered, nearest-same}
+use Rattle.use_judging.specs.Uses.{coveredBy, reliedOn, openTo, coveringOn}
 use Rattle.sights.specs.Sights.{spotsOf, sightOf, spotFor}
-use Rattle.sights.specs.Resources.{spotBy, contains-natural, public-natural}
+use Rattle.sights.specs.Resources.{spotBy, contains-natural, public-natural, reach-spot}
 
--- ---- the first of a list and the first place of the places that it is read at
+-- ---- the first and the nearest of a list, and of the places that it is read at
 
 -- what stands at a place, alone in a list, or none
 abbrev pub onlyAt : {A : Type 0} → (ℕ → A) → Place → List A
@@ -48,22 +50,44 @@ abbrev pub placed : Place → Bool
 placed (At j) = true
 placed Nowhere = false
 
-module _ {A : Type 0} (f : ℕ → A) (p : A → Bool) where
-  -- the first element that passes a test is the one at the first place whose element does
-  pub first-read : (l : List ℕ) → foundIn p (map f l) ≡ onlyAt f (firstPlaceOf (λ j. p (f j)) l)
-  first-read [] = first-none p [] refl
-  first-read (j ∷ l) =
-      cases (p (f j)) (λ e. first-hit p (f j) (map f l) e ∙ rw e) (λ e. first-miss p (f j) (map f l) e ∙ rw e (first-read l))
+-- the place taken so far, or none
+abbrev taken : ℕ → ℕ → Place
+taken best bar = cond (eqb bar 0) Nowhere (At best)
 
+later-taken : (j n : ℕ) → taken j (suc n) ≡ At j
+later-taken j n = rw (ne-eqb (suc n) 0 (λ none. omega arith))
+
+module _ {A : Type 0} (f : ℕ → A) (p : A → Bool) where
   -- some element passes where there is such a place
   pub any-read : (l : List ℕ) → any p (map f l) ≡ placed (firstPlaceOf (λ j. p (f j)) l)
   any-read [] = refl
   any-read (j ∷ l) = cases (p (f j)) (λ e. rw e) (λ e. rw e (any-read l))
 
--- what holds of none and of each place of a list holds of the first that passes a test
-pub first-any : (M : Place → Type 0) (p : ℕ → Bool) (l : List ℕ) → M Nowhere → All (λ j. M (At j)) l → M (firstPlaceOf p l)
-first-any M p [] none each = none
-first-any M p (j ∷ l) none each = cases (p j) (λ e. rw e (each .0)) (λ e. rw e (first-any M p l none (each .1)))
+  -- the nearest element that passes a test is the one at the nearest place whose element does
+  nearer-read : (n : A → ℕ) (best bar : ℕ) (l : List ℕ)
+      → nearerFrom p n (onlyAt f (taken best bar)) bar (map f l) ≡ onlyAt f (nearestFrom (λ j. p (f j)) (λ j. n (f j)) best bar l)
+  unfolding nearestFrom
+  nearer-read n best bar [] = refl
+  nearer-read n best bar (j ∷ l) =
+      cases (p (f j) && leb bar (n (f j)))
+      (λ e. rw e (sym (ap (λ one. nearerFrom p n (onlyAt f one) (suc (n (f j))) (map f l)) (later-taken j (n (f j)))) ∙ nearer-read n j (suc (n (f j))) l))
+      (λ e. rw e (nearer-read n best bar l))
+
+  pub nearest-read : (n : A → ℕ) (l : List ℕ) → nearestOf p n (map f l) ≡ onlyAt f (nearestFrom (λ j. p (f j)) (λ j. n (f j)) 0 0 l)
+  nearest-read n l = nearest-walked p n (map f l) ∙ nearer-read n 0 0 l
+
+-- there is a nearest place where there is a first
+nearest-placed : (p : ℕ → Bool) (f : ℕ → ℕ) (best bar : ℕ) (l : List ℕ)
+    → placed (nearestFrom p f best bar l) ≡ placed (taken best bar) || placed (firstPlaceOf p l)
+unfolding nearestFrom
+nearest-placed p f best bar [] = sym (or-false (placed (taken best bar)))
+nearest-placed p f best bar (j ∷ l) =
+    cases (p j)
+    (λ e. cases (leb bar (f j))
+    (λ far. rw (e, far) (nearest-placed p f j (suc (f j)) l ∙ rw (later-taken j (f j)) (sym (or-true (placed (taken best bar))))))
+    (λ near. let some : bar ≡ 0 → ⊥ = λ none. omega (arith, leb-false bar (f j) near) in
+    rw (e, near) (nearest-placed p f best bar l ∙ rw (ne-eqb bar 0 some))))
+    (λ e. rw e (nearest-placed p f best bar l))
 
 -- ---- covering, claim by claim
 
@@ -86,6 +110,13 @@ claimPlaces r = counted 0 (length (claimsOf (r .claims)))
 abbrev pub firstPlace : Register → ℕ → ℕ → Usage → Place
 firstPlace r now x u = firstPlaceOf (λ j. covering r now x u (claimAt r j)) (claimPlaces r)
 
+-- the place at which the nearest covering claim stands
+abbrev pub reachFor : Register → Usage → ℕ → ℕ
+reachFor r u j = reachOf r (claimAt r j .resource) (u .resource)
+
+abbrev pub nearestPlace : Register → ℕ → ℕ → Usage → Place
+nearestPlace r now x u = nearestFrom (λ j. covering r now x u (claimAt r j)) (reachFor r u) 0 0 (claimPlaces r)
+
 -- the claims at those places are the register's
 claims-read : (r : Register) → map (claimAt r) (claimPlaces r) ≡ claimsOf (r .claims)
 claims-read r = counted-first noClaim (r .claims .list) (r .claims .count)
@@ -94,9 +125,11 @@ claims-read r = counted-first noClaim (r .claims .list) (r .claims .count)
 pub places-within : (r : Register) → All (λ j. j < length (claimsOf (r .claims))) (claimPlaces r)
 places-within r = rw (zero-add (length (claimsOf (r .claims)))) at (counted-below 0 (length (claimsOf (r .claims))))
 
--- the claim relied on is the one at the first place
-pub relied-natural : (r : Register) (now x : ℕ) (u : Usage) → relied r now x u ≡ onlyAt (claimAt r) (firstPlace r now x u)
-relied-natural r now x u = sym (ap (foundIn (covering r now x u)) (claims-read r)) ∙ first-read (claimAt r) (covering r now x u) (claimPlaces r)
+-- the claim relied on is the one at the nearest place
+pub relied-natural : (r : Register) (now x : ℕ) (u : Usage) → relied r now x u ≡ onlyAt (claimAt r) (nearestPlace r now x u)
+relied-natural r now x u =
+    sym (ap (nearestOf (covering r now x u) (λ c. reachOf r (c .resource) (u .resource))) (claims-read r))
+    ∙ nearest-read (claimAt r) (covering r now x u) (λ c. reachOf r (c .resource) (u .resource)) (claimPlaces r)
 
 -- some claim covers where there is a first place
 pub any-covering : (r : Register) (now x : ℕ) (u : Usage) → any (covering r now x u) (claimsOf (r .claims)) ≡ placed (firstPlace r now x u)
@@ -105,6 +138,13 @@ any-covering r now x u = sym (ap (any (covering r now x u)) (claims-read r)) ∙
 either-placed : (b : Bool) (p : Place) → b || placed p ≡ coveredBy b p
 either-placed b (At j) = or-true b
 either-placed b Nowhere = or-false b
+
+-- a use is covered by the nearest claim where it is by the first
+pub nearest-covers : (r : Register) (now x : ℕ) (u : Usage) (b : Bool) → coveredBy b (nearestPlace r now x u) ≡ coveredBy b (firstPlace r now x u)
+nearest-covers r now x u b =
+    sym (either-placed b (nearestPlace r now x u))
+    ∙ ap (λ some. b || some) (nearest-placed (λ j. covering r now x u (claimAt r j)) (reachFor r u) 0 0 (claimPlaces r))
+    ∙ either-placed b (firstPlace r now x u)
 
 -- where the claims' resources stand
 module _ (r : Register) (shaped : Shaped r) (j : ℕ) (inside : j < length (claimsOf (r .claims))) where
@@ -143,9 +183,30 @@ module _ (r : Register) (shaped : Shaped r) (h : sound r ≡ true) (now x : ℕ)
       (contains-natural r h (claimAt r j .resource) (u .resource)
       ∙ sym (ap (λ s. ltb s resourceLimit && (ltb (spotFor r u) resourceLimit && containing (r .resources) s (spotFor r u))) spot))
 
-  -- by the gathered places of x, whoever looks, the place relied on is the first at which a claim covers
+  -- and then it reaches as far as its resource does to the used one
+  reach-column : (j : ℕ) → j < length (claimsOf (r .claims)) → covering r now x u (claimAt r j) ≡ true
+      → reachAt (spotsOf r) (laid (r .resources) .bytes) (laid (r .resources) .lens) (spotFor r u) j ≡ reachFor r u j
+  reach-column j inside covers =
+      rw (part-laid (r .resources) (shaped .paths) (getD (spotsOf r) j 0), part-laid (r .resources) (shaped .paths) (spotFor r u), spot-natural r shaped j inside h)
+      (sym (reach-spot r h (claimAt r j .resource) (u .resource) (covering-out r now x u (claimAt r j) covers .containing)))
+
+  -- by the gathered places of x, whoever looks, the place relied on is the nearest at which a claim covers
+  pub nearest-natural : (looking : ℕ)
+      → reliedOn (sightOf r now looking) (coverPlaces (r .claims) x now) (spotFor r u) (u .right) ≡ nearestPlace r now x u
+  nearest-natural looking =
+      nearest-filtered (reachAt (spotsOf r) (laid (r .resources) .bytes) (laid (r .resources) .lens) (spotFor r u)) reaches
+      (λ j. canCover x now (latest (claimsOf (r .claims))) (claimAt r j)) 0 0 (claimPlaces r)
+      ∙ nearest-same (reachAt (spotsOf r) (laid (r .resources) .bytes) (laid (r .resources) .lens) (spotFor r u))
+      (λ j. canCover x now (latest (claimsOf (r .claims))) (claimAt r j) && reaches j) (λ j. covering r now x u (claimAt r j)) (reachFor r u) 0 0 (claimPlaces r)
+      (all-imp (λ j. j < length (claimsOf (r .claims)))
+      (λ j. (canCover x now (latest (claimsOf (r .claims))) (claimAt r j) && reaches j ≡ covering r now x u (claimAt r j))
+      × (covering r now x u (claimAt r j) ≡ true
+      → reachAt (spotsOf r) (laid (r .resources) .bytes) (laid (r .resources) .lens) (spotFor r u) j ≡ reachFor r u j))
+      (λ j inside. (covering-natural j inside, reach-column j inside)) (claimPlaces r) (places-within r))
+
+  -- and the first of them that covers is the first at which a claim does
   pub place-natural : (looking : ℕ)
-      → reliedOn (sightOf r now looking) (coverPlaces (r .claims) x now) (spotFor r u) (u .right) ≡ firstPlace r now x u
+      → coveringOn (sightOf r now looking) (coverPlaces (r .claims) x now) (spotFor r u) (u .right) ≡ firstPlace r now x u
   place-natural looking =
       covering-filtered (map rightsOf (r .claims .list)) (spotsOf r) (laid (r .resources) .bytes) (laid (r .resources) .lens) (u .right) (spotFor r u)
       (λ j. canCover x now (latest (claimsOf (r .claims))) (claimAt r j)) (claimPlaces r)

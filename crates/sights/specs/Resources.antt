@@ -1,16 +1,17 @@
 -- What the gate asks of a register's resources by their ids, asked of what stands at their spots. Assumes nothing.
-use mathlib.Core.Path.{_≡_, refl, ap, _∙_}
+use mathlib.Core.Path.{_≡_, refl, ap, _∙_, sym}
 use mathlib.Core.Bool.{Bool, true, _&&_}
 use mathlib.Core.List.{List, map}
 use Prim.Native.Nat.{ℕ, _≤_, _<_}
 use native.Mathlib.Omega.{arith}
-use borrow.Author.Tests.{lt-ltb, ltb-false}
+use borrow.Author.Tests.{lt-ltb, ltb-false, eq-eqb, eqb-true}
 use lib.Dec.{eqb, ltb}
 use lib.ListN.{length, getD, List·getD-map, List·getD-eq-default}
-use Rattle.lists.specs.Tests.{cases}
+use Rattle.lists.specs.Tests.{cases, and-left, and-right, and-both}
 use Rattle.lists.specs.Lists.{any}
 use Rattle.rights.specs.Rights.{reading}
-use Rattle.paths.specs.Containment.{contained}
+use Rattle.paths.specs.Containment.{contained, same, reached}
+use Rattle.paths.specs.Trimming.{same-sound, same-complete}
 use Rattle.register.specs.Limits.{resourceLimit}
 use Rattle.register.specs.Register.{resourcesOf, pathOf, noResource, Shaped}
 use Rattle.register.specs.declared.Resource.{Resource}
@@ -23,7 +24,9 @@ use Rattle.finding.specs.Asked.{askedAt, asked-natural}
 use Rattle.rules.specs.Sound.{sound}
 use Rattle.rules.specs.Registers.{sound-out}
 use Rattle.actions.specs.declared.Usage.{Usage}
-use Rattle.verdicts.specs.Gate.{publicRead, contains}
+use Rattle.verdicts.specs.Gate.{publicRead, contains, pathBy, reachOf}
+use Rattle.verdicts.specs.Places.{any-place, place-any}
+use Rattle.verdicts.specs.Reaching.{path-natural}
 use Rattle.gathering.specs.Gathering.{spotOf, spotIn}
 use Rattle.coverage.specs.Laws.{containing}
 use Rattle.use_judging.specs.Uses.{openTo}
@@ -57,6 +60,33 @@ module _ (r : Register) (h : sound r ≡ true) where
       asked-spot x (λ o. any (λ i. eqb y (i .id) && contained (pathOf o) (pathOf i)) (resourcesOf (r .resources)))
       ∙ ap (λ b. ltb (spotBy r x) resourceLimit && b)
       (asked-spot y (λ i. contained (pathOf (getD (r .resources .list) (spotBy r x) noResource)) (pathOf i)))
+
+  -- the path of a resource that has a spot is the path there
+  pub path-spot : (x : ℕ) → ltb (spotBy r x) resourceLimit ≡ true → pathBy r x ≡ pathOf (getD (r .resources .list) (spotBy r x) noResource)
+  path-spot x placed =
+      let here : Resource = getD (r .resources .list) (spotBy r x) noResource in
+      let found = any-place (λ o. eqb x (o .id) && true) (resourcesOf (r .resources)) (asked-spot x (λ o. true) ∙ rw placed) in
+      let o : Resource = found .0 in
+      let named : x ≡ o .id = eqb-true x (o .id) (and-left (eqb x (o .id)) true (found .2)) in
+      let alike = place-any (λ q. eqb x (q .id) && same (pathOf o) (pathOf q)) (resourcesOf (r .resources)) o (found .1)
+      (and-both (eqb x (o .id)) (same (pathOf o) (pathOf o)) (eq-eqb x (o .id) named) (same-complete (pathOf o))) in
+      let one : pathOf o ≡ pathOf here =
+      same-sound (pathOf o) (pathOf here)
+      (and-right (ltb (spotBy r x) resourceLimit) (same (pathOf o) (pathOf here)) (sym (asked-spot x (λ q. same (pathOf o) (pathOf q))) ∙ alike)) in
+      ap (pathBy r) named ∙ path-natural r h o (found .1) ∙ one
+
+  -- how far one resource reaches to another, where its path contains the other's, is how far the path at the one reaches to the path at the other
+  pub reach-spot : (x y : ℕ) → contains r x y ≡ true
+      → reachOf r x y ≡ reached (pathOf (getD (r .resources .list) (spotBy r x) noResource)) (pathOf (getD (r .resources .list) (spotBy r y) noResource))
+  unfolding reachOf
+  reach-spot x y held =
+      let tests = sym (contains-natural x y) ∙ held in
+      let inner = ltb (spotBy r y) resourceLimit && containing (r .resources) (spotBy r x) (spotBy r y) in
+      rw (
+        path-spot x (and-left (ltb (spotBy r x) resourceLimit) inner tests),
+        path-spot y (and-left (ltb (spotBy r y) resourceLimit) (containing (r .resources) (spotBy r x) (spotBy r y))
+            (and-right (ltb (spotBy r x) resourceLimit) inner tests)),
+      )
 
   -- past the spots nothing is public
   public-spot : Shaped r → (j : ℕ)

@@ -8,7 +8,7 @@ use Rattle.rights.specs.Rights.{reading}
 use Rattle.register.specs.Limits.{hopLimit, claimLimit}
 use Rattle.columns.specs.declared.Place.{Place}
 use Rattle.columns.specs.declared.Place.the-variants.{At, Nowhere}
-use Rattle.coverage.specs.Coverage.{firstCovering}
+use Rattle.coverage.specs.Coverage.{firstCovering, nearestCovering}
 use Rattle.use_judging.specs.declared.Fault.{Fault}
 use Rattle.use_judging.specs.declared.Fault.the-variants.{Nothing, NotCovered, OwnerNotCovering}
 use Rattle.use_judging.specs.declared.UseJudged.{UseJudged}
@@ -53,14 +53,18 @@ pub record Sight : Type 0 where
   pub parents : List ℕ
   pub ups : List ℕ
 
--- the claim relied on, by the gathered places
+-- the claim relied on, by the gathered places: the nearest
 abbrev pub reliedOn : Sight → List ℕ → ℕ → ℕ → Place
-reliedOn s places spot right = firstCovering places (s .rights) (s .spots) (s .bytes) (s .lens) right spot
+reliedOn s places spot right = nearestCovering places (s .rights) (s .spots) (s .bytes) (s .lens) right spot
+
+-- a claim that covers, by the gathered places: the first
+abbrev pub coveringOn : Sight → List ℕ → ℕ → ℕ → Place
+coveringOn s places spot right = firstCovering places (s .rights) (s .spots) (s .bytes) (s .lens) right spot
 
 -- the judgement of a use of the resource at a place
 unfoldable pub useJudged : Sight → ℕ → ℕ → UseJudged
 useJudged s spot right = record {
   fault = faultOf (coveredBy (openTo (s .publics) spot right) (reliedOn s (s .own) spot right))
-      (s .owned && not (coveredBy (openTo (s .publics) spot right) (reliedOn s (s .theirs) spot right)));
+      (s .owned && not (coveredBy (openTo (s .publics) spot right) (coveringOn s (s .theirs) spot right)));
   hops = hopsFrom (s .parents) (s .ups) (reliedOn s (s .own) spot right);
 }

@@ -100,8 +100,9 @@ fn fault_of(covered: bool, lacking: bool) -> Fault
     Fault::NotCovered
 }
 
-// Judges a use: `own` are the first `owns` gathered places of the actor, `theirs` those of its owner where it has one. `ups` has the place
-// of each claim's parent among the claims before it: in a sound register that is its place among all.
+// Judges a use: `own` are the first `owns` gathered places of the actor, `theirs` those of its owner where it has one. The actor relies on its
+// nearest claim; of the owner only a yes is asked, for which the first is enough. `ups` has the place of each claim's parent among the claims
+// before it: in a sound register that is its place among all.
 pub fn judge_use<'a>(
     own: &'a [usize],
     owns: usize,
@@ -121,7 +122,7 @@ pub fn judge_use<'a>(
     ensures { λ r. ⌜ r ≡ useJudged (record { own = take owns (now (own .entry)); theirs = take has (now (theirs .entry)); owned = owned; rights = now (rights .entry); spots = now (spots .entry); bytes = now (bytes .entry); lens = now (lens .entry); publics = now (publics .entry); parents = now (parents .entry); ups = now (ups .entry) }) spot right ⌝ }
 {
     let freely = is_open(publics, spot, right);
-    let relied = coverage::first_covering(own, owns, rights, spots, bytes, lens, right, spot);
+    let relied = coverage::nearest_covering(own, owns, rights, spots, bytes, lens, right, spot);
     let hops = hops_from(parents, ups, relied);
     let covered = is_covered(freely, relied);
     let other = coverage::first_covering(theirs, has, rights, spots, bytes, lens, right, spot);

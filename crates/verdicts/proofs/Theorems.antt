@@ -7,12 +7,14 @@ use lib.Dec.{eqb}
 use lib.ListN.{length, replicate}
 use Rattle.lists.specs.Lists.{any}
 use Rattle.lists.specs.Each.{All}
+use Rattle.paths.specs.Containment.{reached}
 use Rattle.register.specs.Limits.{hopLimit}
-use Rattle.register.specs.Register.{actorsOf, resourcesOf, claimsOf, Same}
-use Rattle.register.specs.Chain.{latest, chainOf, live}
+use Rattle.register.specs.Register.{actorsOf, resourcesOf, claimsOf, Same, pathOf}
+use Rattle.register.specs.Chain.{latest, chainOf, live, hopsOf}
 use Rattle.register.specs.Liveness.{Lasting}
 use Rattle.register.specs.Liveness as liveness
 use Rattle.register.specs.declared.Actor.{Actor}
+use Rattle.register.specs.declared.Resource.{Resource}
 use Rattle.register.specs.declared.Claim.{Claim}
 use Rattle.register.specs.declared.Register.{Register}
 use Rattle.rules.specs.Sound.{sound, isMachine}
@@ -29,8 +31,10 @@ use Rattle.actions.specs.declared.Violation.the-variants.{NotCovered}
 use Rattle.actions.specs.declared.Decision.the-variants.{Permitted, Refused, Stopped}
 use Rattle.actions.specs.declared.Judgement.the-variants.{Permitted as Agreed, Refused as Denied, Cancelled}
 use Rattle.verdicts.specs.Gate.{covering, covers, isOwnerless, useViolation, violationsOf, hopsFor, hopCounts, gateTests, actionTests, listed, padded, decided, gated}
+use Rattle.verdicts.specs.Gate.{reachOf}
 use Rattle.verdicts.specs.Plans.{actionsOf, judged, held, stopped, planned}
 use Rattle.verdicts.specs.Places.{IsIn}
+use Rattle.verdicts.specs.Nearest.{Nearest}
 use Rattle.verdicts.specs.Laws.{Passed}
 use Rattle.verdicts.specs.Trace.{higherThan}
 use Rattle.verdicts.specs.Authority.{Authority}
@@ -39,6 +43,7 @@ use Rattle.verdicts.specs.Flags as flags
 use Rattle.verdicts.specs.Machines as machines
 use Rattle.verdicts.specs.Coverage as coverage
 use Rattle.verdicts.specs.Kinds as kinds
+use Rattle.verdicts.specs.Reaching as reaching
 use Rattle.verdicts.specs.Liveness as lives
 use Rattle.verdicts.specs.Authority as authority
 use Rattle.verdicts.specs.Permission as permission
@@ -130,6 +135,18 @@ hop-counts-length = bounds.hop-counts-length
 -- 6c. In a sound register a hop count is at most 16.
 pub hops-most : (r : Register) → sound r ≡ true → (now x : ℕ) (u : Usage) → hopsFor r now x u ≤ hopLimit
 hops-most = bounds.hops-most
+
+-- 6d. Where a claim covers, the hop count is that of a covering claim that none exceeds in how far its resource's path reaches to the used
+-- one's, and that all covering claims before it fall short of.
+pub nearest : (r : Register) (now x : ℕ) (u : Usage) → any (covering r now x u) (claimsOf (r .claims)) ≡ true
+    → (c : Claim) × Nearest (covering r now x u) (λ d. reachOf r (d .resource) (u .resource)) (claimsOf (r .claims)) c
+    × (hopsFor r now x u ≡ hopsOf (latest (claimsOf (r .claims))) c)
+nearest = coverage.nearest
+
+-- 6e. In a sound register how far a resource reaches to another is asked of their paths.
+pub reach-natural : (r : Register) → sound r ≡ true → (o i : Resource) → IsIn (resourcesOf (r .resources)) o → IsIn (resourcesOf (r .resources)) i
+    → reachOf r (o .id) (i .id) ≡ reached (pathOf o) (pathOf i)
+reach-natural = reaching.reach-natural
 
 -- 7a. Registers that are the same get the same answer of the gate.
 pub gated-same : (r s : Register) → Same r s → (a : Action) → gated r a ≡ gated s a

@@ -20,9 +20,11 @@ use Rattle.actions.specs.declared.Action.{Action}
 use Rattle.actions.specs.declared.Violation.{Violation}
 use Rattle.actions.specs.declared.Violated.{Violated}
 use Rattle.actions.specs.declared.Violation.the-variants.{FlagSet, NoOwner, NotCovered, OwnerNotCovering}
-use Rattle.verdicts.specs.Gate.{covering, covers, isOwnerless, ownerLacks, flagsSet, governed, useViolation, useViolations, violationsOf, hopsFor, hopCounts, listed, padded}
-use Rattle.verdicts.specs.Places.{first-none, first-found}
+use Rattle.verdicts.specs.Gate.{covering, covers, isOwnerless, ownerLacks, flagsSet, governed, useViolation, useViolations, violationsOf, hopsFor, hopCounts, listed}
+use Rattle.verdicts.specs.Gate.{padded, reachOf}
+use Rattle.verdicts.specs.Nearest.{nearest-none}
 use Rattle.verdicts.specs.Laws.{action-fits-out, use-violations-nil, use-violations-cons}
+use Rattle.verdicts.specs.Coverage.{nearest}
 use Rattle.verdicts.specs.Trace.{place-hops-most}
 
 flags-most : (flags : ℕ) → length (flagsSet flags) ≤ flagCount
@@ -93,9 +95,9 @@ pub hops-most : (r : Register) → sound r ≡ true → (now x : ℕ) (u : Usage
 unfolding hopsFor
 hops-most r h now x u =
     cases (any (covering r now x u) (claimsOf (r .claims)))
-    (λ e. let found = first-found (covering r now x u) (claimsOf (r .claims)) e in
-    rw (found .1 .alone) (place-hops-most r h (found .0) (found .1 .place)))
-    (λ e. rw (first-none (covering r now x u) (claimsOf (r .claims)) e) (omega arith))
+    (λ e. let found = nearest r now x u e in
+    omega (arith, found .2, place-hops-most r h (found .0) (found .1 .place)))
+    (λ e. rw (nearest-none (covering r now x u) (λ c. reachOf r (c .resource) (u .resource)) (claimsOf (r .claims)) e) (omega arith))
 
 pub padded-length : (hs : List ℕ) → length hs ≤ useLimit → length (padded hs) ≡ useLimit
 padded-length hs h = length-append hs (replicate (useLimit - length hs) 0) ∙ omega (arith, length-replicate {A = ℕ} (useLimit - length hs) 0)

@@ -1,6 +1,6 @@
 -- Covering: what a covering claim is, a use that is not covered, and that in a sound register the parent of a claim stands.
 -- Assumes nothing.
-use mathlib.Core.Path.{_≡_, sym, _∙_}
+use mathlib.Core.Path.{_≡_, sym, _∙_, ap}
 use mathlib.Core.Bool.{Bool, true, false, _&&_, and-false}
 use mathlib.Core.List.{[], _∷_, _++_}
 use Prim.Native.Nat.{ℕ}
@@ -12,7 +12,7 @@ use Rattle.lists.specs.Each.{ands-out, all-none, none-weaken, each-all}
 use Rattle.rights.specs.Rights.{reading, hasRight}
 use Rattle.paths.specs.Containment.{contained}
 use Rattle.register.specs.Register.{actorsOf, resourcesOf, claimsOf, pathOf}
-use Rattle.register.specs.Chain.{latest, live}
+use Rattle.register.specs.Chain.{latest, live, hopsOf}
 use Rattle.register.specs.declared.Claim.{Claim}
 use Rattle.register.specs.declared.Register.{Register}
 use Rattle.rules.specs.Sound.{World, worldOf, soundClaims, sound}
@@ -20,8 +20,9 @@ use Rattle.rules.specs.Registers.{sound-out}
 use Rattle.rules.specs.Places.{place-parent}
 use Rattle.actions.specs.declared.Usage.{Usage}
 use Rattle.actions.specs.declared.Violation.the-variants.{NotCovered}
-use Rattle.verdicts.specs.Places.{IsIn, any-place, latest-split, first-none}
-use Rattle.verdicts.specs.Gate.{publicRead, contains, covering, covers, useViolation, hopsFor}
+use Rattle.verdicts.specs.Places.{IsIn, any-place, latest-split}
+use Rattle.verdicts.specs.Nearest.{Nearest, nearest-found, nearest-none}
+use Rattle.verdicts.specs.Gate.{publicRead, contains, covering, covers, useViolation, hopsFor, reachOf, hopsIn}
 
 -- what a covering claim is
 pub record Covering (r : Register) (now x : ℕ) (u : Usage) (c : Claim) : Type 0 where
@@ -57,7 +58,17 @@ not-covered-violation r now x n u h = rw h
 
 pub not-covered-hops : (r : Register) (now x : ℕ) (u : Usage) → covers r now x u ≡ false → hopsFor r now x u ≡ 0
 unfolding hopsFor
-not-covered-hops r now x u h = rw (first-none (covering r now x u) (claimsOf (r .claims)) (covers-none r now x u h))
+not-covered-hops r now x u h =
+    ap (hopsIn r) (nearest-none (covering r now x u) (λ c. reachOf r (c .resource) (u .resource)) (claimsOf (r .claims)) (covers-none r now x u h))
+
+-- where a claim covers, the hop count is that of the nearest covering claim
+pub nearest : (r : Register) (now x : ℕ) (u : Usage) → any (covering r now x u) (claimsOf (r .claims)) ≡ true
+    → (c : Claim) × Nearest (covering r now x u) (λ d. reachOf r (d .resource) (u .resource)) (claimsOf (r .claims)) c
+    × (hopsFor r now x u ≡ hopsOf (latest (claimsOf (r .claims))) c)
+unfolding hopsFor
+nearest r now x u h =
+    let found = nearest-found (covering r now x u) (λ d. reachOf r (d .resource) (u .resource)) (claimsOf (r .claims)) h in
+    (found .0, found .1, ap (hopsIn r) (found .1 .alone))
 
 -- what does not stand is contained in nothing, and no one covers it
 absent-uncontained : (r : Register) (x y : ℕ) → any (λ o. eqb y (o .id)) (resourcesOf (r .resources)) ≡ false → contains r x y ≡ false

@@ -2,17 +2,18 @@
 use mathlib.Core.Bool.{Bool, not, _&&_, _||_, cond}
 use mathlib.Core.List.{List, [], _∷_, _++_, map}
 use Prim.Native.Nat.{ℕ, suc, _-_, _/_, _%_, _^_}
-use lib.Dec.{eqb}
+use lib.Dec.{eqb, leb}
 use lib.ListN.{length, replicate}
 use Rattle.lists.specs.Tests.{ands}
-use Rattle.lists.specs.Lists.{any}
+use Rattle.lists.specs.Lists.{any, every}
 use Rattle.lists.specs.Counts.{counted}
 use Rattle.lists.specs.Trims.{filter}
 use Rattle.rights.specs.Rights.{reading, hasRight}
-use Rattle.paths.specs.Containment.{contained}
+use Rattle.paths.specs.Containment.{contained, reached}
 use Rattle.register.specs.Limits.{machineKind}
 use Rattle.register.specs.Register.{actorsOf, resourcesOf, claimsOf, pathOf}
 use Rattle.register.specs.Chain.{latest, hopsOf, live}
+use Rattle.register.specs.declared.Resource.{Resource}
 use Rattle.register.specs.declared.Claim.{Claim}
 use Rattle.register.specs.declared.Register.{Register}
 use Rattle.rules.specs.Sound.{sound, isMachine}
@@ -66,9 +67,31 @@ unfoldable pub firstOf : {A : Type 0} → (A → Bool) → List A → List A
 firstOf p [] = []
 firstOf p (c ∷ cs) = let more = firstOf p cs in cond (p c) (c ∷ []) more
 
--- the claim relied on: the first covering claim of x in register order, or none
+-- whether one passes a test, and none of a list that passes it has a greater number
+abbrev pub unexceeded : {A : Type 0} → (A → Bool) → (A → ℕ) → List A → A → Bool
+unexceeded p f l c = p c && every (λ d. not (p d) || leb (f d) (f c)) l
+
+-- the first of those that pass a test whose number no other of them exceeds, alone in a list, or none
+abbrev pub nearestOf : {A : Type 0} → (A → Bool) → (A → ℕ) → List A → List A
+nearestOf p f l = firstOf (unexceeded p f l) l
+
+-- the path of the resource numbered x, the empty path where none stands
+abbrev pub pathIn : List Resource → List ℕ
+pathIn [] = []
+pathIn (o ∷ more) = pathOf o
+
+abbrev pub pathBy : Register → ℕ → List ℕ
+pathBy r x = pathIn (firstOf (λ o. eqb x (o .id)) (resourcesOf (r .resources)))
+
+-- how far the path of the resource numbered x reaches to that of the resource numbered y: the length of the trimmed outer path, 0 where
+-- it does not contain the other, and where one of the two does not stand
+unfoldable pub reachOf : Register → ℕ → ℕ → ℕ
+reachOf r x y = reached (pathBy r x) (pathBy r y)
+
+-- the claim relied on: the covering claim of x whose resource's path reaches furthest to the used one's, the first in register order on a
+-- tie, or none
 abbrev pub relied : Register → ℕ → ℕ → Usage → List Claim
-relied r now x u = firstOf (covering r now x u) (claimsOf (r .claims))
+relied r now x u = nearestOf (covering r now x u) (λ c. reachOf r (c .resource) (u .resource)) (claimsOf (r .claims))
 
 -- 1: one for each set flag, lowest first; flag i is bit i
 unfoldable pub flagsSet : ℕ → List Violation
@@ -96,7 +119,7 @@ violationsOf r a =
     ++ (cond (isMachine (actorsOf (r .actors)) (a .actor)) (governed 0 (governsOf a)) []
     ++ useViolations r (a .now) (a .actor) 0 (usesOf a)))
 
--- the hop count of the first covering claim of the actor in register order, 0 when there is none
+-- the hop count of the claim relied on, 0 when there is none
 abbrev pub hopsIn : Register → List Claim → ℕ
 hopsIn r [] = 0
 hopsIn r (c ∷ cs) = hopsOf (latest (claimsOf (r .claims))) c

@@ -1,6 +1,7 @@
 pub mod Gate
 pub mod Plans
 pub mod Places
+pub mod Nearest
 pub mod Laws
 pub mod Flags
 pub mod Machines
@@ -8,6 +9,7 @@ pub mod Coverage
 pub mod Kinds
 pub mod Trace
 pub mod Liveness
+pub mod Reaching
 pub mod Authority
 pub mod Permission
 pub mod Bounds

@@ -16,10 +16,10 @@ pub record IsIn {C : Type 0} (L : List C) (c : C) : Type 0 where
   pub split : L ≡ before ++ c ∷ after
 
 module _ {C : Type 0} where
-  abbrev place-here : (c : C) (L : List C) → IsIn (c ∷ L) c
+  abbrev pub place-here : (c : C) (L : List C) → IsIn (c ∷ L) c
   place-here c L = record { before = []; after = L; split = refl }
 
-  abbrev place-later : (d : C) (L : List C) (c : C) → IsIn L c → IsIn (d ∷ L) c
+  abbrev pub place-later : (d : C) (L : List C) (c : C) → IsIn L c → IsIn (d ∷ L) c
   place-later d L c p = record { before = d ∷ p .before; after = p .after; split = ap (λ l. d ∷ l) (p .split) }
 
   -- where some element passes a test, there is a place at which one does

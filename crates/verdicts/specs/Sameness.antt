@@ -4,13 +4,15 @@ use mathlib.Core.Bool.{Bool, false, not, _&&_, _||_}
 use mathlib.Core.List.{List, [], _∷_, map}
 use Prim.Native.Nat.{ℕ, suc}
 use lib.Dec.{eqb}
+use Rattle.lists.specs.Tests.{cases}
 use Rattle.lists.specs.Lists.{any}
 use Rattle.lists.specs.Each.{each-all, any-map, any-same}
 use Rattle.paths.specs.Containment.{contained}
 use Rattle.rights.specs.Rights.{reading}
 use Rattle.register.specs.Limits.{machineKind}
-use Rattle.register.specs.Register.{actorsOf, resourcesOf, pathOf, Standing, Same, resourceStanding}
+use Rattle.register.specs.Register.{actorsOf, resourcesOf, pathOf, Standing, Same, resourceStanding, claimsOf}
 use Rattle.register.specs.Chain.{latest, hopsOf}
+use Rattle.register.specs.declared.Resource.{Resource}
 use Rattle.register.specs.declared.Claim.{Claim}
 use Rattle.register.specs.declared.Register.{Register}
 use Rattle.rules.specs.Sameness.{sound-same}
@@ -23,10 +25,20 @@ use Rattle.actions.specs.declared.Usage.{Usage}
 use Rattle.actions.specs.declared.Action.{Action}
 use Rattle.actions.specs.declared.Plan.{Plan}
 use Rattle.verdicts.specs.Gate.{publicRead, contains, covering, covers, isOwnerless, ownerLacks, relied, useViolation, useViolations, violationsOf, hopsIn, hopsFor}
-use Rattle.verdicts.specs.Gate.{hopCounts, actionTests, gateTests, verdictOn, gated}
+use Rattle.verdicts.specs.Gate.{hopCounts, actionTests, gateTests, verdictOn, gated, firstOf, nearestOf, pathIn, pathBy, reachOf}
 use Rattle.verdicts.specs.Plans.{actionsOf, judgements, Halt, runs, halts, haltOn, firstHalt, haltOf, held, planVerdict, planned}
 
 -- resources as they stand decide
+abbrev pathAs : List Standing → List ℕ
+pathAs [] = []
+pathAs (o ∷ more) = o .path
+
+path-standing : (x : ℕ) (resources : List Resource)
+    → pathIn (firstOf (λ o. eqb x (o .id)) resources) ≡ pathAs (firstOf (λ o. eqb x (o .id)) (map resourceStanding resources))
+unfolding firstOf
+path-standing x [] = refl
+path-standing x (o ∷ resources) = cases (eqb x (o .id)) (λ e. rw e) (λ e. rw e (path-standing x resources))
+
 abbrev containsIn : List Standing → ℕ → ℕ → Bool
 containsIn resources x y = any (λ o. eqb x (o .id) && any (λ i. eqb y (i .id) && contained (o .path) (i .path)) resources) resources
 
@@ -81,8 +93,20 @@ module _ (r s : Register) (same : Same r s) where
       (fun-ext (λ y. covers-same now y u))
       ∙ ap (λ l. any (λ a. eqb x (a .id) && (eqb machineKind (a .kind) && (not (eqb (a .owner) 0) && not (covers s now (a .owner) u)))) l) (same .actors)
 
+  path-same : (x : ℕ) → pathBy r x ≡ pathBy s x
+  path-same x =
+      path-standing x (resourcesOf (r .resources)) ∙ ap (λ l. pathAs (firstOf (λ o. eqb x (o .id)) l)) (same .resources)
+      ∙ sym (path-standing x (resourcesOf (s .resources)))
+
+  reach-same : (x y : ℕ) → reachOf r x y ≡ reachOf s x y
+  unfolding reachOf
+  reach-same x y = rw (path-same x, path-same y)
+
   relied-same : (now x : ℕ) (u : Usage) → relied r now x u ≡ relied s now x u
-  relied-same now x u = rw (covering-same now x u, same .claims)
+  relied-same now x u =
+      ap (λ p. nearestOf p (λ c. reachOf r (c .resource) (u .resource)) (claimsOf (r .claims))) (covering-same now x u)
+      ∙ ap (λ f. nearestOf (covering s now x u) f (claimsOf (r .claims))) (fun-ext (λ (c : Claim). reach-same (c .resource) (u .resource)))
+      ∙ ap (λ l. nearestOf (covering s now x u) (λ c. reachOf s (c .resource) (u .resource)) l) (same .claims)
 
   violation-same : (now x n : ℕ) (u : Usage) → useViolation r now x n u ≡ useViolation s now x n u
   unfolding useViolation

@@ -39,7 +39,7 @@ Attenuates c [] = Unit {0}
 Attenuates c (p ∷ higher) = DrawnFrom p c × Attenuates p higher
 
 -- numbers that are distinct tell elements apart
-distinct-place : {C : Type 0} (f : C → ℕ) (L : List C) → distinct (map f L) ≡ true → (c d : C) → IsIn L c → IsIn L d → f c ≡ f d → c ≡ d
+pub distinct-place : {C : Type 0} (f : C → ℕ) (L : List C) → distinct (map f L) ≡ true → (c d : C) → IsIn L c → IsIn L d → f c ≡ f d → c ≡ d
 distinct-place {C} f [] h c d at by same = nowhere (at .before) (at .split)
   where
     nowhere : (K : List C) → [] ≡ K ++ c ∷ at .after → c ≡ d

@@ -1,6 +1,5 @@
 //! One call with its arguments: what it asks of the driver, and what the model answers.
 
-use guvrendik_model::model::paths::contains;
 use guvrendik_model::model::{Model, Refusal};
 use guvrendik_model::requests::{put_request, Request};
 use guvrendik_model::types::*;
@@ -242,8 +241,16 @@ impl Call {
     pub fn answer(&self, model: &Model, state: &mut Register, out: &mut Vec<u8>) -> Outcome {
         0u32.put(out);
         match self {
-            Call::Sound => yes_or_no(model.sound(state), out),
-            Call::Contains { outer, inner } => yes_or_no(contains(outer, inner), out),
+            Call::Sound => {
+                let sound = model.sound(state);
+                u32::from(sound).put(out);
+                yes_or_no(sound)
+            }
+            Call::Contains { outer, inner } => {
+                let answer = Containment::of(outer, inner);
+                answer.put(out);
+                yes_or_no(answer.contained == 1)
+            }
             Call::Grant { claim, now, keep } => {
                 let count = state.claims.count;
                 let place = state.claims.list.get(count).copied();
@@ -352,8 +359,7 @@ impl Call {
     }
 }
 
-fn yes_or_no(answer: bool, out: &mut Vec<u8>) -> Outcome {
-    u32::from(answer).put(out);
+fn yes_or_no(answer: bool) -> Outcome {
     if answer {
         YES
     } else {

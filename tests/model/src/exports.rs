@@ -92,8 +92,7 @@ pub unsafe extern "C" fn guvrendik_contains(
     inner: *const u8,
     inner_len: usize,
 ) -> Containment {
-    let contained = crate::model::paths::contains(lent(outer, outer_len), lent(inner, inner_len));
-    Containment { contained: contained.into() }
+    Containment::of(lent(outer, outer_len), lent(inner, inner_len))
 }
 
 /// # Safety

@@ -29,7 +29,7 @@ layout! {
     "action" Action { actor, flags, now, uses, used, governs, governed }
     "plan" Plan { actions, count }
     "soundness" Soundness { sound }
-    "containment" Containment { contained }
+    "containment" Containment { contained, length }
     "granted" Granted { state, accepted, refusal }
     "revoked" Revoked { state, accepted, refusal, removed }
     "violation" Violation { kind, value }

@@ -278,7 +278,7 @@ mod tests {
             let found = (0..200).flat_map(|round| generator.round(round)).find(|script| differs(script, fault));
             let small = shrink(found.expect("found in 200 rounds"), |script| differs(script, fault));
             let claims = small.register.as_ref().map_or(0, |register| register.claims.count);
-            assert!(small.calls.len() <= 3 && claims <= 4, "{name}: {}", crate::saved::write(&small));
+            assert!(small.calls.len() <= 3 && claims <= 5, "{name}: {}", crate::saved::write(&small));
         }
     }
 }

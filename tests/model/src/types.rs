@@ -177,6 +177,7 @@ pub struct Soundness {
 #[derive(Clone, Copy, Debug, PartialEq, Eq)]
 pub struct Containment {
     pub contained: u32,
+    pub length: usize,
 }
 
 #[repr(C)]

@@ -81,7 +81,7 @@ structs! {
     Action { actor, flags, now, uses, used, governs, governed }
     Plan { actions, count }
     Soundness { sound }
-    Containment { contained }
+    Containment { contained, length }
     Granted { state, accepted, refusal }
     Revoked { state, accepted, refusal, removed }
     Violation { kind, value }

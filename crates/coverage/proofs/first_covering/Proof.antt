@@ -8,6 +8,7 @@ use lib.ListN.{take}
 use Rattle.lists.specs.Loops.{Loop, start, turn, next, done}
 use Rattle.coverage.specs.Coverage.{firstCovering}
 use Rattle.coverage.specs.Laws.{covering-nil, covering-hit, covering-miss}
+use Rattle.coverage.proofs.Reaching.{reach-yes, reach-no}
 use Rattle.coverage.proofs.first_covering.Statement.{statement}
 use Rattle.coverage.proofs.first_covering.Tie as tie
 
@@ -31,17 +32,11 @@ mul-j c = search needs
 shared-slice-read-j : tie.Need-shared-slice-read-j Inv-loop μ-loop
 shared-slice-read-j c = omega (arith, c .before .before .before .least .ensures, c .before .loop-test .taken)
 
-reaches-requires : tie.Need-reaches-requires Inv-loop μ-loop
-reaches-requires c κs = search needs
+reach-requires : tie.Need-reach-requires Inv-loop μ-loop
+reach-requires c κs = search needs
 
-returns : tie.Need-returns Inv-loop μ-loop
-returns c =
-    let turning = c .before .before .before in
-    let a = turning .before .before .before .before .before .before .before .before .args in
-    sym
-    (turn (turning .before .loop .inv) 0 (turning .loop-test .taken)
-    ∙ covering-hit (a .rights .now) (a .spots .now) (a .bytes .now) (a .lens .now) (a .right) (a .spot) _ _
-    (sym (c .before .reaches .ensures) ∙ c .if1 .taken))
+enum-told : tie.Need-enum-told Inv-loop μ-loop
+enum-told c = search needs
 
 add-i : tie.Need-add-i Inv-loop μ-loop
 add-i c = search needs
@@ -51,12 +46,26 @@ loop-less c = search needs
 
 loop-again : tie.Need-loop-again Inv-loop μ-loop
 loop-again c =
-    let turning = c .before .before .before in
+    let turning = c .before .before .before .before in
     let a = turning .before .before .before .before .before .before .before .before .args in
     next (turning .before .loop .inv) (turning .loop-test .taken)
     (turn (turning .before .loop .inv) 0 (turning .loop-test .taken)
     ∙ covering-miss (a .rights .now) (a .spots .now) (a .bytes .now) (a .lens .now) (a .right) (a .spot) _ _
-    (sym (c .before .reaches .ensures) ∙ c .if1 .left))
+    (reach-no (a .rights .now) (a .spots .now) (a .bytes .now) (a .lens .now) (a .right) (a .spot) _
+    (sym (c .before .before .reach .ensures) ∙ c .enum-told .given .1)))
+
+enum-told-2 : tie.Need-enum-told-2 Inv-loop μ-loop
+enum-told-2 c = search needs
+
+returns : tie.Need-returns Inv-loop μ-loop
+returns c =
+    let turning = c .before .before .before .before in
+    let a = turning .before .before .before .before .before .before .before .before .args in
+    sym
+    (turn (turning .before .loop .inv) 0 (turning .loop-test .taken)
+    ∙ covering-hit (a .rights .now) (a .spots .now) (a .bytes .now) (a .lens .now) (a .right) (a .spot) _ _
+    (reach-yes (a .rights .now) (a .spots .now) (a .bytes .now) (a .lens .now) (a .right) (a .spot) _ _
+    (sym (c .before .before .reach .ensures) ∙ c .enum-told2 .given .1)))
 
 returns-2 : tie.Need-returns-2 Inv-loop μ-loop
 returns-2 c =
@@ -73,9 +82,11 @@ first-covering-spec =
     loop-holds
     mul-j
     shared-slice-read-j
-    reaches-requires
-    returns
+    reach-requires
+    enum-told
     add-i
     loop-less
     loop-again
+    enum-told-2
+    returns
     returns-2)

@@ -1,14 +1,19 @@
 -- `paths::contains` meets its contract: containment is where inner stands, and that it has no `..` component (`Verdicts`).
 -- Assumes nothing.
-use mathlib.Core.Path.{sym, ap, _∙_}
-use mathlib.Core.Bool.{not}
+use mathlib.Core.Path.{sym, _∙_}
 use borrow.Author.Needs.{needs}
-use Rattle.paths.proofs.Verdicts.{stands, elsewhere}
+use Rattle.paths.proofs.Verdicts.{elsewhere, climbs-out, stays-in}
 use Rattle.paths.proofs.contains.Statement.{statement}
 use Rattle.paths.proofs.contains.Tie as tie
 
-is-beneath-requires : tie.Need-is-beneath-requires
-is-beneath-requires c κs = search needs
+reach-beneath-requires : tie.Need-reach-beneath-requires
+reach-beneath-requires c κs = search needs
+
+enum-told : tie.Need-enum-told
+enum-told c = search needs
+
+enum-known-length : tie.Need-enum-known-length
+enum-known-length c = search needs
 
 climbs-requires : tie.Need-climbs-requires
 climbs-requires c κs = search needs
@@ -16,13 +21,24 @@ climbs-requires c κs = search needs
 returns : tie.Need-returns
 returns c =
     let a = c .before .before .before .before .before .args in
-    ap not (c .climbs .ensures)
-    ∙ sym (stands (a .outer .now) (a .inner .now) (sym (c .before .before .is-beneath .ensures) ∙ c .before .if1 .taken))
+    sym (elsewhere (a .outer .now) (a .inner .now) (sym (c .before .before .reach-beneath .ensures) ∙ c .enum-told .given .1))
 
 returns-2 : tie.Need-returns-2
 returns-2 c =
-    let a = c .before .before .before .before .args in
-    sym (elsewhere (a .outer .now) (a .inner .now) (sym (c .before .is-beneath .ensures) ∙ c .if1 .left))
+    let told = c .before .before .before in
+    let a = told .before .before .before .before .before .args in
+    sym
+    (climbs-out (a .outer .now) (a .inner .now) _ (sym (told .before .before .reach-beneath .ensures) ∙ told .length .given .1)
+    (sym (c .before .climbs .ensures) ∙ c .if1 .taken))
+
+returns-3 : tie.Need-returns-3
+returns-3 c =
+    let told = c .before .before .before in
+    let a = told .before .before .before .before .before .args in
+    sym
+    (stays-in (a .outer .now) (a .inner .now) _ (sym (told .before .before .reach-beneath .ensures) ∙ told .length .given .1)
+    (sym (c .before .climbs .ensures) ∙ c .if1 .left))
 
 pub contains-spec : {M : Type 1} → statement M
-contains-spec = tie.close (tie.spec is-beneath-requires climbs-requires returns returns-2)
+contains-spec =
+    tie.close (tie.spec reach-beneath-requires enum-told enum-known-length climbs-requires returns returns-2 returns-3)

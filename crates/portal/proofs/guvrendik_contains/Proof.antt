@@ -1,16 +1,19 @@
--- `portal::guvrendik_contains` meets its contract: the number is that of the inner answer. Assumes nothing.
+-- `portal::guvrendik_contains` meets its contract: the numbers are those of the inner answer. Assumes nothing.
+use mathlib.Core.Path.{ap, _∙_}
 use borrow.Author.Needs.{needs}
+use Rattle.answers.specs.Answers.{containmentOf}
+use Rattle.answers.specs.Laws.{containment-told}
 use Rattle.portal.proofs.guvrendik_contains.Statement.{statement}
 use Rattle.portal.proofs.guvrendik_contains.Tie as tie
 
 contains-requires : tie.Need-contains-requires
 contains-requires c κs = search needs
 
-yes-requires : tie.Need-yes-requires
-yes-requires c κs = search needs
+contained-requires : tie.Need-contained-requires
+contained-requires c κs = search needs
 
 returns : tie.Need-returns
-returns c = rw (c .yes .ensures, c .before .contains .ensures)
+returns c = c .contained .ensures ∙ ap containmentOf (c .before .contains .ensures) ∙ containment-told _ _
 
 pub guvrendik-contains-spec : {M : Type 1} → statement M
-guvrendik-contains-spec = tie.close (tie.spec contains-requires yes-requires returns)
+guvrendik-contains-spec = tie.close (tie.spec contains-requires contained-requires returns)

@@ -7,8 +7,8 @@ use Rattle.use_judging.proofs.judge_use.Tie as tie
 is-open-requires : tie.Need-is-open-requires
 is-open-requires c κs = search needs
 
-first-covering-requires : tie.Need-first-covering-requires
-first-covering-requires c κs = search needs
+nearest-covering-requires : tie.Need-nearest-covering-requires
+nearest-covering-requires c κs = search needs
 
 hops-from-requires : tie.Need-hops-from-requires
 hops-from-requires c κs = search needs
@@ -16,8 +16,8 @@ hops-from-requires c κs = search needs
 is-covered-requires : tie.Need-is-covered-requires
 is-covered-requires c κs = search needs
 
-first-covering-requires-2 : tie.Need-first-covering-requires-2
-first-covering-requires-2 c κs = search needs
+first-covering-requires : tie.Need-first-covering-requires
+first-covering-requires c κs = search needs
 
 is-covered-requires-2 : tie.Need-is-covered-requires-2
 is-covered-requires-2 c κs = search needs
@@ -33,8 +33,8 @@ returns c =
       c .before .before .before .before .hops-from .ensures,
       c .before .before .before .is-covered .ensures,
       c .before .is-covered2 .ensures,
-      c .before .before .before .before .before .first-covering .ensures,
-      c .before .before .first-covering2 .ensures,
+      c .before .before .before .before .before .nearest-covering .ensures,
+      c .before .before .first-covering .ensures,
       c .before .before .before .before .before .before .is-open .ensures,
     )
 
@@ -43,10 +43,10 @@ judge-use-spec =
     tie.close
     (tie.spec
     is-open-requires
-    first-covering-requires
+    nearest-covering-requires
     hops-from-requires
     is-covered-requires
-    first-covering-requires-2
+    first-covering-requires
     is-covered-requires-2
     fault-of-requires
     returns)

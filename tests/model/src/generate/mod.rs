@@ -4,6 +4,7 @@ pub mod actions;
 pub mod changes;
 pub mod defects;
 pub mod json;
+pub mod nested;
 pub mod paths;
 pub mod random;
 pub mod registers;
@@ -53,6 +54,7 @@ impl Generator {
         vec![
             self.texts(&register, round),
             self.calls(register.clone()),
+            self.nested(),
             self.defect(round),
             self.sequence(register),
             Script { register: None, calls: (0..18).map(|_| paths::pair(&mut self.random)).collect() },
@@ -92,7 +94,7 @@ impl Generator {
     fn calls(&mut self, register: Box<Register>) -> Script {
         let random = &mut self.random;
         let mut calls = vec![Call::Sound];
-        calls.extend((0..22).map(|_| Call::Gate(actions::action(random, &register))));
+        calls.extend((0..14).map(|_| Call::Gate(actions::action(random, &register))));
         calls.extend((0..5).map(|_| Call::Plan(actions::plan(random, &register))));
         calls.extend((0..14).map(|_| changes::grant(random, &register, false)));
         calls.extend((0..8).map(|_| changes::revoke(random, &register, false)));
@@ -103,6 +105,15 @@ impl Generator {
             let room = texts::room(random, length, REGISTER_TEXT);
             Call::WriteRegister { room, fill: random.word() as u8 }
         }));
+        Script { register: Some(register), calls }
+    }
+
+    /// Actions that several claims of the actor cover.
+    fn nested(&mut self) -> Script {
+        let random = &mut self.random;
+        let litter = random.chance(50);
+        let register = nested::register(random, litter);
+        let calls = (0..12).map(|_| Call::Gate(nested::action(random, &register))).collect();
         Script { register: Some(register), calls }
     }
 

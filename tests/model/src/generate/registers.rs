@@ -30,7 +30,7 @@ pub fn within(random: &mut Random, shape: Shape) -> Shape {
     }
 }
 
-fn scatter(random: &mut Random, register: &mut Register) {
+pub fn scatter(random: &mut Random, register: &mut Register) {
     for actor in &mut register.actors.list {
         *actor = Actor { id: random.word() >> 16, kind: random.word() & 3, owner: random.word() >> 16 };
     }
@@ -73,7 +73,7 @@ pub fn ids(random: &mut Random, count: usize) -> Vec<u32> {
     }
 }
 
-fn add_actors(random: &mut Random, register: &mut Register, count: usize) {
+pub fn add_actors(random: &mut Random, register: &mut Register, count: usize) {
     let ids = ids(random, count);
     // Decided first: an owner may stand later in the list. The first id is a human's, wherever it lands.
     let humans: Vec<u32> =
@@ -259,7 +259,7 @@ fn child_of(random: &mut Random, register: &Register, parent: usize, id: u32, de
     })
 }
 
-fn weight(random: &mut Random, most: u32) -> u32 {
+pub fn weight(random: &mut Random, most: u32) -> u32 {
     match random.below(10) {
         0 => 0,
         1..=6 => most,
@@ -268,7 +268,7 @@ fn weight(random: &mut Random, most: u32) -> u32 {
 }
 
 /// One of a long chain mostly never runs out, so that the chain stays alive; of others the source often runs out before the child.
-fn expiry(random: &mut Random, delegates: bool) -> u64 {
+pub fn expiry(random: &mut Random, delegates: bool) -> u64 {
     if delegates && random.chance(93) {
         return 0;
     }

@@ -1,6 +1,6 @@
 //! The gate for one action.
 
-use super::paths::{climbs, reaches};
+use super::paths::{climbs, reach};
 use super::{Fault, Model, Refusal, Sound};
 use crate::types::*;
 
@@ -99,14 +99,18 @@ impl Model {
             let resource = &sound.resources[at];
             let climbs = climbing.of(sound, at);
             let is_open = resource.is_public == 1 && usage.right == READ;
-            let covering = if climbs { None } else { self.covering(sound, &held, resource, usage.right) };
-            verdict.hops[position] = covering.map_or(0, |claim| sound.hops(claim));
+            let nearest = if climbs { None } else { self.nearest(sound, &held, resource, usage.right) };
+            verdict.hops[position] = match nearest {
+                Some((_, 0)) if self.has(Fault::LengthZeroPassedOver) => 0,
+                Some((claim, _)) => sound.hops(claim),
+                None => 0,
+            };
             if is_open {
                 continue;
             }
-            if covering.is_none() {
+            if nearest.is_none() {
                 verdict.add(Breach::NotCovered(position));
-            } else if owned.as_ref().is_some_and(|owned| self.covering(sound, owned, resource, usage.right).is_none()) {
+            } else if owned.as_ref().is_some_and(|owned| self.nearest(sound, owned, resource, usage.right).is_none()) {
                 verdict.add(Breach::OwnerNotCovered(position));
             }
         }
@@ -129,19 +133,31 @@ impl Model {
         holdings
     }
 
-    /// The position of the first claim that covers a use of the resource, whose path does not climb.
-    fn covering(&self, sound: &Sound, holdings: &Holdings, used: &Resource, right: u32) -> Option<usize> {
+    /// Of the claims that cover a use of the resource, whose path does not climb: the position of the one with the longest
+    /// trimmed path, the first of them on a tie, and that length.
+    fn nearest(&self, sound: &Sound, holdings: &Holdings, used: &Resource, right: u32) -> Option<(usize, usize)> {
         let inner = &used.path[..used.len];
-        let covers = |&(claim, resource): &(usize, usize)| {
+        let mut nearest: Option<(usize, usize)> = None;
+        for (claim, resource) in holdings.iter() {
+            if !sound.claims[claim].has_right(right) {
+                continue;
+            }
             let outer = &sound.resources[resource];
-            sound.claims[claim].has_right(right) && reaches(&outer.path[..outer.len], inner)
-        };
-        let found = if self.has(Fault::OtherHops) {
-            holdings.iter().filter(covers).last()
-        } else {
-            holdings.iter().find(covers)
-        };
-        found.map(|(claim, _)| claim)
+            let Some(trimmed) = reach(&outer.path[..outer.len], inner) else {
+                continue;
+            };
+            let length = if self.has(Fault::UntrimmedLength) { outer.len } else { trimmed };
+            let nearer = match nearest {
+                None => true,
+                Some(_) if self.has(Fault::FirstCovering) => false,
+                Some((_, best)) if self.has(Fault::LastOnTie) => length >= best,
+                Some((_, best)) => length > best,
+            };
+            if nearer {
+                nearest = Some((claim, length));
+            }
+        }
+        nearest
     }
 }
 

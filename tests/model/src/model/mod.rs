@@ -88,8 +88,14 @@ pub enum Fault {
     WeightlessCleared,
     /// A number with a leading zero is read.
     LeadingZero,
-    /// The hop count is that of the last covering claim.
-    OtherHops,
+    /// The hop count is that of the first covering claim, however near.
+    FirstCovering,
+    /// Of covering claims that are as near, the last speaks.
+    LastOnTie,
+    /// The nearest claim is the one with the longest path as it is written, slashes at its end counted.
+    UntrimmedLength,
+    /// A nearest claim whose trimmed path is empty does not speak.
+    LengthZeroPassedOver,
     /// An action after a flagged one is judged.
     CancelledJudged,
     /// A JSON action's second actor is taken, in place of the first.
@@ -99,7 +105,7 @@ pub enum Fault {
 }
 
 impl Fault {
-    pub const ALL: [(&'static str, Fault); 12] = [
+    pub const ALL: [(&'static str, Fault); 15] = [
         ("expiry-equal-live", Fault::ExpiryEqualLive),
         ("source-unasked", Fault::SourceUnasked),
         ("direct-children", Fault::DirectChildren),
@@ -108,7 +114,10 @@ impl Fault {
         ("drawn-kept", Fault::DrawnKept),
         ("weightless-cleared", Fault::WeightlessCleared),
         ("leading-zero", Fault::LeadingZero),
-        ("other-hops", Fault::OtherHops),
+        ("first-covering", Fault::FirstCovering),
+        ("last-on-tie", Fault::LastOnTie),
+        ("untrimmed-length", Fault::UntrimmedLength),
+        ("length-zero-passed-over", Fault::LengthZeroPassedOver),
         ("cancelled-judged", Fault::CancelledJudged),
         ("second-actor-taken", Fault::SecondActorTaken),
         ("short-buffer-begun", Fault::ShortBufferBegun),

@@ -1,5 +1,7 @@
 //! Path containment.
 
+use crate::types::Containment;
+
 /// Whether a component of the path equals `..`. Components are cut at slashes only.
 pub fn climbs(path: &[u8]) -> bool {
     path.split(|&byte| byte == b'/').any(|component| component == b"..")
@@ -13,12 +15,24 @@ fn trimmed(mut path: &[u8]) -> &[u8] {
     path
 }
 
-/// Containment of paths of which neither climbs.
-pub fn reaches(outer: &[u8], inner: &[u8]) -> bool {
-    outer.is_empty() || matches!(inner.strip_prefix(trimmed(outer)), Some([] | [b'/', ..]))
+/// Of paths of which neither climbs: the length of the trimmed outer one where it contains the inner one.
+pub fn reach(outer: &[u8], inner: &[u8]) -> Option<usize> {
+    let trimmed = trimmed(outer);
+    let contains = outer.is_empty() || matches!(inner.strip_prefix(trimmed), Some([] | [b'/', ..]));
+    contains.then_some(trimmed.len())
 }
 
-/// Whether the outer path contains the inner one.
-pub fn contains(outer: &[u8], inner: &[u8]) -> bool {
-    !climbs(outer) && !climbs(inner) && reaches(outer, inner)
+/// The length of the trimmed outer path where it contains the inner one.
+pub fn contains(outer: &[u8], inner: &[u8]) -> Option<usize> {
+    if climbs(outer) || climbs(inner) {
+        return None;
+    }
+    reach(outer, inner)
+}
+
+impl Containment {
+    pub fn of(outer: &[u8], inner: &[u8]) -> Self {
+        let length = contains(outer, inner);
+        Containment { contained: length.is_some().into(), length: length.unwrap_or(0) }
+    }
 }

@@ -67,19 +67,20 @@ fn link(hop: u32) -> Claim {
 #[test]
 fn containment_table() {
     for (inner, outer, expected) in [
-        ("site/a", "site/a", true),
-        ("site/a/b", "site/a", true),
-        ("site/ab", "site/a", false),
-        ("site/a", "site/a/", true),
-        ("x", "", true),
-        ("", "/", true),
-        ("x", "/", false),
-        ("a/../b", "a/../b", false),
-        ("a..b", "a..b", true),
-        ("/x", "/", true),
-        ("a/..", "", false),
-        ("site/a/", "site/a", true),
-        ("", "a/..", false),
+        ("site/a", "site/a", Some(6)),
+        ("site/a/b", "site/a", Some(6)),
+        ("site/ab", "site/a", None),
+        ("site/a", "site/a/", Some(6)),
+        ("x", "", Some(0)),
+        ("", "/", Some(0)),
+        ("x", "/", None),
+        ("a/../b", "a/../b", None),
+        ("a..b", "a..b", Some(4)),
+        ("/x", "/", Some(0)),
+        ("a/..", "", None),
+        ("site/a/", "site/a", Some(6)),
+        ("a", "a//", Some(1)),
+        ("", "a/..", None),
     ] {
         assert_eq!(contains(outer.as_bytes(), inner.as_bytes()), expected, "{inner:?} in {outer:?}");
     }
@@ -329,4 +330,42 @@ fn an_owner_must_cover_too() {
     let expected = [(3, 0), (3, 1), (5, 0), (0, 0)];
     assert_eq!(verdict.violations[..4], expected.map(|(kind, value)| Violation { kind, value }));
     assert_eq!(verdict.hops[0], 1);
+}
+
+/// The hop count of the machine's READ of the last path, where it holds a claim on each of the others in their order: a root on the
+/// first, on the second one of 1 hop, and so on in turn.
+fn hops_among(paths: &[&str], used: &str) -> usize {
+    let mut register = case_r();
+    register.claims.count = 0;
+    register.resources.count = 0;
+    for (at, path) in (0..).zip(paths.iter().chain(&[used])) {
+        let mut resource = Resource { id: 20 + at, is_public: 0, keeper: 1, len: path.len(), path: [0; PATH] };
+        resource.path[..path.len()].copy_from_slice(path.as_bytes());
+        register.resources.push(resource);
+        let root = Claim { id: 100 + at, parent: 0, grantor: 1, holder: 2, resource: 20 + at, rights: 1, weight: 9, expiry: 0 };
+        if at as usize == paths.len() {
+            continue;
+        }
+        if at % 2 == 0 {
+            register.claims.push(root);
+        } else {
+            register.claims.push(Claim { holder: 1, rights: 17, ..root });
+            register.claims.push(Claim { id: 200 + at, parent: 100 + at, ..root });
+        }
+    }
+    let mut action = Action { used: 1, ..action_r() };
+    action.uses[0] = Usage { resource: 20 + paths.len() as u32, right: READ };
+    MODEL.gate(&register, &action).hops[0]
+}
+
+#[test]
+fn the_nearest_claim_speaks() {
+    assert_eq!(hops_among(&["site", "site/a"], "site/a/b"), 1);
+    assert_eq!(hops_among(&["site/a", "site"], "site/a/b"), 0);
+    assert_eq!(hops_among(&["a", "a//"], "a/b"), 0);
+    assert_eq!(hops_among(&["a//", "a"], "a/b"), 0);
+    assert_eq!(hops_among(&["a..", "x", "x", ""], "y"), 1);
+    assert_eq!(hops_among(&["", "/"], "/x"), 0);
+    assert_eq!(hops_among(&["/", ""], "/x"), 0);
+    assert_eq!(hops_among(&["", "a/.."], "a/b"), 0);
 }

@@ -1,11 +1,11 @@
--- `paths::is_beneath` meets its contract. Each answer is that of the tests that led to it (`Verdicts`). The inner path's tail is a part of
+-- `paths::reach_beneath` meets its contract. Each answer is that of the tests that led to it (`Verdicts`). The inner path's tail is a part of
 -- it, since its length is tested before. Assumes nothing.
 use mathlib.Core.Path.{sym, _∙_}
 use lib.Seq.{length-take-le}
 use borrow.Author.Needs.{needs}
-use Rattle.paths.proofs.Verdicts.{outer-empty, too-short, apart, parted}
-use Rattle.paths.proofs.is_beneath.Statement.{statement}
-use Rattle.paths.proofs.is_beneath.Tie as tie
+use Rattle.paths.proofs.Verdicts.{outer-empty, too-short, apart, other-start, same-start}
+use Rattle.paths.proofs.reach_beneath.Statement.{statement}
+use Rattle.paths.proofs.reach_beneath.Tie as tie
 
 returns : tie.Need-returns
 returns c =
@@ -46,18 +46,30 @@ starts-requires c κs = search needs
 
 returns-3 : tie.Need-returns-3
 returns-3 c =
-    let following = c .before .before .before in
+    let following = c .before .before .before .before in
     let trimming = following .before .before .before in
     let trim = trimming .trimmed-len in
     let a = trimming .before .before .before .before .args in
-    c .starts .ensures
-    ∙ sym
-    (parted (a .outer .now) (a .inner .now) (trim .result) (trimming .before .if1 .left) (trim .ensures .0) (trim .ensures .1)
+    sym
+    (same-start (a .outer .now) (a .inner .now) (trim .result) (trimming .before .if1 .left) (trim .ensures .0) (trim .ensures .1)
     (following .before .before .if2 .left)
-    (sym (following .follows .ensures) ∙ c .before .before .if3 .taken))
+    (sym (following .follows .ensures) ∙ c .before .before .before .if3 .taken)
+    (sym (c .before .starts .ensures) ∙ c .if4 .taken))
 
 returns-4 : tie.Need-returns-4
 returns-4 c =
+    let following = c .before .before .before .before in
+    let trimming = following .before .before .before in
+    let trim = trimming .trimmed-len in
+    let a = trimming .before .before .before .before .args in
+    sym
+    (other-start (a .outer .now) (a .inner .now) (trim .result) (trimming .before .if1 .left) (trim .ensures .0) (trim .ensures .1)
+    (following .before .before .if2 .left)
+    (sym (following .follows .ensures) ∙ c .before .before .before .if3 .taken)
+    (sym (c .before .starts .ensures) ∙ c .if4 .left))
+
+returns-5 : tie.Need-returns-5
+returns-5 c =
     let following = c .before in
     let trimming = following .before .before .before in
     let trim = trimming .trimmed-len in
@@ -67,8 +79,8 @@ returns-4 c =
     (following .before .before .if2 .left)
     (sym (following .follows .ensures) ∙ c .if3 .left))
 
-pub is-beneath-spec : {M : Type 1} → statement M
-is-beneath-spec =
+pub reach-beneath-spec : {M : Type 1} → statement M
+reach-beneath-spec =
     tie.close
     (tie.spec
     returns
@@ -81,4 +93,5 @@ is-beneath-spec =
     slice-aggregate-starts
     starts-requires
     returns-3
-    returns-4)
+    returns-4
+    returns-5)

@@ -1,9 +1,9 @@
--- `coverage::reaches` meets its contract. Each answer is `reaching` under the tests that led to it (Reaching). Assumes nothing.
+-- `coverage::reach` meets its contract. Each answer is `reachTo` under the tests that led to it (Reaching). Assumes nothing.
 use mathlib.Core.Path.{sym, _∙_}
 use borrow.Author.Needs.{needs}
 use Rattle.coverage.proofs.Reaching.{right-missing, right-had, without-right, without-spot, claimed-past, used-past, by-paths}
-use Rattle.coverage.proofs.reaches.Statement.{statement}
-use Rattle.coverage.proofs.reaches.Tie as tie
+use Rattle.coverage.proofs.reach.Statement.{statement}
+use Rattle.coverage.proofs.reach.Tie as tie
 
 number-at-requires : tie.Need-number-at-requires
 number-at-requires c κs = search needs
@@ -69,8 +69,8 @@ returns-5 c =
     (right-had (a .right) (tests .before .before .before .number-at .ensures) (tests .before .before .has .ensures) (tests .before .if1 .left))
     (tests .if2 .left) (c .before .before .before .if3 .left) (c .before .before .if4 .left))
 
-pub reaches-spec : {M : Type 1} → statement M
-reaches-spec =
+pub reach-spec : {M : Type 1} → statement M
+reach-spec =
     tie.close
     (tie.spec
     number-at-requires
