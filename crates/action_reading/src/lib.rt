@@ -4,7 +4,7 @@ ghost use mathlib.Core.List.{_++_};
 ghost use Prim.Native.Nat.{_-_};
 ghost use lib.ListN.{length, replicate};
 ghost use Rattle.actions.specs.Actions.{useLimit, governLimit};
-ghost use Rattle.lines.specs.Reading.{stateOf};
+ghost use Rattle.lines.specs.Answers.{stateOf};
 ghost use Rattle.texts.specs.Actions.{readUse, readUses, readGoverns, noUse, noAction, actionRead, actionEnding};
 ghost use Rattle.reading.specs.Reads.{Reads};
 use actions::Action;

@@ -1,11 +1,11 @@
--- An action as it stands, its ranges, the paper's number and value of each violation, and those of each verdict of a plan.
+-- Believed: An action as it stands, its ranges, the paper's number and value of each violation, and those of each verdict of a plan.
+use mathlib.Core.Path.{_≡_}
 use mathlib.Core.Bool.{Bool, _&&_}
 use mathlib.Core.List.{List, [], _∷_}
 use Prim.Native.Nat.{ℕ, _^_}
 use lib.Dec.{leb, ltb}
 use lib.ListN.{take}
-use Rattle.lists.specs.Tests.{ands}
-use Rattle.lists.specs.Lists.{every}
+use Rattle.lists.specs.Lists.{every, ands}
 use Rattle.rights.specs.Rights.{isRight}
 use Rattle.register.specs.Limits.{idLimit, momentEnd}
 use Rattle.actions.specs.declared.Usage.{Usage}
@@ -37,6 +37,16 @@ usesOf a = take (a .used) (a .uses)
 
 abbrev pub governsOf : Action → List ℕ
 governsOf a = take (a .governed) (a .governs)
+
+-- Two actions are the same when their numbers and their two lists are: entries past a count are ignored.
+pub record SameAction (a b : Action) : Type 0 where
+  pub actor : a .actor ≡ b .actor
+  pub flags : a .flags ≡ b .flags
+  pub now : a .now ≡ b .now
+  pub used : a .used ≡ b .used
+  pub uses : usesOf a ≡ usesOf b
+  pub governed : a .governed ≡ b .governed
+  pub governs : governsOf a ≡ governsOf b
 
 -- An action has an actor number 0 to 65,535, a moment, flags 0 to 1,023, up to 32 uses (a resource number 0 to 65,535 with a right 0 to 16)
 -- and up to 8 governed actor numbers 0 to 65,535.

@@ -4,7 +4,7 @@ use mathlib.Core.Bool.{Bool, true, not, _&&_, _||_, and-true, and-assoc}
 use mathlib.Core.List.{List, [], _∷_}
 use lib.Dec.{eqb, leb, ltb}
 use borrow.Author.Tests.{eq-eqb, ne-eqb}
-use Rattle.lists.specs.Tests.{ands}
+use Rattle.lists.specs.Lists.{ands}
 use Rattle.rights.specs.Rights.{isRights, barsMachine}
 use Rattle.register.specs.Limits.{claimLimit, idLimit, weightLimit, momentEnd, machineKind, isId}
 use Rattle.register.specs.declared.Claim.{Claim}

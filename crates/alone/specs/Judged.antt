@@ -1,12 +1,11 @@
--- Working definitions: the world by columns, and a claim by what was looked up of it. They are shaped for the code; what they are in 01's
--- words is proved in Laws (`alone-natural`).
+-- Working: The world by columns, and a claim by what was looked up of it. They are shaped for the code; what they are in 01's words is proved in Laws
+-- (`alone-natural`).
 use mathlib.Core.Bool.{Bool, not, _&&_, _||_}
 use mathlib.Core.List.{List, [], _∷_, map}
 use Prim.Native.Nat.{ℕ}
 use lib.Dec.{eqb, ltb}
 use lib.ListN.{take, getD}
-use Rattle.lists.specs.Tests.{ands}
-use Rattle.lists.specs.Lists.{any}
+use Rattle.lists.specs.Lists.{any, ands}
 use Rattle.rights.specs.Rights.{barsMachine}
 use Rattle.register.specs.Limits.{claimLimit, machineKind}
 use Rattle.register.specs.declared.Actor.{Actor}

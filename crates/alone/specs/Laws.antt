@@ -1,5 +1,5 @@
--- A claim by itself, judged by what is looked up of it in the columns, is judged as 01 says: by the world of the actors and resources
--- that they are the columns of, where those have distinct ids. Assumes nothing.
+-- Laws: A claim by itself, judged by what is looked up of it in the columns, is judged as 01 says: by the world of the actors and resources that they
+-- are the columns of, where those have distinct ids. Assumes nothing.
 use mathlib.Core.Path.{_≡_, refl, sym, ap, _∙_}
 use mathlib.Core.Bool.{Bool, true, false, not, _&&_, _||_}
 use mathlib.Core.List.{List, [], _∷_, map}
@@ -8,8 +8,7 @@ use native.Mathlib.Omega.{arith}
 use borrow.Author.Tests.{lt-ltb, ltb-true}
 use lib.Dec.{eqb, ltb}
 use lib.ListN.{take, getD, List·getD-map}
-use Rattle.lists.specs.Tests.{ands}
-use Rattle.lists.specs.Lists.{any}
+use Rattle.lists.specs.Lists.{any, ands}
 use Rattle.rights.specs.Rights.{barsMachine}
 use Rattle.register.specs.Limits.{claimLimit, machineKind}
 use Rattle.register.specs.Register.{noActor, noResource}

@@ -1,2 +1,3 @@
 pub mod Filling
+pub mod Telling
 pub mod Theorems

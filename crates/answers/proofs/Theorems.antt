@@ -1,41 +1,32 @@
 -- What the numbers of an exported answer tell: memory that was never written, all zeros, is no yes, and is no answer of a call that can
 -- refuse. Assumes nothing.
-use mathlib.Core.Path.{_≡_, refl}
-use native.Mathlib.Omega.{arith}
-use Rattle.refusals.specs.Laws.{number-bounds}
+use mathlib.Core.Path.{_≡_}
 use Rattle.refusals.specs.declared.Outcome.{Outcome}
-use Rattle.refusals.specs.declared.Outcome.the-variants.{Accepted, Refused as RefusedFor}
+use Rattle.refusals.specs.declared.Outcome.the-variants.{Accepted}
 use Rattle.actions.specs.Actions.{judgementNumber}
 use Rattle.actions.specs.declared.Decision.{Decision}
-use Rattle.actions.specs.declared.Decision.the-variants.{Permitted, Refused, Stopped}
+use Rattle.actions.specs.declared.Decision.the-variants.{Permitted}
 use Rattle.actions.specs.declared.Judgement.{Judgement}
-use Rattle.actions.specs.declared.Judgement.the-variants.{Permitted as Agreed, Refused as Denied, Cancelled}
+use Rattle.actions.specs.declared.Judgement.the-variants.{Permitted as Agreed}
 use Rattle.answers.specs.Answers.{acceptedNumber, refusalNumber, decisionNumber}
+use Rattle.answers.proofs.Telling as telling
 
 -- 1. Only what is accepted has the number 1.
 pub accepted-alone : (o : Outcome) → acceptedNumber o ≡ 1 → o ≡ Accepted
-accepted-alone Accepted one = refl
-accepted-alone (RefusedFor why) one = absurd (omega arith)
+accepted-alone = telling.accepted-alone
 
 -- 2a. Only the permitted action has the number 1.
 pub permitted-alone : (d : Decision) → decisionNumber d ≡ 1 → d ≡ Permitted
-permitted-alone Permitted one = refl
-permitted-alone Refused one = absurd (omega arith)
-permitted-alone (Stopped why) one = absurd (omega arith)
+permitted-alone = telling.permitted-alone
 
 -- 2b. Only the permitted action of a plan has the number 1.
 pub agreed-alone : (j : Judgement) → judgementNumber j ≡ 1 → j ≡ Agreed
-agreed-alone Agreed one = refl
-agreed-alone (Denied violations) one = absurd (omega arith)
-agreed-alone Cancelled one = absurd (omega arith)
+agreed-alone = telling.agreed-alone
 
 -- 3a. No outcome is told by zeros alone.
 pub outcome-zero-clash : (o : Outcome) → acceptedNumber o ≡ 0 → refusalNumber o ≡ 0 → ⊥
-outcome-zero-clash Accepted accepted refused = omega arith
-outcome-zero-clash (RefusedFor why) accepted refused = omega (arith, number-bounds why .0)
+outcome-zero-clash = telling.outcome-zero-clash
 
 -- 3b. No decision is told by 0.
 pub decision-zero-clash : (d : Decision) → decisionNumber d ≡ 0 → ⊥
-decision-zero-clash Permitted zero = omega arith
-decision-zero-clash Refused zero = omega arith
-decision-zero-clash (Stopped why) zero = omega arith
+decision-zero-clash = telling.decision-zero-clash

@@ -1,11 +1,10 @@
--- What the exported calls answer: for each inner answer the struct of numbers that crosses to the portal. No answer whose numbers are all zero
--- is a yes. Assumes nothing.
+-- Believed: What the exported calls answer: for each inner answer the struct of numbers that crosses to the portal. No answer whose numbers are all
+-- zero is a yes.
 use mathlib.Core.Bool.{Bool, cond}
 use mathlib.Core.List.{List, _++_, map}
 use Prim.Native.Nat.{ℕ, _-_}
 use lib.ListN.{length, take, replicate}
-use Rattle.paths.specs.Containment.{contained, reached, isInside, lengthOf}
-use Rattle.paths.specs.declared.Reach.{Reach}
+use Rattle.paths.specs.Containment.{contained, reached}
 use Rattle.refusals.specs.Refusals.{numberOf}
 use Rattle.refusals.specs.declared.Outcome.{Outcome}
 use Rattle.refusals.specs.declared.Outcome.the-variants.{Accepted, Refused as RefusedFor}
@@ -43,10 +42,6 @@ yesNumber held = cond held 1 0
 -- of two paths: whether outer contains inner, and how far it reaches
 abbrev pub containment : List ℕ → List ℕ → Containment
 containment outer inner = record { contained = yesNumber (contained outer inner); length = reached outer inner }
-
--- the same by the one answer that tells both
-abbrev pub containmentOf : Reach → Containment
-containmentOf w = record { contained = yesNumber (isInside w); length = lengthOf w }
 
 abbrev pub soundness : Bool → Soundness
 soundness held = record { sound = yesNumber held }

@@ -1,9 +1,11 @@
--- An answer put together from numbers that are each the inner answer's is the answer that the inner one is told by. Assumes nothing.
+-- Laws: An answer put together from numbers that are each the inner answer's is the answer that the inner one is told by. Assumes nothing.
 use mathlib.Core.Path.{_≡_, sym}
 use mathlib.Core.List.{List}
 use Prim.Native.Nat.{ℕ}
-use Rattle.paths.specs.Containment.{reachBetween}
+use lib.ListN.{length}
+use Rattle.paths.specs.Containment.{reachBetween, contained, isInside, lengthOf}
 use Rattle.paths.specs.Laws.{reach-told}
+use Rattle.paths.specs.declared.Reach.{Reach}
 use Rattle.changes.specs.declared.Granted.{Granted}
 use Rattle.changes.specs.declared.Revoked.{Revoked}
 use Rattle.actions.specs.declared.Verdict.{Verdict}
@@ -20,9 +22,14 @@ use Rattle.answers.specs.declared.PlanAnswer.{PlanAnswer}
 use Rattle.answers.specs.declared.RegisterAnswer.{RegisterAnswer}
 use Rattle.answers.specs.declared.ActionAnswer.{ActionAnswer}
 use Rattle.answers.specs.declared.JsonAnswer.{JsonAnswer}
-use Rattle.answers.specs.Answers.{containment, containmentOf}
+use Rattle.answers.specs.Answers.{containment, yesNumber}
 use Rattle.answers.specs.Answers.{acceptedNumber, refusalNumber, grantAnswer, revokeAnswer}
 use Rattle.answers.specs.Answers.{decisionNumber, stopNumber, violationList, gateAnswer, judgementList, planAnswer, registerAnswer, actionAnswer, jsonAnswer}
+use Rattle.answers.specs.declared.Containment.{Containment}
+
+-- the same by the one answer that tells both
+abbrev pub containmentOf : Reach → Containment
+containmentOf w = record { contained = yesNumber (isInside w); length = lengthOf w }
 
 pub containment-told : (p q : List ℕ) → containmentOf (reachBetween p q) ≡ containment p q
 containment-told p q = rw (reach-told p q .0, reach-told p q .1)

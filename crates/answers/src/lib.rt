@@ -2,7 +2,8 @@
 // caller, and no answer whose numbers are all zero is a yes.
 ghost use mathlib.Core.Path.{_≡_};
 ghost use Rattle.answers.specs.Answers.{yesNumber, acceptedNumber, refusalNumber, decisionNumber, stopNumber, violationNumbers, violationList, judgementNumbers};
-ghost use Rattle.answers.specs.Answers.{judgementList, writtenAnswer, containmentOf};
+ghost use Rattle.answers.specs.Answers.{judgementList, writtenAnswer};
+ghost use Rattle.answers.specs.Laws.{containmentOf};
 use actions::Action;
 use actions::Decision;
 use actions::Judgement;

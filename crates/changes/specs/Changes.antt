@@ -1,4 +1,4 @@
--- Grant and the three withdrawals in 01's and 02's words: the tests of each in their order, and the register that it hands back.
+-- Believed: Grant and the three withdrawals in 01's and 02's words: the tests of each in their order, and the register that it hands back.
 use mathlib.Core.Bool.{Bool, false, not, _&&_, cond}
 use mathlib.Core.List.{List, [], _∷_, _++_}
 use Prim.Native.Nat.{ℕ, _+_, _-_}
@@ -12,12 +12,12 @@ use Rattle.register.specs.Chain.{latest, chain, above, circling, current, expir
 use Rattle.register.specs.declared.Claim.{Claim}
 use Rattle.register.specs.declared.Register.{Register}
 use Rattle.rules.specs.Sound.{World, worldOf, sound, claimFits, namesStand, rootKept, withinHops, fresh, human}
-use Rattle.rules.specs.Striking.{strike}
 use Rattle.refusals.specs.Refusals.{Test, outcomeOf, isAccepted}
 use Rattle.changes.specs.declared.Granted.{Granted}
 use Rattle.changes.specs.declared.Revoked.{Revoked}
 use Rattle.refusals.specs.declared.Refusal.the-variants.{Unsound, OutOfRange, Unknown, IdStands, Full, NotKeeper, Ownerless, MachineBarred, ParentAbsent, ParentNotHeld}
 use Rattle.refusals.specs.declared.Refusal.the-variants.{ParentDead, NoDelegate, RightLacking, WeightAbove, TooManyHops, Circle, ClaimAbsent, NoGrantor}
+use Rattle.rules.specs.Struck.{strike}
 
 -- the world of a register, and its claims latest first
 abbrev pub worldIn : Register → World

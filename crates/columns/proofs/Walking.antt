@@ -1,4 +1,5 @@
--- Walks up a chain by the columns of ids and parent numbers, for whatever is to be answered of the chain. Assumes nothing.
+-- Walks up a chain: by the places of the parents for its steps, and by the columns of ids and parent numbers for whatever else is to be answered
+-- of it. Assumes nothing.
 use mathlib.Core.Path.{_≡_, refl, sym, ap, _∙_}
 use mathlib.Core.Bool.{Bool, true, false, _||_, cond}
 use mathlib.Core.List.{List, [], _∷_}
@@ -13,8 +14,8 @@ use Rattle.register.specs.Chain.{rootGranted, circling}
 use Rattle.columns.specs.declared.Hops.{Hops}
 use Rattle.columns.specs.declared.Hops.the-variants.{Up, Beyond}
 use Rattle.columns.specs.declared.Place.the-variants.{At, Nowhere}
-use Rattle.columns.specs.Columns.{latestPlace, chainPlaces, stepsUp}
-use Rattle.columns.specs.Laws.{chain-places-nil, chain-places-zero, chain-places-at, chain-places-nowhere}
+use Rattle.columns.specs.Columns.{latestPlace, chainPlaces, stepsUp, placesUp}
+use Rattle.columns.specs.Laws.{chain-places-nil, chain-places-zero, chain-places-at, chain-places-nowhere, places-up-at, places-up-none}
 
 -- a walk has come to the parent number x, among the places below n: what it is to answer, e, is g of the chain still above
 pub record Walk {B : Type 0} (g : List ℕ → B) (ids parents : List ℕ) (n x : ℕ) (e : B) : Type 0 where
@@ -39,33 +40,36 @@ module _ {B : Type 0} {g : List ℕ → B} {ids parents : List ℕ} {n x : ℕ} 
 abbrev stepsAfter : ℕ → List ℕ → Hops
 stepsAfter k l = cond (leb (k + length l) hopLimit) (Up (k + length l)) Beyond
 
-steps-end : (k : ℕ) → k ≤ hopLimit → stepsAfter k [] ≡ Up k
-steps-end k h = let none : k + 0 ≡ k = omega arith in rw (none, le-leb k hopLimit h)
+-- k steps were made up to a place, `up` is what is kept for it, and e is the number of steps up
+pub record Climbing (ups : List ℕ) (k at up : ℕ) (e : Hops) : Type 0 where
+  pub within : k ≤ hopLimit
+  pub next : up ≡ getD ups at at
+  pub ahead : e ≡ stepsAfter k (placesUp ups at)
 
--- k steps were made, and e is the number of steps up
-pub record Climbing (ids parents : List ℕ) (k n x : ℕ) (e : Hops) : Type 0 where
-  pub walk : Walk (stepsAfter k) ids parents n x e
+pub climbing-start : (ups : List ℕ) (from : ℕ) {up : ℕ} → up ≡ getD ups from from → Climbing ups 0 from up (stepsUp (placesUp ups from))
+climbing-start ups from u =
+    let none : length (placesUp ups from) ≡ 0 + length (placesUp ups from) = omega arith in
+    record { within = omega arith; next = u; ahead = ap (λ m. cond (leb m hopLimit) (Up m) Beyond) none }
 
-pub climbing-start : (ids parents : List ℕ) (n x : ℕ) → Climbing ids parents 0 n x (stepsUp (chainPlaces ids parents n x))
-climbing-start ids parents n x =
-    let none : length (chainPlaces ids parents n x) ≡ 0 + length (chainPlaces ids parents n x) = omega arith in
-    record { walk = record { ahead = ap (λ m. cond (leb m hopLimit) (Up m) Beyond) none } }
+module _ {ups : List ℕ} {k at up : ℕ} {e : Hops} (s : Climbing ups k at up e) where
+  -- nothing is above
+  pub climbing-root : at ≤ up → e ≡ Up k
+  climbing-root h =
+      let none : k + 0 ≡ k = omega arith in
+      s .ahead ∙ ap (stepsAfter k) (places-up-none ups at (rw (← s .next) h)) ∙ rw (none, le-leb k hopLimit (s .within))
 
-module _ {ids parents : List ℕ} {k n x : ℕ} {e : Hops} (s : Climbing ids parents k n x e) where
-  pub climbing-root : k ≤ hopLimit → x ≡ 0 → e ≡ Up k
-  climbing-root h o = walk-root (s .walk) o ∙ steps-end k h
+  module _ (h : up < at) where
+    more : placesUp ups at ≡ up ∷ placesUp ups up
+    more = rw (s .next) (places-up-at ups at (rw (← s .next) h))
 
-  pub climbing-nowhere : k ≤ hopLimit → latestPlace ids n x ≡ Nowhere → e ≡ Up k
-  climbing-nowhere h q = walk-nowhere (s .walk) q ∙ steps-end k h
+    pub climbing-next : k < hopLimit → {higher : ℕ} → higher ≡ getD ups up up → Climbing ups (k + 1) up higher e
+    climbing-next room u =
+        let one-more : k + suc (length (placesUp ups up)) ≡ k + 1 + length (placesUp ups up) = omega arith in
+        record { within = omega arith; next = u; ahead = s .ahead ∙ ap (stepsAfter k) more ∙ rw one-more }
 
-  pub climbing-beyond : hopLimit < k → e ≡ Beyond
-  climbing-beyond h = s .walk .ahead ∙ rw (lt-leb (k + length (chainPlaces ids parents n x)) hopLimit (omega arith))
-
-  pub climbing-next : (x ≡ 0 → ⊥) → {at : ℕ} → latestPlace ids n x ≡ At at → {up : ℕ} → up ≡ getD parents at 0
-      → Climbing ids parents (k + 1) at up e
-  climbing-next o {at} q {up} u =
-      let one-more : k + suc (length (chainPlaces ids parents at up)) ≡ k + 1 + length (chainPlaces ids parents at up) = omega arith in
-      record { walk = record { ahead = walk-at (s .walk) o q ∙ rw (← u, one-more) } }
+    pub climbing-beyond : hopLimit ≤ k → e ≡ Beyond
+    climbing-beyond full =
+        s .ahead ∙ ap (stepsAfter k) more ∙ rw (lt-leb (k + suc (length (placesUp ups up))) hopLimit (omega arith))
 
 -- whether h granted the root of the chain still above or, where nothing is above, top
 abbrev rootAfter : List ℕ → ℕ → Bool → List ℕ → Bool

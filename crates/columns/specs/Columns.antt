@@ -1,5 +1,5 @@
--- Working definitions: the columns of a register's lists, and chains as places of columns. They are shaped for the code; what they
--- are in 01's words is proved in Laws (`chain-natural`).
+-- Working: The columns of a register's lists, and chains as places of columns. They are shaped for the code; what they are in 01's words is proved in
+-- Laws (`chain-natural`).
 use mathlib.Core.Bool.{Bool, false, _&&_, _||_, cond}
 use mathlib.Core.List.{List, [], _∷_, map}
 use Prim.Native.Nat.{ℕ, zero, suc}
@@ -98,6 +98,11 @@ beside (a ∷ column) (b ∷ other) x y = (eqb x a && eqb y b) || beside column 
 -- the chain from the parent number p up, as places below n, by the columns of ids and of parent numbers
 abbrev pub chainPlaces : List ℕ → List ℕ → ℕ → ℕ → List ℕ
 chainPlaces ids parents n p = chain (λ j. getD ids j 0) (λ j. getD parents j 0) (places n) p
+
+-- the chain above the claim at a place, as places, by the places of the parents. Place j is numbered j + 1, and a parent stands at an earlier
+-- place: what is kept for a place and is no earlier one says that there is none.
+abbrev pub placesUp : List ℕ → ℕ → List ℕ
+placesUp ups at = chain (λ j. suc j) (λ j. suc (getD ups j j)) (places at) (suc (getD ups at at))
 
 -- the number of steps of a chain, where it is not more than the limit
 abbrev pub stepsUp : {A : Type 0} → List A → Hops

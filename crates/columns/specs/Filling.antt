@@ -1,4 +1,4 @@
--- A loop that fills an array from the front, each place with f of the element that stands there. Assumes nothing.
+-- Laws: A loop that fills an array from the front, each place with f of the element that stands there. Assumes nothing.
 use mathlib.Core.Path.{_≡_, refl, sym, _∙_}
 use mathlib.Core.List.{List, map}
 use Prim.Native.Nat.{ℕ, _+_, _≤_, _<_}

@@ -1,4 +1,4 @@
--- What columns say of the lists that they are the columns of, and what the definitions over columns say place by place. Assumes nothing.
+-- Laws: What columns say of the lists that they are the columns of, and what the definitions over columns say place by place. Assumes nothing.
 use mathlib.Core.Path.{_≡_, refl, sym, ap, _∙_, fun-ext}
 use mathlib.Core.Bool.{Bool, true, false, _&&_, _||_, or-false}
 use mathlib.Core.List.{List, [], _∷_, map, reverse-append}
@@ -9,21 +9,27 @@ use lib.Dec.{eqb, ltb, leb}
 use lib.ListN.{length, take, getD, length-map, List·getD-map, List·getD-eq-default}
 use lib.Seq.{take-suc, take-all}
 use Rattle.lists.specs.Tests.{cases, and-left, and-right, and-both, or-left, or-right}
-use Rattle.lists.specs.Lists.{any, any-append, every}
-use Rattle.lists.specs.Each.{every-map}
+use Rattle.lists.specs.Lists.{any, every}
+use Rattle.lists.specs.Each.{every-map, any-append}
 use Rattle.register.specs.Limits.{hopLimit}
 use Rattle.register.specs.Register.{noClaim}
-use Rattle.register.specs.Chain.{latest, chain, numbered, circling, current}
-use Rattle.register.specs.Laws.{chain-nil, chain-hit, chain-miss, chain-zero, chain-map, circling-map}
+use Rattle.register.specs.Chain.{latest, chain, numbered, circling, current, hopsOf}
+use Rattle.register.specs.Laws.{chain-nil, chain-hit, chain-miss, chain-zero, chain-map, circling-map, numbered-own, numbered-other}
 use Rattle.register.specs.declared.Claim.{Claim}
 use Rattle.columns.specs.declared.Hops.the-variants.{Up, Beyond}
 use Rattle.columns.specs.declared.Place.{Place}
 use Rattle.columns.specs.declared.Place.the-variants.{At, Nowhere}
-use Rattle.columns.specs.Columns.{claimId, parentOf, grantorOf, holderOf, weightOf, expiryOf, places, latestPlace, beside, chainPlaces, stepsUp, currentAt}
+use Rattle.columns.specs.Columns.{claimId, parentOf, grantorOf, holderOf, weightOf, expiryOf, places, latestPlace, beside, chainPlaces, stepsUp, currentAt, placesUp}
 
 and-none : (a b : Bool) → b ≡ false → a && b ≡ false
 and-none true b e = e
 and-none false b e = refl
+
+-- inside a list the default is not looked at
+pub getD-inside : (l : List ℕ) (i d e : ℕ) → i < length l → getD l i d ≡ getD l i e
+getD-inside [] i d e h = absurd (omega arith)
+getD-inside (x ∷ l) zero d e h = refl
+getD-inside (x ∷ l) (suc i) d e h = getD-inside l i d e (omega arith)
 
 -- whether place n of a column is there and holds x
 abbrev holds : List ℕ → ℕ → ℕ → Bool
@@ -175,6 +181,34 @@ module _ (ids parents : List ℕ) where
       (λ t. let past : length ids ≤ n = ltb-false n (length ids) t in
       chain-places-past n x past ∙ chain-places-nowhere n x (sym (place-past ids x n past) ∙ q))
 
+-- the chain of place number k + 1 among the places below n: it begins at k, where that is one of them
+module _ (up : ℕ → ℕ) where
+  numbered-places : (n k : ℕ) → k < n → chain (λ j. suc j) up (places n) (suc k) ≡ k ∷ chain (λ j. suc j) up (places k) (up k)
+  unfolding places
+  numbered-places zero k h = absurd (omega arith)
+  numbered-places (suc n) k h =
+      cases (eqb n k)
+      (λ e. let same : n ≡ k = eqb-true n k e in
+      rw same (chain-hit (λ j. suc j) up k (places k) (suc k) (numbered-own (λ j. suc j) up k (omega arith))))
+      (λ e. let other : (suc n ≡ suc k → ⊥) = λ same. eqb-false n k e (omega arith) in
+      chain-miss (λ j. suc j) up n (places n) (suc k) (numbered-other (λ j. suc j) up (suc k) n other)
+      ∙ numbered-places n k (omega (arith, eqb-false n k e)))
+
+  unnumbered-places : (n k : ℕ) → n ≤ k → chain (λ j. suc j) up (places n) (suc k) ≡ []
+  unfolding places
+  unnumbered-places zero k h = chain-nil (λ j. suc j) up (suc k)
+  unnumbered-places (suc n) k h =
+      let other : (suc n ≡ suc k → ⊥) = λ same. omega arith in
+      chain-miss (λ j. suc j) up n (places n) (suc k) (numbered-other (λ j. suc j) up (suc k) n other) ∙ unnumbered-places n k (omega arith)
+
+-- a step up goes to the place that is kept, where it is an earlier one; else there is nothing above
+module _ (ups : List ℕ) (at : ℕ) where
+  pub places-up-at : getD ups at at < at → placesUp ups at ≡ getD ups at at ∷ placesUp ups (getD ups at at)
+  places-up-at h = numbered-places (λ j. suc (getD ups j j)) at (getD ups at at) h
+
+  pub places-up-none : at ≤ getD ups at at → placesUp ups at ≡ []
+  places-up-none h = unnumbered-places (λ j. suc (getD ups j j)) at (getD ups at at) h
+
 -- the limit of the steps: a chain within it, and one beyond it
 module _ {A : Type 0} (l : List A) where
   pub steps-within : (k : ℕ) → length l ≡ k → k ≤ hopLimit → stepsUp l ≡ Up k
@@ -241,10 +275,13 @@ module _ (cs : List Claim) where
       let whole : take (suc n) cs ≡ take n cs = take-all (suc n) cs (omega arith) ∙ sym (take-all n cs past) in
       rw (chain-places-past (map claimId cs) (map parentOf cs) n p ended, whole) (chain-natural n p))
 
-  pub hop-count-natural : (n p : ℕ)
-      → stepsUp (chainPlaces (map claimId cs) (map parentOf cs) n p) ≡ stepsUp (chain claimId parentOf (latest (take n cs)) p)
-  hop-count-natural n p =
-      rw (← chain-natural n p, length-map (chainPlaces (map claimId cs) (map parentOf cs) n p) (λ j. getD cs j noClaim))
+  -- the places above a place are as many as the hops of the claim there
+  pub hops-natural : (j : ℕ)
+      → length (chainPlaces (map claimId cs) (map parentOf cs) j (getD (map parentOf cs) j 0)) ≡ hopsOf (latest (take j cs)) (getD cs j noClaim)
+  hops-natural j =
+      rw (List·getD-map parentOf cs j noClaim)
+      (sym (length-map (chainPlaces (map claimId cs) (map parentOf cs) j (getD cs j noClaim .parent)) (λ i. getD cs i noClaim))
+      ∙ ap length (chain-natural j (getD cs j noClaim .parent)))
 
   pub circling-natural : (n p h : ℕ)
       → circling (λ j. getD (map grantorOf cs) j 0) (λ j. getD (map holderOf cs) j 0) (chainPlaces (map claimId cs) (map parentOf cs) n p) h

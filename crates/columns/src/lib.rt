@@ -7,8 +7,7 @@ ghost use lib.Dec.{eqb};
 ghost use lib.ListN.{getD, take};
 ghost use Rattle.lists.specs.Lists.{any, every};
 ghost use Rattle.register.specs.Chain.{circling};
-ghost use Rattle.columns.specs.Columns.{latestPlace, chainPlaces, stepsUp, beside, currentAt};
-ghost use Rattle.columns.specs.Columns.{actorColumns, resourceColumns, claimColumns};
+ghost use Rattle.columns.specs.Columns.{latestPlace, chainPlaces, stepsUp, beside, currentAt, actorColumns, resourceColumns, claimColumns, placesUp};
 use register::Actors;
 use register::Claim;
 use register::Claims;
@@ -176,28 +175,31 @@ pub fn latest_place(column: &[u32], n: usize, x: u32) -> Place
     Place::Nowhere
 }
 
-// The walk up the chain from the parent number `p`, over the first `n` claims by their columns: at most 16 steps.
-pub fn hop_count<'a>(ids: &'a [u32], parents: &'a [u32], n: usize, p: u32) -> Hops
-    ensures { λ r. ⌜ r ≡ stepsUp (chainPlaces (now (ids .entry)) (now (parents .entry)) n p) ⌝ }
+// The place that is kept for a place, the place itself past the end.
+fn place_above(ups: &[usize], at: usize) -> usize
+    ensures { λ r. ⌜ r ≡ getD (now (ups .entry)) at at ⌝ }
 {
-    let mut below = n;
-    let mut next = p;
+    if at < ups.len() { ups[at] } else { at }
+}
+
+// The walk up the chain of the claim at the place `from`, by the places of the parents: at most 16 steps. A parent's place is an earlier one;
+// any other number says that there is none.
+pub fn hop_count(ups: &[usize], from: usize) -> Hops
+    ensures { λ r. ⌜ r ≡ stepsUp (placesUp (now (ups .entry)) from) ⌝ }
+{
+    let mut at = from;
+    let mut up = place_above(ups, from);
     let mut steps: usize = 0;
-    while steps <= Register::HOPS {
-        if next == 0 {
+    while steps < Register::HOPS {
+        if at <= up {
             return Hops::Up(steps);
         }
-        let place = latest_place(ids, below, next);
-        match place {
-            Place::At(at) => {
-                below = at;
-                next = number_at(parents, at);
-                steps += 1;
-            }
-            Place::Nowhere => {
-                return Hops::Up(steps);
-            }
-        }
+        at = up;
+        up = place_above(ups, at);
+        steps += 1;
+    }
+    if at <= up {
+        return Hops::Up(steps);
     }
     Hops::Beyond
 }

@@ -1,5 +1,5 @@
--- Working definitions: covering by columns. What they are in 01's words is proved in Laws (`reaching-natural`, `covering-first`) and in
--- sights/specs/Relying (`nearest-natural`).
+-- Working: Covering by columns. What they are in 01's words is proved in Laws (`reaching-natural`, `covering-first`) and in sights/specs/Relying
+-- (`nearest-natural`).
 use mathlib.Core.Bool.{Bool, _&&_, cond}
 use mathlib.Core.List.{List, [], _∷_}
 use Prim.Native.Nat.{ℕ, suc}

@@ -1,4 +1,4 @@
--- What covering by columns says of the claims and the resources that they are the columns of, and which place is the first. Assumes nothing.
+-- Laws: What covering by columns says of the claims and the resources that they are the columns of, and which place is the first. Assumes nothing.
 use mathlib.Core.Path.{_≡_, refl, sym, ap, _∙_}
 use mathlib.Core.Bool.{Bool, true, false, _&&_, cond, and-false}
 use mathlib.Core.List.{List, [], _∷_, _++_, map}
@@ -9,8 +9,8 @@ use borrow.Author.Tests.{lt-ltb, le-ltb, eq-eqb, ne-eqb}
 use lib.Dec.{ltb, eqb, leb}
 use lib.ListN.{length, getD, List·getD-map}
 use Rattle.lists.specs.Tests.{cases}
-use Rattle.lists.specs.Each.{All}
-use Rattle.lists.specs.Trims.{filter, filter-nil, filter-hit, filter-miss}
+use Rattle.lists.specs.Trims.{filter-nil, filter-hit, filter-miss}
+use Rattle.lists.specs.Lists.{All, filter}
 use Rattle.rights.specs.Rights.{hasRight}
 use Rattle.paths.specs.Containment.{contained}
 use Rattle.register.specs.Limits.{resourceLimit, pathLimit}

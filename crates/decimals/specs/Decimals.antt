@@ -1,12 +1,8 @@
--- Decimals without leading zeros, as lists of bytes: what a number's text is, and what number a text begins with. Assumes nothing.
-use Prim.Native.Nat.{ℕ, zero, suc, _+_, _-_, _*_, _/_, _%_, _≤_}
-use mathlib.Core.Path.{_≡_}
+-- Believed: Decimals without leading zeros, as lists of bytes: what a number's text is, and what number a text begins with.
+use Prim.Native.Nat.{ℕ, zero, suc, _+_, _-_, _*_, _/_, _%_}
 use mathlib.Core.List.{List, [], _∷_, _++_}
 use mathlib.Core.Bool.{Bool, true, false, not, cond}
-use lib.ListN.{length, drop}
 use lib.Dec.{ltb, leb, eqb}
-use Rattle.decimals.specs.declared.Number.{Number}
-use Rattle.decimals.specs.declared.Number.the-variants.{Value, Large, Bad}
 
 -- 48 to 57 are '0' to '9'
 abbrev pub isDigit : ℕ → Bool
@@ -30,11 +26,6 @@ unfoldable pub after : List ℕ → List ℕ
 after [] = []
 after (b ∷ s) = cond (isDigit b) (after s) (b ∷ s)
 
--- whether a text goes on with a digit
-unfoldable pub starts : List ℕ → Bool
-starts [] = false
-starts (b ∷ s) = isDigit b
-
 -- what digits are worth, behind a number
 unfoldable pub value : ℕ → List ℕ → ℕ
 value a [] = a
@@ -57,9 +48,3 @@ judge greatest n rest = cond (leb n greatest) (got n rest) (large rest)
 
 unfoldable pub parse : ℕ → List ℕ → Parsed
 parse greatest t = cond (canonical (digitRun t)) (judge greatest (value 0 (digitRun t)) (after t)) bad
-
--- an answer of the code, over the whole input, says what was parsed
-abbrev pub Says : List ℕ → Number → Parsed → Type 0
-Says s (Value n next) p = (p ≡ got n (drop next s)) × (next ≤ length s)
-Says s (Large next) p = (p ≡ large (drop next s)) × (next ≤ length s)
-Says s Bad p = p ≡ bad

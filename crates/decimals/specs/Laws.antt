@@ -1,4 +1,4 @@
--- The laws of decimals: a number's text reads as the number, and whatever reads as a number is its text. Assumes nothing.
+-- Laws: A number's text reads as the number, and whatever reads as a number is its text. Assumes nothing.
 use Prim.Native.Nat.{ℕ, zero, suc, _+_, _-_, _*_, _/_, _%_, _≤_, _<_}
 use mathlib.Core.Path.{_≡_, refl, sym, ap, _∙_}
 use mathlib.Core.List.{List, [], _∷_, _++_, append-assoc, append-nil}
@@ -7,7 +7,8 @@ use native.Mathlib.Omega.{arith}
 use native.Mathlib.Decide.{decLt}
 use lib.Dec.{ltb, leb, eqb}
 use borrow.Author.Tests.{lt-ltb, le-ltb, ne-eqb, ltb-true, ltb-false, leb-true, eqb-false, not-true}
-use Rattle.decimals.specs.Decimals.{isDigit, digitsWith, digits, digitRun, after, starts, value, canonical, got, large, bad, judge, parse}
+use Rattle.decimals.specs.Decimals.{isDigit, digitsWith, digits, digitRun, after, value, canonical, got, large, bad, judge, parse}
+use Rattle.decimals.specs.Answers.{starts}
 
 digits-with-small : (f n : ℕ) → n < 10 → digitsWith (suc f) n ≡ (48 + n) ∷ []
 unfolding digitsWith

@@ -1,3 +1,4 @@
 pub mod Decimals
+pub mod Answers
 pub mod Laws
 pub mod Walk

@@ -1,4 +1,4 @@
--- The definitions of decimals at a position of a list: what one byte more of the walk makes of them. Assumes nothing.
+-- Laws: The definitions of decimals at a position of a list: what one byte more of the walk makes of them. Assumes nothing.
 use Prim.Native.Nat.{ℕ, zero, suc, _+_, _-_, _*_, _/_, _^_, _≤_, _<_}
 use mathlib.Core.Path.{_≡_, refl, ap, _∙_}
 use mathlib.Core.List.{List, [], _∷_}
@@ -10,9 +10,10 @@ use native.Mathlib.Numerals.{add-one}
 use lib.ListN.{length, getD, drop, drop-of-length-le, length-append}
 use lib.Seq.{drop-cons}
 use borrow.Author.Tests.{le-leb, lt-leb, eq-eqb, ne-eqb}
-use Rattle.decimals.specs.Decimals.{isDigit, digits, digitRun, after, value, canonical, judge, bad, parse, Says}
+use Rattle.decimals.specs.Decimals.{isDigit, digits, digitRun, after, value, canonical, judge, bad, parse}
 use Rattle.decimals.specs.Laws.{digits-small, digits-step}
 use Rattle.decimals.specs.declared.Number.the-variants.{Value, Large}
+use Rattle.decimals.specs.Answers.{Says}
 
 pub drop-byte : (s : List ℕ) (i : ℕ) → i < length s → drop i s ≡ getD s i 0 ∷ drop (i + 1) s
 drop-byte s i h = rw (add-one, drop-cons s i 0)

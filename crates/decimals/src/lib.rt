@@ -2,7 +2,8 @@
 ghost use mathlib.Core.Path.{_≡_};
 ghost use Prim.Native.Nat.{_-_, _≤_};
 ghost use lib.ListN.{length, drop};
-ghost use Rattle.decimals.specs.Decimals.{isDigit, digitRun, after, value, judge, parse, Says};
+ghost use Rattle.decimals.specs.Decimals.{isDigit, digitRun, after, value, judge, parse};
+ghost use Rattle.decimals.specs.Answers.{Says};
 
 // What reading a number finds, with the position behind its digits.
 pub enum Number {

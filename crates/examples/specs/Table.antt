@@ -1,14 +1,10 @@
--- The fixed examples of 01, in its order and words, and one theorem: every one of them holds, by computing the definitions that
--- the contracts cite. Assumes nothing.
-use mathlib.Core.Path.{_≡_, refl}
+-- Believed: The fixed examples of 01, in its order and words, and what it is that one of them holds.
 use mathlib.Core.Bool.{Bool, true, false, Bool·beq}
 use mathlib.Core.List.{List, [], _∷_}
 use Prim.Native.Nat.{ℕ}
 use Prim.Native.String.{String}
-use Rattle.lists.specs.Tests.{beq-same}
-use Rattle.lists.specs.Lists.{every}
-use Rattle.paths.specs.Containment.{same, components, climbing, trimmed, starting, contained}
-use Rattle.register.specs.Chain.{chain, live}
+use Rattle.paths.specs.Containment.{contained}
+use Rattle.register.specs.Chain.{live}
 use Rattle.register.specs.declared.Claim.{Claim}
 use Rattle.lists.specs.Bytes.{bytes}
 
@@ -37,16 +33,6 @@ abbrev pub holds : Example → Bool
 holds (inside inner outer answer) = Bool·beq (contained (bytes outer) (bytes inner)) answer
 holds (lives weight expiry now answer) = Bool·beq (live now [] (weighing weight expiry)) answer
 
--- an example of a containment that holds is that containment
-pub inside-sound : (inner outer : String) (answer : Bool) →
-    holds (inside inner outer answer) ≡ true → contained (bytes outer) (bytes inner) ≡ answer
-inside-sound inner outer answer h = beq-same (contained (bytes outer) (bytes inner)) answer h
-
--- an example of a live claim that holds is that liveness
-pub lives-sound : (weight expiry now : ℕ) (answer : Bool) →
-    holds (lives weight expiry now answer) ≡ true → live now [] (weighing weight expiry) ≡ answer
-lives-sound weight expiry now answer h = beq-same (live now [] (weighing weight expiry)) answer h
-
 -- 01, "Fixed examples": each with 01's words above it
 abbrev pub table : List Example
 table =
@@ -72,8 +58,3 @@ table =
     ∷ lives 600 2000 1999 true
     ∷ lives 600 2000 2000 false
     ∷ []
-
--- every example of the table holds
-pub examples-hold : every holds table ≡ true
-unfolding contained climbing components same trimmed starting chain
-examples-hold = refl

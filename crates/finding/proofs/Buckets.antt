@@ -9,9 +9,8 @@ use lib.Dec.{eqb, ltb, leb}
 use lib.ListN.{length, getD, length-map, List·getD-map}
 use Rattle.lists.specs.Tests.{cases}
 use Rattle.columns.specs.Columns.{latestPlace}
-use Rattle.columns.specs.Laws.{place-none, place-hit, place-miss, place-past, place-found}
+use Rattle.columns.specs.Laws.{getD-inside, place-none, place-hit, place-miss, place-past, place-found}
 use Rattle.columns.specs.declared.Place.the-variants.{At, Nowhere}
-use Rattle.finding.specs.Laws.{getD-inside}
 
 module _ (f : ℕ → ℕ) (column : List ℕ) where
   pub bucket-at : (n : ℕ) → n < length column → getD (map f column) n 0 ≡ f (getD column n 0)

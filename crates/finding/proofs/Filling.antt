@@ -6,8 +6,9 @@ use native.Mathlib.Nat.{zero-add}
 use native.Mathlib.Numerals.{add-one}
 use native.Mathlib.Omega.{arith}
 use lib.ListN.{length, set, replicate, length-map}
-use Rattle.lists.specs.Counts.{counted, counted-length, counted-last}
+use Rattle.lists.specs.Counts.{counted-length, counted-last}
 use Rattle.lists.specs.Fills.{put-first}
+use Rattle.lists.specs.Lists.{counted}
 use Rattle.register.specs.Limits.{claimLimit}
 use Rattle.finding.specs.Finding.{tabled, asked, shared}
 

@@ -1,4 +1,4 @@
--- Things with distinct ids: what is asked of the one numbered x is asked of what stands at its place. Assumes nothing.
+-- Laws: Things with distinct ids: what is asked of the one numbered x is asked of what stands at its place. Assumes nothing.
 use mathlib.Core.Path.{_≡_, sym, ap, _∙_}
 use mathlib.Core.Bool.{Bool, true, false, _&&_, _||_, or-false}
 use mathlib.Core.List.{List, [], _∷_, map, map-append}
@@ -9,8 +9,8 @@ use lib.Dec.{eqb, ltb}
 use lib.ListN.{length, take, getD, length-map, List·getD-map}
 use lib.Seq.{take-suc, take-all}
 use Rattle.lists.specs.Tests.{cases, and-left}
-use Rattle.lists.specs.Lists.{any, any-append}
-use Rattle.lists.specs.Each.{any-map, none-weaken}
+use Rattle.lists.specs.Lists.{any}
+use Rattle.lists.specs.Each.{any-map, none-weaken, any-append}
 use Rattle.rules.specs.Sound.{distinct}
 use Rattle.rules.specs.Distinct.{LastApart, last-apart}
 use Rattle.columns.specs.Columns.{latestPlace}

@@ -1,8 +1,9 @@
--- Where many numbers stand in a column. Working definitions, by places as numbers; `none` is the number that says nowhere.
+-- Working: Where many numbers stand in a column, by places as numbers; `none` is the number that says nowhere. What they say of each number is
+-- `places-at` and `earlier-at` of Laws.
 use Prim.Native.Nat.{ℕ, _-_, min}
 use mathlib.Core.List.{List, _++_, map}
 use lib.ListN.{length, getD, replicate}
-use Rattle.lists.specs.Counts.{counted}
+use Rattle.lists.specs.Lists.{counted}
 use Rattle.register.specs.Limits.{claimLimit}
 use Rattle.columns.specs.Columns.{latestPlace}
 use Rattle.columns.specs.declared.Place.{Place}

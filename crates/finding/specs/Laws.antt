@@ -1,25 +1,24 @@
--- What the places of many numbers say of each of them. Assumes nothing.
-use mathlib.Core.Path.{_≡_, refl, ap, _∙_}
-use mathlib.Core.List.{List, [], _∷_, map}
+-- Laws: What the places of many numbers say of each of them. Assumes nothing.
+use mathlib.Core.Path.{_≡_, ap, _∙_, sym}
+use mathlib.Core.List.{List, _∷_, map}
 use Prim.Native.Nat.{ℕ, zero, suc, _+_, _-_, _≤_, _<_, min}
 use native.Mathlib.Nat.{zero-add}
 use native.Mathlib.Omega.{arith}
-use lib.ListN.{length, getD, replicate, length-map, length-append, length-replicate, List·getD-map, List·getD-append}
-use Rattle.lists.specs.Counts.{counted, counted-length}
+use lib.ListN.{length, getD, replicate, length-map, length-append, length-replicate, List·getD-map, List·getD-append, take}
+use Rattle.lists.specs.Counts.{counted-length}
+use Rattle.lists.specs.Lists.{counted}
 use Rattle.register.specs.Limits.{claimLimit}
-use Rattle.columns.specs.Columns.{latestPlace}
+use Rattle.register.specs.Register.{noClaim}
+use Rattle.register.specs.Chain.{latest, hopsOf}
+use Rattle.register.specs.declared.Claim.{Claim}
+use Rattle.columns.specs.Columns.{latestPlace, claimId, parentOf, chainPlaces, placesUp}
+use Rattle.columns.specs.Laws.{getD-inside, place-cases, place-found, chain-places-at, chain-places-nowhere, places-up-at, places-up-none, hops-natural}
 use Rattle.finding.specs.Finding.{placeNumber, tabled, asked, shared, placesOf, earlierPlaces, bothPlaces, bothEarlier}
 
 counted-read : (n i j d : ℕ) → j < n → getD (counted i n) j d ≡ i + j
 counted-read zero i j d h = absurd (omega arith)
 counted-read (suc n) i zero d h = omega arith
 counted-read (suc n) i (suc j) d h = counted-read n (suc i) j d (omega arith) ∙ omega arith
-
--- inside a list the default is not looked at
-pub getD-inside : (l : List ℕ) (i d e : ℕ) → i < length l → getD l i d ≡ getD l i e
-getD-inside [] i d e h = absurd (omega arith)
-getD-inside (x ∷ l) zero d e h = refl
-getD-inside (x ∷ l) (suc i) d e h = getD-inside l i d e (omega arith)
 
 module _ (f : ℕ → ℕ) (top none : ℕ) where
   pub tabled-length : top ≤ claimLimit → length (tabled f top none) ≡ claimLimit
@@ -65,3 +64,37 @@ module _ (column wanted other : List ℕ) (m none : ℕ) (few : m ≤ length wan
   pub second-earlier : bothEarlier column wanted other m none .second ≡ earlierPlaces column other m none
   unfolding bothEarlier
   second-earlier = ap (λ k. earlierPlaces column other k none) all-shared
+
+-- the places of the parents of the first n claims, none of which has the number 0
+module _ (ids parents : List ℕ) (n : ℕ) (few : n ≤ claimLimit) (long : n ≤ length parents) (numbered : (j : ℕ) → j < n → getD ids j 0 ≡ 0 → ⊥) where
+  abbrev ups : List ℕ
+  ups = earlierPlaces ids parents n claimLimit
+
+  up-at : (j : ℕ) → j < n → getD ups j j ≡ placeNumber claimLimit (latestPlace ids j (getD parents j 0))
+  up-at j h = earlier-at ids parents n claimLimit j j (omega arith)
+
+  up-to : (bound j : ℕ) → j < bound → j < n → placesUp ups j ≡ chainPlaces ids parents j (getD parents j 0)
+  up-to zero j h inside = absurd (omega arith)
+  up-to (suc bound) j h inside =
+      place-cases (latestPlace ids j (getD parents j 0))
+      (λ i q. let found = place-found ids (getD parents j 0) j i q in
+      let other : (getD parents j 0 ≡ 0 → ⊥) = λ z. numbered i (omega (arith, found .0)) (found .2 ∙ z) in
+      let up : getD ups j j ≡ i = up-at j inside ∙ ap (placeNumber claimLimit) q in
+      places-up-at ups j (rw up (found .0))
+      ∙ ap (λ k. k ∷ placesUp ups k) up
+      ∙ ap (λ l. i ∷ l) (up-to bound i (omega (arith, found .0)) (omega (arith, found .0)))
+      ∙ sym (chain-places-at ids parents j (getD parents j 0) i other q))
+      (λ q. let up : getD ups j j ≡ claimLimit = up-at j inside ∙ ap (placeNumber claimLimit) q in
+      places-up-none ups j (rw up (omega arith)) ∙ sym (chain-places-nowhere ids parents j (getD parents j 0) q))
+
+  -- a step up by the kept places is one by the ids and the parents' numbers
+  pub places-up-natural : (j : ℕ) → j < n → placesUp ups j ≡ chainPlaces ids parents j (getD parents j 0)
+  places-up-natural j inside = up-to (suc j) j (omega arith) inside
+
+-- so the walk counts the hops of the claim at a place
+pub hop-count-natural : (cs : List Claim) (n : ℕ) → n ≤ claimLimit → n ≤ length cs → ((j : ℕ) → j < n → getD cs j noClaim .id ≡ 0 → ⊥) → (j : ℕ) → j < n
+    → length (placesUp (earlierPlaces (map claimId cs) (map parentOf cs) n claimLimit) j) ≡ hopsOf (latest (take j cs)) (getD cs j noClaim)
+hop-count-natural cs n few long numbered j inside =
+    ap length (places-up-natural (map claimId cs) (map parentOf cs) n few (omega (arith, length-map cs parentOf))
+    (λ i below z. numbered i below (sym (List·getD-map claimId cs i noClaim) ∙ z)) j inside)
+    ∙ hops-natural cs j

@@ -1,4 +1,5 @@
--- A table of a column's places by buckets. Working definitions, shaped for the code: a link is 0 for none, else a place and 1.
+-- Working: A table of a column's places by buckets: a link is 0 for none, else a place and 1. What is found by it is the latest place in the column
+-- (`seeking-hit`, `seeking-done`).
 use Prim.Native.Nat.{ℕ, suc, _%_, _≤_, _<_, min}
 use mathlib.Core.Path.{_≡_}
 use mathlib.Core.List.{List, map}

@@ -4,7 +4,7 @@ use mir.Val.{Val}
 use base.Fml.{Fml}
 use denote.Shadow.{shadow}
 use denote.Array.{each}
-use Rattle.lists.specs.Each.{All}
+use Rattle.lists.specs.Lists.{All}
 
 -- what an element's own part tells of it is told of each
 pub each-told : {X : Type 0} (d : Type 0) (own : d → List Val → Fml) (to : X → d) (Q : X → Type 0)

@@ -1,4 +1,4 @@
--- Working definitions: paths laid one after the other. What they are in 01's words is proved in Laws (`part-natural`).
+-- Working: Paths laid one after the other. What they are in 01's words is proved in Laws (`part-natural`).
 use mathlib.Core.Bool.{cond}
 use mathlib.Core.List.{List, [], _∷_, _++_, map}
 use Prim.Native.Nat.{ℕ, _*_, _/_}

@@ -1,4 +1,4 @@
--- What the laid paths of resources say of the resources: the part at a place is the path of the resource there. Assumes nothing.
+-- Laws: What the laid paths of resources say of the resources: the part at a place is the path of the resource there. Assumes nothing.
 use mathlib.Core.Path.{_≡_, refl, ap, _∙_}
 use mathlib.Core.List.{List, [], _∷_, map}
 use Prim.Native.Nat.{ℕ, zero, suc, _+_, _*_, _/_, _≤_, _<_}
@@ -9,7 +9,8 @@ use lib.Dec.{ltb}
 use lib.ListN.{length, take, drop, getD, length-append, length-take, length-map, List·getD-map, List·getD-eq-default}
 use lib.Seq.{take-at, drop-append-add}
 use Rattle.lists.specs.Tests.{cases}
-use Rattle.lists.specs.Each.{All, all-map}
+use Rattle.lists.specs.Each.{all-map}
+use Rattle.lists.specs.Lists.{All}
 use Rattle.register.specs.Limits.{pathLimit}
 use Rattle.register.specs.Register.{pathOf, noResource}
 use Rattle.register.specs.declared.Resource.{Resource}

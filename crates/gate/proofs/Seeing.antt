@@ -60,7 +60,6 @@ module _ (l : Lent) (a : Action) {machine : Bool} {owner asked : ℕ} {vs : Viol
         bytes = l .bytes;
         lens = l .lens;
         publics = l .publics;
-        parents = l .parents;
         ups = l .ups;
       }) (l .reports) (l .resources) a vs
       → y ≡ judgedBy l a

@@ -1,4 +1,4 @@
--- Working definitions: an action judged by the columns of a register. What it is in 01's words is `judged-natural` of Laws.
+-- Working: An action judged by the columns of a register. What it is in 01's words is `judged-natural` of Laws.
 use mathlib.Core.Bool.{Bool, not, _&&_, cond}
 use mathlib.Core.List.{List, [], _∷_, _++_, map}
 use Prim.Native.Nat.{ℕ}
@@ -61,7 +61,6 @@ pub record Lent : Type 0 where
   pub resources : ℕ
   pub bytes : List ℕ
   pub lens : List ℕ
-  pub parents : List ℕ
   pub holders : List ℕ
   pub rights : List ℕ
   pub ends : List ℕ
@@ -81,7 +80,6 @@ lentOf v = record {
   resources = v .counts .resources;
   bytes = v .paths .bytes;
   lens = v .paths .lens;
-  parents = v .claims .parents;
   holders = v .claims .holders;
   rights = v .claims .rights;
   ends = v .ends;
@@ -117,7 +115,6 @@ module _ (l : Lent) where
     bytes = l .bytes;
     lens = l .lens;
     publics = l .publics;
-    parents = l .parents;
     ups = l .ups;
   }
 

@@ -1,4 +1,4 @@
--- What an action judged by lent columns is in 01's words, and what tests 2 and 3 by them are. Assumes nothing.
+-- Laws: What an action judged by lent columns is in 01's words, and what tests 2 and 3 by them are. Assumes nothing.
 use mathlib.Core.Path.{_≡_, refl, sym, ap, _∙_}
 use mathlib.Core.Bool.{Bool, true, false, _&&_, cond}
 use mathlib.Core.List.{List, [], _∷_, _++_, map, append-assoc}

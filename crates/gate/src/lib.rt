@@ -7,7 +7,7 @@ ghost use mathlib.Core.Bool.{cond};
 ghost use mathlib.Core.List.{[]};
 ghost use lib.Dec.{eqb};
 ghost use lib.ListN.{length};
-ghost use Rattle.lists.specs.Each.{All};
+ghost use Rattle.lists.specs.Lists.{All};
 ghost use Rattle.register.specs.Limits.{pathLimit};
 ghost use Rattle.columns.specs.Columns.{latestPlace};
 ghost use Rattle.refusals.specs.Refusals.{outcomeOf};
@@ -135,7 +135,6 @@ pub fn judge_by<'a>(
     resources: usize,
     bytes: &'a [u8],
     lens: &'a [usize],
-    parents: &'a [u32],
     holders: &'a [u32],
     rights: &'a [u32],
     ends: &'a [u64],
@@ -144,7 +143,7 @@ pub fn judge_by<'a>(
     claims: usize,
     a: Action,
 ) -> UsesJudged
-    ensures { λ y. ⌜ y ≡ judgedBy (record { names = now (names .entry); kinds = now (kinds .entry); owners = now (owners .entry); actors = actors; reports = now (reports .entry); publics = now (publics .entry); resources = resources; bytes = now (bytes .entry); lens = now (lens .entry); parents = now (parents .entry); holders = now (holders .entry); rights = now (rights .entry); ends = now (ends .entry); spots = now (spots .entry); ups = now (ups .entry); claims = claims }) a ⌝ }
+    ensures { λ y. ⌜ y ≡ judgedBy (record { names = now (names .entry); kinds = now (kinds .entry); owners = now (owners .entry); actors = actors; reports = now (reports .entry); publics = now (publics .entry); resources = resources; bytes = now (bytes .entry); lens = now (lens .entry); holders = now (holders .entry); rights = now (rights .entry); ends = now (ends .entry); spots = now (spots .entry); ups = now (ups .entry); claims = claims }) a ⌝ }
 {
     let machine = columns::is_beside(names, kinds, actors, a.actor, Actor::MACHINE);
     let owner = owner_of(names, owners, actors, a.actor);
@@ -168,7 +167,6 @@ pub fn judge_by<'a>(
         publics,
         reports,
         resources,
-        parents,
         ups,
     )
 }
@@ -241,7 +239,6 @@ pub fn gate(r: Register, a: Action) -> Verdict
                 v.counts.resources,
                 &v.paths.bytes,
                 &v.paths.lens,
-                &v.claims.parents,
                 &v.claims.holders,
                 &v.claims.rights,
                 &v.ends,

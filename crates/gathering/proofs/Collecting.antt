@@ -8,8 +8,9 @@ use native.Mathlib.Numerals.{add-one}
 use native.Mathlib.Omega.{arith}
 use lib.ListN.{length, set, replicate, length-append}
 use Rattle.lists.specs.Fills.{put-first}
-use Rattle.lists.specs.Counts.{counted, counted-length, counted-last}
-use Rattle.lists.specs.Trims.{filter, filter-nil, trim-length, filter-last, filter-past}
+use Rattle.lists.specs.Counts.{counted-length, counted-last}
+use Rattle.lists.specs.Trims.{filter-nil, trim-length, filter-last, filter-past}
+use Rattle.lists.specs.Lists.{counted, filter}
 
 -- the places below i that pass the test
 abbrev passedBelow : (ℕ → Bool) → ℕ → List ℕ

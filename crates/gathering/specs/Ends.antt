@@ -1,4 +1,4 @@
--- The end of a claim by its columns: a moment in range is before it exactly where every claim on the chain, the claim included, is current.
+-- Laws: The end of a claim by its columns: a moment in range is before it exactly where every claim on the chain, the claim included, is current.
 -- Assumes nothing.
 use mathlib.Core.Path.{_≡_, refl, sym, ap, _∙_}
 use mathlib.Core.Bool.{Bool, true, not, _&&_, cond, and-false}

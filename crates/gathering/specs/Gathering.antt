@@ -1,12 +1,11 @@
--- Working definitions: the ends of claims, and the claims that can cover, gathered by their places. What they are in 01's words is proved in
--- Laws and, of the ends, in Ends.
+-- Working: The ends of claims, and the claims that can cover, gathered by their places. What they are in 01's words is proved in Laws and, of the
+-- ends, in Ends. What they are in 01's words is `gathered-natural` and `spot-natural`.
 use mathlib.Core.Bool.{Bool, _&&_, cond, not}
 use mathlib.Core.List.{List, _++_, [], _∷_}
 use Prim.Native.Nat.{ℕ, _-_, min, zero, suc}
 use lib.Dec.{eqb, ltb}
 use lib.ListN.{length, getD, replicate}
-use Rattle.lists.specs.Counts.{counted}
-use Rattle.lists.specs.Trims.{filter}
+use Rattle.lists.specs.Lists.{counted, filter}
 use Rattle.register.specs.Limits.{resourceLimit, claimLimit, momentEnd}
 use Rattle.register.specs.Register.{claimsOf, noClaim}
 use Rattle.register.specs.Chain.{live, latest}

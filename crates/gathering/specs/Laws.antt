@@ -1,4 +1,4 @@
--- What is gathered, and what a spot is, in the words of the register's lists. Assumes nothing.
+-- Laws: What is gathered, and what a spot is, in the words of the register's lists. Assumes nothing.
 use mathlib.Core.Path.{_≡_, refl, sym, ap, _∙_}
 use mathlib.Core.Bool.{false, not}
 use mathlib.Core.List.{List, [], map}
@@ -8,10 +8,10 @@ use native.Mathlib.Omega.{arith}
 use lib.Dec.{eqb, ltb}
 use lib.ListN.{length, take, replicate, getD, length-map, length-take, List·getD-map}
 use lib.Seq.{take-append-seam}
-use Rattle.lists.specs.Lists.{any}
-use Rattle.lists.specs.Each.{All, all-imp}
-use Rattle.lists.specs.Counts.{counted, counted-below, counted-first}
-use Rattle.lists.specs.Trims.{filter, filter-nil, trim-map, all-trim, trim-same}
+use Rattle.lists.specs.Lists.{any, All, counted, filter}
+use Rattle.lists.specs.Each.{all-imp}
+use Rattle.lists.specs.Counts.{counted-below, counted-first}
+use Rattle.lists.specs.Trims.{filter-nil, trim-map, all-trim, trim-same}
 use Rattle.register.specs.Limits.{resourceLimit, claimLimit}
 use Rattle.register.specs.Register.{claimsOf, noClaim, noResource}
 use Rattle.register.specs.Chain.{latest, live}

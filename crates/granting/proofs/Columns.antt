@@ -1,28 +1,36 @@
 -- What the columns answer is what 01 asks of the lists that they are the columns of. Assumes nothing.
 use mathlib.Core.Path.{_≡_, sym, ap, _∙_}
-use mathlib.Core.Bool.{Bool}
+use mathlib.Core.Bool.{Bool, true}
 use mathlib.Core.List.{[], _∷_}
-use Prim.Native.Nat.{ℕ, _<_}
-use lib.Dec.{eqb}
-use lib.ListN.{length, take, getD, length-map}
-use Rattle.lists.specs.Lists.{any, any-reverse, every}
-use Rattle.register.specs.Limits.{machineKind}
+use Prim.Native.Nat.{ℕ, _<_, suc, _≤_}
+use native.Mathlib.Omega.{arith}
+use borrow.Author.Tests.{ltb-true, ltb-false, le-leb, lt-leb}
+use lib.Dec.{eqb, ltb, leb}
+use lib.ListN.{length, take, getD}
+use Rattle.lists.specs.Tests.{cases}
+use Rattle.lists.specs.Lists.{any, every}
+use Rattle.lists.specs.Each.{any-reverse}
+use Rattle.register.specs.Limits.{machineKind, claimLimit, hopLimit}
 use Rattle.register.specs.Register.{actorsOf, resourcesOf, claimsOf, noClaim}
-use Rattle.register.specs.Chain.{latest, above, current}
+use Rattle.register.specs.Chain.{latest, above, current, hopsOf}
 use Rattle.register.specs.declared.Actors.{Actors}
 use Rattle.register.specs.declared.Resources.{Resources}
 use Rattle.register.specs.declared.Claims.{Claims}
 use Rattle.register.specs.declared.Claim.{Claim}
+use Rattle.register.specs.declared.Register.{Register}
 use Rattle.columns.specs.Columns.{actorId, actorKind, ownerOf, resourceId, keeperOf, claimId, beside, latestPlace, chainPlaces, actorColumns, resourceColumns, claimColumns}
 use Rattle.columns.specs.Columns.{currentAt}
 use Rattle.columns.specs.declared.ActorColumns.{ActorColumns}
 use Rattle.columns.specs.declared.ResourceColumns.{ResourceColumns}
 use Rattle.columns.specs.declared.ClaimColumns.{ClaimColumns}
 use Rattle.columns.specs.declared.Place.the-variants.{At, Nowhere}
-use Rattle.columns.specs.Laws.{among-natural, beside-natural, chain-natural, circling-natural, latest-place-found, chain-found, chain-nowhere, current-natural}
-use Rattle.rules.specs.Sound.{worldOf, namesStand, rootKept}
+use Rattle.columns.specs.Laws.{among-natural, beside-natural, circling-natural, latest-place-found, chain-found, chain-nowhere, current-natural}
+use Rattle.finding.specs.Laws.{hop-count-natural}
+use Rattle.rules.specs.Sound.{worldOf, namesStand, rootKept, sound, withinHops}
+use Rattle.rules.specs.Registers.{sound-out}
+use Rattle.rules.specs.Places.{claim-numbered}
 use Rattle.alone.specs.Judged.{worldBy}
-use Rattle.granting.specs.Drawn.{chainTests}
+use Rattle.granting.specs.Drawn.{chainTests, nearUnder}
 
 -- the actors and the resources
 module _ (a : Actors) (o : Resources) (c : Claim) {people : ActorColumns} {things : ResourceColumns} {b : Bool}
@@ -83,14 +91,33 @@ module _ (k : Claims) (c : Claim) {s : ClaimColumns} (claims : s ≡ claimColumn
       → b ≡ every (current now) (above (latest (claimsOf k)) c)
   source-asked now e = e ∙ rw claims (current-natural (k .list) now (k .count) (c .parent))
 
-  -- the chain's length, and whether the claim's holder stands on it
-  pub chain-asked : chainTests (λ j. getD (s .grantors) j 0) (λ j. getD (s .holders) j 0) (chainPlaces (s .ids) (s .parents) (k .count) (c .parent)) (c .holder)
-      ≡ chainTests (λ d. d .grantor) (λ d. d .holder) (above (latest (claimsOf k)) c) (c .holder)
+-- a claim has one hop more than its parent
+near-next : (m : ℕ) → ltb m hopLimit ≡ leb (suc m) hopLimit
+near-next m =
+    cases (ltb m hopLimit) (λ t. t ∙ sym (le-leb (suc m) hopLimit (ltb-true m hopLimit t)))
+    (λ t. t ∙ sym (lt-leb (suc m) hopLimit (omega (arith, ltb-false m hopLimit t))))
+
+-- the chain's length, and whether the claim's holder stands on it, in a sound register where the parent stands
+module _ (r : Register) (whole : sound r ≡ true) (long : length (r .claims .list) ≡ claimLimit) (c : Claim) (o : c .parent ≡ 0 → ⊥)
+    {s : ClaimColumns} (claims : s ≡ claimColumns (r .claims .list)) {j : ℕ} (found : latestPlace (s .ids) (r .claims .count) (c .parent) ≡ At j) where
+  abbrev k : Claims
+  k = r .claims
+
+  few : k .count ≤ claimLimit
+  few = sound-out r whole .limits .claimCount
+
+  near-asked : nearUnder (claimColumns (k .list) .ids) (claimColumns (k .list) .parents) (k .count) j ≡ withinHops (above (latest (claimsOf k)) c)
+  near-asked =
+      let counted = hop-count-natural (k .list) (k .count) few (omega (arith, few, long))
+      (λ i before. claim-numbered (worldOf (actorsOf (r .actors)) (resourcesOf (r .resources))) (k .count) (k .list) (sound-out r whole .claims) i before
+      (omega (arith, before, few, long)))
+      j (latest-place-found (k .list) (k .count) (c .parent) j (at-place k c claims found) .0) in
+      ap (λ m. ltb m hopLimit) counted
+      ∙ near-next (hopsOf (latest (take j (k .list))) (getD (k .list) j noClaim))
+      ∙ ap withinHops (sym (parent-stands k c claims found o))
+
+  pub chain-asked : chainTests (λ j. getD (s .grantors) j 0) (λ j. getD (s .holders) j 0) (nearUnder (s .ids) (s .parents) (k .count) j)
+      (chainPlaces (s .ids) (s .parents) (k .count) (c .parent)) (c .holder)
+      ≡ chainTests (λ d. d .grantor) (λ d. d .holder) (withinHops (above (latest (claimsOf k)) c)) (above (latest (claimsOf k)) c) (c .holder)
   unfolding chainTests
-  chain-asked =
-      rw (
-        claims,
-        circling-natural (k .list) (k .count) (c .parent) (c .holder),
-        ← chain-natural (k .list) (k .count) (c .parent),
-        length-map (chainPlaces (claimColumns (k .list) .ids) (claimColumns (k .list) .parents) (k .count) (c .parent)) (λ j. getD (k .list) j noClaim),
-      )
+  chain-asked = rw (claims, circling-natural (k .list) (k .count) (c .parent) (c .holder), near-asked)

@@ -4,24 +4,23 @@ use mathlib.Core.Bool.{Bool, true, false}
 use mathlib.Core.List.{List, [], _∷_, _++_}
 use Prim.Native.Nat.{ℕ, _<_}
 use lib.Dec.{eqb, leb, ltb}
-use lib.ListN.{length}
 use borrow.Author.Tests.{eq-eqb, ne-eqb, ltb-true}
 use Rattle.lists.specs.Lists.{any, every}
 use Rattle.rights.specs.Rights.{delegating, hasRight, hasRights, barsMachine}
-use Rattle.register.specs.Limits.{claimLimit, hopLimit, momentEnd}
+use Rattle.register.specs.Limits.{claimLimit, momentEnd}
 use Rattle.register.specs.Chain.{above, circling, current}
 use Rattle.register.specs.declared.Claim.{Claim}
 use Rattle.register.specs.declared.Register.{Register}
-use Rattle.rules.specs.Sound.{World, sound, claimFits, namesStand, rootKept}
-use Rattle.refusals.specs.Refusals.{outcomeOf}
+use Rattle.rules.specs.Sound.{World, sound, claimFits, namesStand, rootKept, withinHops}
+use Rattle.refusals.specs.Refusals.{Test, outcomeOf}
 use Rattle.changes.specs.Changes.{worldIn, standing, worldTests, parentTests, grantTests, appended, granted}
-use Rattle.refusals.specs.Laws.{outcome-first, outcome-append, outcome-append-refused}
+use Rattle.refusals.specs.Laws.{outcome-cases, outcome-first, outcome-append, outcome-append-refused}
 use Rattle.refusals.specs.declared.Refusal.{Refusal}
 use Rattle.refusals.specs.declared.Refusal.the-variants.{Unsound, OutOfRange, Unknown, IdStands, Full, NotKeeper, Ownerless, MachineBarred, ParentAbsent, ParentNotHeld}
 use Rattle.refusals.specs.declared.Refusal.the-variants.{ParentDead, NoDelegate, RightLacking, WeightAbove, TooManyHops, Circle}
 use Rattle.refusals.specs.declared.Outcome.{Outcome}
 use Rattle.refusals.specs.declared.Outcome.the-variants.{Accepted, Refused}
-use Rattle.granting.specs.Drawn.{toldTests, drawnTests, chainTests, world-tests, parent-tests}
+use Rattle.granting.specs.Drawn.{toldTests, drawnTests, chainTests, outcomeAfter, world-tests, parent-tests}
 
 -- tests 3 to 8
 module _ (w : World) (stands : Bool) (n : ℕ) (c : Claim) where
@@ -100,19 +99,26 @@ module _ (lives : Bool) (p c : Claim) where
             drawn-well e = rw (held, same, living, delegates, contains, e)
 
 -- tests 15 and 16
-module _ {A : Type 0} (grantor holder : A → ℕ) (l : List A) (h : ℕ) where
-  pub too-many-hops : leb (length l) hopLimit ≡ false → outcomeOf (chainTests grantor holder l h) ≡ Refused TooManyHops
+module _ {A : Type 0} (grantor holder : A → ℕ) (near : Bool) (l : List A) (h : ℕ) where
+  pub too-many-hops : near ≡ false → outcomeOf (chainTests grantor holder near l h) ≡ Refused TooManyHops
   unfolding chainTests outcomeOf
   too-many-hops e = rw e
 
-  module _ (within : leb (length l) hopLimit ≡ true) where
-    pub circle : circling grantor holder l h ≡ true → outcomeOf (chainTests grantor holder l h) ≡ Refused Circle
+  module _ (within : near ≡ true) where
+    pub circle : circling grantor holder l h ≡ true → outcomeOf (chainTests grantor holder near l h) ≡ Refused Circle
     unfolding chainTests outcomeOf
     circle e = rw (within, e)
 
-    pub no-circle : circling grantor holder l h ≡ false → outcomeOf (chainTests grantor holder l h) ≡ Accepted
+    pub no-circle : circling grantor holder l h ≡ false → outcomeOf (chainTests grantor holder near l h) ≡ Accepted
     unfolding chainTests outcomeOf
     no-circle e = rw (within, e)
+
+-- tests decided one part after the other are decided together
+pub decided-after : (tests more : List Test) {first last : Outcome} → first ≡ outcomeOf tests → last ≡ outcomeAfter first more → outcomeOf (tests ++ more) ≡ last
+decided-after tests more {first} {last} e told =
+    outcome-cases first
+    (λ passed. outcome-append tests more (sym e ∙ passed) ∙ sym (told ∙ ap (λ o. outcomeAfter o more) passed))
+    (λ why refused. outcome-append-refused tests more why (sym e ∙ refused) ∙ sym (told ∙ ap (λ o. outcomeAfter o more) refused))
 
 -- tests 9 to 16, over the chain above
 module _ (now : ℕ) (l : List Claim) (c : Claim) where
@@ -122,7 +128,8 @@ module _ (now : ℕ) (l : List Claim) (c : Claim) where
 
   -- the parent p stands: its tests, and then those of the chain
   pub parent-present : {p : Claim} {higher : List Claim} → l ≡ p ∷ higher
-      → outcomeOf (parentTests now l c) ≡ outcomeOf (drawnTests (every (current now) l) p c ++ chainTests (λ d. d .grantor) (λ d. d .holder) l (c .holder))
+      → outcomeOf (parentTests now l c) ≡ outcomeOf (drawnTests (every (current now) l) p c
+      ++ chainTests (λ d. d .grantor) (λ d. d .holder) (withinHops l) l (c .holder))
   parent-present {p} {higher} stands = rw stands (ap outcomeOf (parent-tests now p higher c))
 
 -- tests 1 to 16

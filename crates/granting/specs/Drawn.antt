@@ -1,6 +1,6 @@
--- Working definitions: a grant's tests in the parts that the code decides one by one. Tests 3 to 8 where it is told whether the claim's id
--- stands; those of the parent and the claim alone; those of the chain, over anything that has grantors and holders. They are shaped for
--- the code; that 01's tests are these parts in this order is proved here (`world-tests`, `parent-tests`). Assumes nothing.
+-- Working: A grant's tests in the parts that the code decides one by one: tests 3 to 8 where it is told whether the claim's id stands; those of the
+-- parent and the claim alone; those of the chain, over anything that has grantors and holders. That 01's tests are these parts in this order is
+-- proved here (`world-tests`, `parent-tests`). Assumes nothing.
 use mathlib.Core.Path.{_≡_, refl}
 use mathlib.Core.Bool.{Bool, not, _&&_}
 use mathlib.Core.List.{List, [], _∷_, _++_}
@@ -12,11 +12,15 @@ use Rattle.rights.specs.Rights.{delegating, hasRight, hasRights, barsMachine}
 use Rattle.register.specs.Limits.{claimLimit, hopLimit}
 use Rattle.register.specs.Chain.{circling, current}
 use Rattle.register.specs.declared.Claim.{Claim}
-use Rattle.rules.specs.Sound.{World, namesStand, fresh, rootKept}
-use Rattle.refusals.specs.Refusals.{Test}
+use Rattle.columns.specs.Columns.{placesUp}
+use Rattle.finding.specs.Finding.{earlierPlaces}
+use Rattle.rules.specs.Sound.{World, namesStand, fresh, rootKept, withinHops}
+use Rattle.refusals.specs.Refusals.{Test, outcomeOf}
 use Rattle.changes.specs.Changes.{sourceLive, worldTests, parentTests}
 use Rattle.refusals.specs.declared.Refusal.the-variants.{Unknown, IdStands, Full, NotKeeper, Ownerless, MachineBarred, ParentNotHeld, ParentDead, NoDelegate, RightLacking}
 use Rattle.refusals.specs.declared.Refusal.the-variants.{WeightAbove, TooManyHops, Circle}
+use Rattle.refusals.specs.declared.Outcome.{Outcome}
+use Rattle.refusals.specs.declared.Outcome.the-variants.{Accepted, Refused}
 
 -- tests 3 to 8 in a world, where it is told whether the id of the claim c stands, and that n claims do
 unfoldable pub toldTests : World → Bool → ℕ → Claim → List Test
@@ -39,12 +43,21 @@ drawnTests lives p c =
     ∷ record { passed = leb (c .weight) (p .weight); refusal = WeightAbove }
     ∷ []
 
--- tests 15 and 16, of the chain above a claim and its holder h
-unfoldable pub chainTests : {A : Type 0} → (A → ℕ) → (A → ℕ) → List A → ℕ → List Test
-chainTests grantor holder l h =
-    record { passed = leb (length l) hopLimit; refusal = TooManyHops }
+-- whether what is drawn from the claim at a place has at most 16 hops, by the columns of the first n claims: the walk up from there
+abbrev pub nearUnder : List ℕ → List ℕ → ℕ → ℕ → Bool
+nearUnder ids parents n at = ltb (length (placesUp (earlierPlaces ids parents n claimLimit) at)) hopLimit
+
+-- tests 15 and 16, of the chain above a claim and its holder h, where it is told whether there are at most 16 hops
+unfoldable pub chainTests : {A : Type 0} → (A → ℕ) → (A → ℕ) → Bool → List A → ℕ → List Test
+chainTests grantor holder near l h =
+    record { passed = near; refusal = TooManyHops }
     ∷ record { passed = not (circling grantor holder l h); refusal = Circle }
     ∷ []
+
+-- the outcome of further tests, where that of the tests before them is told
+abbrev pub outcomeAfter : Outcome → List Test → Outcome
+outcomeAfter (Refused why) more = Refused why
+outcomeAfter Accepted more = outcomeOf more
 
 pub world-tests : (w : World) (earlier : List Claim) (n : ℕ) (c : Claim)
     → worldTests w earlier n c ≡ toldTests w (any (λ d. eqb (c .id) (d .id)) earlier) n c
@@ -57,6 +70,7 @@ unfolding sourceLive
 source-live now p higher = refl
 
 pub parent-tests : (now : ℕ) (p : Claim) (higher : List Claim) (c : Claim)
-    → parentTests now (p ∷ higher) c ≡ drawnTests (every (current now) (p ∷ higher)) p c ++ chainTests (λ d. d .grantor) (λ d. d .holder) (p ∷ higher) (c .holder)
+    → parentTests now (p ∷ higher) c ≡ drawnTests (every (current now) (p ∷ higher)) p c
+    ++ chainTests (λ d. d .grantor) (λ d. d .holder) (withinHops (p ∷ higher)) (p ∷ higher) (c .holder)
 unfolding parentTests drawnTests chainTests
 parent-tests now p higher c = rw (source-live now p higher)

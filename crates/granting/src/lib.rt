@@ -1,14 +1,13 @@
 // Grant: tests 1 to 8 in order and, with a parent, 9 to 16. Accepted, the claim goes to the end of the list; refused, the register is
 // handed back as it came, every byte past the counts included.
 ghost use mathlib.Core.Path.{_≡_};
-ghost use mathlib.Core.List.{_++_};
 ghost use lib.ListN.{getD};
 ghost use Rattle.register.specs.Register.{actorsOf, resourcesOf};
 ghost use Rattle.rules.specs.Sound.{worldOf};
 ghost use Rattle.columns.specs.Columns.{chainPlaces};
 ghost use Rattle.refusals.specs.Refusals.{outcomeOf};
 ghost use Rattle.changes.specs.Changes.{grantTests, granted};
-ghost use Rattle.granting.specs.Drawn.{toldTests, drawnTests, chainTests};
+ghost use Rattle.granting.specs.Drawn.{toldTests, drawnTests, chainTests, nearUnder, outcomeAfter};
 use changes::Granted;
 use columns::Place;
 use refusals::Outcome;
@@ -79,19 +78,22 @@ fn drawn_outcome(p: Claim, c: Claim, lives: bool) -> Outcome
     Outcome::Accepted
 }
 
-// Tests 15 and 16, of the chain from the parent number `p` up, over the first `n` claims by their columns, and the holder `h`.
+// Tests 15 and 16, of the chain from the parent number `p` up, which stands at the place `at`, over the first `n` claims by their columns,
+// and the holder `h`.
 fn chain_outcome<'a>(
     ids: &'a [u32],
     parents: &'a [u32],
     grantors: &'a [u32],
     holders: &'a [u32],
     n: usize,
+    at: usize,
     p: u32,
     h: u32,
 ) -> Outcome
-    ensures { λ r. ⌜ r ≡ outcomeOf (chainTests (λ j. getD (now (grantors .entry)) j 0) (λ j. getD (now (holders .entry)) j 0) (chainPlaces (now (ids .entry)) (now (parents .entry)) n p) h) ⌝ }
+    ensures { λ r. ⌜ r ≡ outcomeOf (chainTests (λ j. getD (now (grantors .entry)) j 0) (λ j. getD (now (holders .entry)) j 0) (nearUnder (now (ids .entry)) (now (parents .entry)) n at) (chainPlaces (now (ids .entry)) (now (parents .entry)) n p) h) ⌝ }
 {
-    if !over::within_hops(ids, parents, n, p) {
+    let ups = finding::earlier_places(ids, parents, n, Register::CLAIMS);
+    if !over::within_hops(&ups, at) {
         return Outcome::Refused(Refusal::TooManyHops);
     }
     if columns::circles(ids, parents, grantors, holders, n, p, h) {
@@ -100,24 +102,24 @@ fn chain_outcome<'a>(
     Outcome::Accepted
 }
 
-// Tests 10 to 16, of the parent `p` and whether it lives, the claim, and the chain above it, over the first `n` claims by their columns.
+// Tests 10 to 16, where the outcome of 10 to 14 is told: then those of the chain above the claim, whose parent stands at the place `at`, over the
+// first `n` claims by their columns.
 fn parent_outcome<'a>(
     ids: &'a [u32],
     parents: &'a [u32],
     grantors: &'a [u32],
     holders: &'a [u32],
     n: usize,
-    p: Claim,
+    at: usize,
     c: Claim,
-    lives: bool,
+    drawn: Outcome,
 ) -> Outcome
-    ensures { λ r. ⌜ r ≡ outcomeOf (drawnTests lives p c ++ chainTests (λ j. getD (now (grantors .entry)) j 0) (λ j. getD (now (holders .entry)) j 0) (chainPlaces (now (ids .entry)) (now (parents .entry)) n (c .parent)) (c .holder)) ⌝ }
+    ensures { λ r. ⌜ r ≡ outcomeAfter drawn (chainTests (λ j. getD (now (grantors .entry)) j 0) (λ j. getD (now (holders .entry)) j 0) (nearUnder (now (ids .entry)) (now (parents .entry)) n at) (chainPlaces (now (ids .entry)) (now (parents .entry)) n (c .parent)) (c .holder)) ⌝ }
 {
-    let drawn = drawn_outcome(p, c, lives);
     match drawn {
         Outcome::Refused(why) => Outcome::Refused(why),
         Outcome::Accepted => {
-            chain_outcome(ids, parents, grantors, holders, n, c.parent, c.holder)
+            chain_outcome(ids, parents, grantors, holders, n, at, c.parent, c.holder)
         }
     }
 }
@@ -161,15 +163,16 @@ fn grant_outcome(r: Register, c: Claim, now: u64) -> Outcome
                         c.parent,
                         now,
                     );
+                    let drawn = drawn_outcome(p, c, lives);
                     parent_outcome(
                         &claims.ids,
                         &claims.parents,
                         &claims.grantors,
                         &claims.holders,
                         k.count,
-                        p,
+                        at,
                         c,
-                        lives,
+                        drawn,
                     )
                 }
             }

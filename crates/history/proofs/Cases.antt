@@ -6,7 +6,7 @@ use mathlib.Core.List.{List, [], _∷_, _++_, map}
 use Prim.Native.Nat.{ℕ, _+_}
 use lib.ListN.{replicate, length}
 use Rattle.lists.specs.Fills.{all-replicate}
-use Rattle.lists.specs.Trims.{trim}
+use Rattle.lists.specs.Lists.{trim}
 use Rattle.rights.specs.Rights.{hasRight, hasRights, barsMachine}
 use Rattle.register.specs.Register.{claimsOf, noActor, noResource, noClaim, Shaped}
 use Rattle.register.specs.Chain.{chain, rootGranted, circling}
@@ -21,7 +21,7 @@ use Rattle.changes.specs.declared.Revoked.{Revoked}
 use Rattle.refusals.specs.declared.Outcome.{Outcome}
 use Rattle.refusals.specs.declared.Outcome.the-variants.{Accepted, Refused}
 use Rattle.history.specs.History.{Call, grant, step, took, run, accepts, started, kept, left, olds, grants, History, withdraw}
-use Rattle.history.specs.Replay.{history}
+use Rattle.history.proofs.Replay.{history}
 
 -- on the one resource, with READ, WRITE and DELEGATE, until the moment 2,000
 abbrev claim : ℕ → ℕ → ℕ → ℕ → Claim

@@ -7,8 +7,8 @@ use Prim.Native.Nat.{ℕ, _+_, _<_}
 use borrow.Author.Tests.{ne-eqb, eq-eqb}
 use lib.Dec.{eqb}
 use Rattle.lists.specs.Tests.{cases, clash, and-left, and-right}
-use Rattle.lists.specs.Lists.{any}
-use Rattle.lists.specs.Each.{none-all, none-weaken, All}
+use Rattle.lists.specs.Lists.{any, All}
+use Rattle.lists.specs.Each.{none-all, none-weaken}
 use Rattle.register.specs.Chain.{chain, numbered}
 use Rattle.register.specs.Laws.{chain-ind, numbered-own, numbered-id}
 use Rattle.register.specs.declared.Claim.{Claim}
@@ -23,8 +23,8 @@ use Rattle.refusals.specs.declared.Refusal.the-variants.{Unsound, Unknown, Clai
 use Rattle.refusals.specs.declared.Outcome.{Outcome}
 use Rattle.refusals.specs.declared.Outcome.the-variants.{Accepted, Refused}
 use Rattle.history.specs.History.{took, withdraw}
-use Rattle.history.specs.Calls.{refused-register, took-sound, withdrawn-register}
-use Rattle.history.specs.Holds.{standing-holding, without-sound}
+use Rattle.history.proofs.Calls.{refused-register, took-sound, withdrawn-register}
+use Rattle.history.proofs.Holds.{standing-holding, without-sound}
 use Rattle.history.specs.Order.{AcceptedOrBarred, isAbsent, turnsAbsent, takes, SecondTold, loses}
 use Rattle.history.proofs.Withdrawing.{leaving, without, Steady}
 use Rattle.history.proofs.Withdrawing as withdrawing

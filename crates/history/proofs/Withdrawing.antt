@@ -8,19 +8,21 @@ use Prim.Native.Nat.{ℕ, _+_, _-_}
 use native.Mathlib.Omega.{arith}
 use lib.ListN.{length, length-reverse}
 use Rattle.lists.specs.Tests.{cases}
-use Rattle.lists.specs.Each.{All, each-all}
+use Rattle.lists.specs.Each.{each-all}
+use Rattle.lists.specs.Lists.{All}
 use Rattle.register.specs.Register.{claimsOf}
 use Rattle.register.specs.Chain.{latest}
 use Rattle.register.specs.declared.Claim.{Claim}
 use Rattle.register.specs.declared.Register.{Register}
 use Rattle.rules.specs.Sound.{sound}
-use Rattle.rules.specs.Striking.{strike, strike-none, strike-same, strike-strike}
+use Rattle.rules.specs.Striking.{strike-none, strike-same, strike-strike}
 use Rattle.refusals.specs.Refusals.{isAccepted}
 use Rattle.changes.specs.Changes.{standing, leftOf, holding, Withdrawal, names, withdrawn}
 use Rattle.history.specs.History.{withdraw, took}
 use Rattle.refusals.specs.declared.Outcome.{Outcome}
-use Rattle.history.specs.Holds.{claims-holding, standing-holding}
-use Rattle.history.specs.Laws.{left-counts}
+use Rattle.rules.specs.Struck.{strike}
+use Rattle.history.proofs.Holds.{claims-holding, standing-holding}
+use Rattle.history.proofs.Laws.{left-counts}
 
 abbrev pub accepted : Withdrawal → Register → Bool
 accepted k r = took r (withdraw k)

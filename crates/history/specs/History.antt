@@ -1,15 +1,14 @@
--- What any calls of grant and withdrawal come to: the record of all that ever stood, what is left of it, and the statement.
--- To read it: `Call`, `step` and `took` run the calls by the very definitions that the contracts of grant, revocation and clearing cite. `book` is
--- kept beside the run and asks it one thing only, whether a call was accepted. `left` says what should stand at the end. `History` says
--- that just this stands. `wrote` looks at `remains`, which begs no question: by `holds`, for the calls so far, it is what the register holds.
+-- Believed: What any calls of grant and withdrawal come to: the record of all that ever stood, what is left of it, and the statement. To read it:
+-- `Call`, `step` and `took` run the calls by the very definitions that the contracts of grant, revocation and clearing cite. `book` is kept beside
+-- the run and asks it one thing only, whether a call was accepted. `left` says what should stand at the end. `History` says that just this stands.
+-- `wrote` looks at `remains`, which begs no question: by `holds`, for the calls so far, it is what the register holds.
 use mathlib.Core.Path.{_≡_}
 use mathlib.Core.Bool.{Bool, true, false, not, _&&_, cond}
 use mathlib.Core.List.{List, [], _∷_, _++_, map}
 use Prim.Native.Nat.{ℕ}
 use lib.Dec.{eqb}
 use lib.ListN.{length}
-use Rattle.lists.specs.Lists.{any}
-use Rattle.lists.specs.Trims.{filter}
+use Rattle.lists.specs.Lists.{any, filter}
 use Rattle.register.specs.Register.{Same, claimsOf}
 use Rattle.register.specs.Chain.{latest, chain}
 use Rattle.register.specs.declared.Claim.{Claim}

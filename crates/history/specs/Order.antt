@@ -1,4 +1,4 @@
--- Two withdrawals, one after the other: what the call that comes second is told, beside what it would be told alone.
+-- Believed: Two withdrawals, one after the other: what the call that comes second is told, beside what it would be told alone.
 use mathlib.Core.Path.{_≡_}
 use mathlib.Core.Logic.{_⊎_}
 use mathlib.Core.Bool.{Bool, false, not, _&&_}

@@ -7,7 +7,7 @@ use native.Mathlib.Omega.{arith}
 use borrow.Author.Tests.{lt-ltb, le-ltb, ltb-true, ltb-false}
 use lib.Dec.{ltb}
 use Rattle.lists.specs.Tests.{cases}
-use Rattle.lists.specs.Each.{All}
+use Rattle.lists.specs.Lists.{All}
 use Rattle.register.specs.Limits.{momentEnd}
 use Rattle.refusals.specs.declared.Outcome.the-variants.{Accepted, Refused}
 use Rattle.refusals.specs.declared.Refusal.{Refusal}

@@ -8,9 +8,9 @@ use native.Mathlib.Nat.{div-div-eq-div-mul, pow-suc, div-one}
 use borrow.Author.Tests.{eq-eqb, eqb-true, eqb-false}
 use lib.Dec.{eqb}
 use Rattle.lists.specs.Tests.{cases, and-left, and-right, iff-same}
-use Rattle.lists.specs.Lists.{any}
+use Rattle.lists.specs.Lists.{any, counted}
 use Rattle.lists.specs.Each.{any-map}
-use Rattle.lists.specs.Counts.{counted, any-counted-sound, any-counted-complete}
+use Rattle.lists.specs.Counts.{any-counted-sound, any-counted-complete}
 use Rattle.actions.specs.Actions.{flagCount}
 use Rattle.json_actions.specs.Members.{Setting}
 use Rattle.json_actions.specs.Actions.{setAmong, flagsBelow, flagsOf, isSet, settingsFrom}

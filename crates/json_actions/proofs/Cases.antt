@@ -5,7 +5,7 @@ use mathlib.Core.Bool.{true}
 use mathlib.Core.List.{List, [], _∷_, _++_}
 use lib.ListN.{replicate}
 use Rattle.lists.specs.Bytes.{bytes}
-use Rattle.lists.specs.Trims.{trim}
+use Rattle.lists.specs.Lists.{trim}
 use Rattle.paths.specs.Containment.{same}
 use Rattle.rules.specs.Sound.{distinct}
 use Rattle.decimals.specs.Decimals.{digits, digitsWith, after, value, canonical, parse, digitRun}

@@ -8,13 +8,14 @@ use borrow.Author.Tests.{eqb-true}
 use lib.Dec.{eqb}
 use lib.ListN.{length, getD}
 use Rattle.lists.specs.Tests.{cases}
-use Rattle.lists.specs.Lists.{every}
-use Rattle.lists.specs.Counts.{counted, every-counted-sound}
+use Rattle.lists.specs.Lists.{every, counted}
+use Rattle.lists.specs.Counts.{every-counted-sound}
 use Rattle.paths.specs.Containment.{same}
 use Rattle.paths.specs.Trimming.{same-sound}
 use Rattle.rights.specs.Rights.{rightCount}
 use Rattle.actions.specs.Actions.{flagCount}
-use Rattle.json_actions.specs.Names.{keyNames, kindNames, flagNames, keyCount, placeOf}
+use Rattle.json_actions.specs.Names.{keyNames, kindNames, flagNames, placeOf}
+use Rattle.json_actions.specs.Items.{keyCount}
 
 -- whether each of some names stands at its own place, so that no two are the same
 abbrev pub apart : List (List ℕ) → Bool

@@ -7,7 +7,7 @@ use borrow.Author.Tests.{eqb-true, ltb-true, le-leb}
 use lib.Dec.{eqb, leb, ltb}
 use lib.ListN.{length, getD}
 use Rattle.lists.specs.Tests.{cases}
-use Rattle.lists.specs.Each.{All}
+use Rattle.lists.specs.Lists.{All}
 use Rattle.register.specs.Limits.{idLimit}
 use Rattle.actions.specs.Actions.{flagCount}
 use Rattle.decimals.specs.Decimals.{Parsed, got, large, bad, digits, parse}

@@ -8,8 +8,8 @@ use borrow.Author.Tests.{eqb-true, ltb-true}
 use lib.Dec.{eqb, leb, ltb}
 use lib.ListN.{length, getD}
 use Rattle.lists.specs.Tests.{cases, and-both}
-use Rattle.lists.specs.Lists.{every}
-use Rattle.lists.specs.Each.{All, all-every}
+use Rattle.lists.specs.Lists.{every, All}
+use Rattle.lists.specs.Each.{all-every}
 use Rattle.paths.specs.Containment.{same}
 use Rattle.register.specs.Limits.{idLimit}
 use Rattle.rights.specs.Rights.{rightCount, isRight}

@@ -8,8 +8,8 @@ use borrow.Author.Tests.{ltb-true, leb-true, le-leb, lt-ltb}
 use lib.Dec.{eqb, leb, ltb}
 use lib.ListN.{length, length-map, length-take}
 use Rattle.lists.specs.Tests.{cases, and-left, and-right, and-both}
-use Rattle.lists.specs.Lists.{every}
-use Rattle.lists.specs.Each.{All, ands-out}
+use Rattle.lists.specs.Lists.{every, All}
+use Rattle.lists.specs.Each.{ands-out}
 use Rattle.lists.specs.Trims.{trim-length}
 use Rattle.paths.specs.Containment.{same}
 use Rattle.register.specs.Limits.{idLimit, momentEnd}

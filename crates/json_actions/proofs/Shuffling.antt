@@ -7,9 +7,7 @@ use borrow.Author.Tests.{eq-eqb, eqb-true, not-true}
 use lib.Dec.{eqb, leb, ltb}
 use lib.ListN.{length}
 use Rattle.lists.specs.Tests.{cases, clash, and-left, and-right, or-left, eqb-turned}
-use Rattle.lists.specs.Lists.{any}
-use Rattle.lists.specs.Each.{All}
-use Rattle.lists.specs.Counts.{counted}
+use Rattle.lists.specs.Lists.{any, All, counted}
 use Rattle.rules.specs.Sound.{distinct}
 use Rattle.actions.specs.Actions.{useLimit, flagCount}
 use Rattle.register.specs.Limits.{momentEnd}

@@ -9,8 +9,8 @@ use borrow.Author.Tests.{ne-eqb, ltb-true, not-true}
 use lib.Dec.{eqb, leb, ltb}
 use lib.ListN.{length, getD}
 use Rattle.lists.specs.Tests.{and-right, or-left}
-use Rattle.lists.specs.Lists.{every, every-at, every-append}
-use Rattle.lists.specs.Each.{All, all-imp, all-append, all-map, every-all, all-every, each-all}
+use Rattle.lists.specs.Lists.{every, All}
+use Rattle.lists.specs.Each.{all-imp, all-append, all-map, every-all, all-every, each-all, every-at, every-append}
 use Rattle.paths.specs.Containment.{same}
 use Rattle.paths.specs.Trimming.{same-sound}
 use Rattle.rights.specs.Rights.{rightCount}
@@ -19,10 +19,11 @@ use Rattle.decimals.specs.Decimals.{digits}
 use Rattle.decimals.specs.Laws.{digits-small, digits-step}
 use Rattle.json_tokens.specs.Tokens.{Token, mark, text, comma, closesList, closesObject, quote, trueMark, falseMark}
 use Rattle.json_tokens.specs.Spelling.{Spelt, unquoted}
-use Rattle.json_actions.specs.Names.{keyNames, kindNames, flagNames, keyCount, defaultDomain}
+use Rattle.json_actions.specs.Names.{keyNames, kindNames, flagNames, defaultDomain}
 use Rattle.json_actions.specs.Members.{Value, Member, isIdText, isIdByte, idLength}
 use Rattle.json_actions.specs.Actions.{commaed, settingTokens, numberTokens, valueTokens, memberTokens, objectTokens}
 use Rattle.json_actions.specs.Fitting.{valueFits, MemberFits}
+use Rattle.json_actions.specs.Items.{keyCount}
 use Rattle.json_actions.proofs.Holding.{value-cases, key-below}
 
 -- no name has a quote

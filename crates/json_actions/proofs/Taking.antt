@@ -7,14 +7,15 @@ use borrow.Author.Tests.{eq-eqb, eqb-true, ltb-true, leb-true, le-leb}
 use lib.Dec.{eqb, leb, ltb}
 use lib.ListN.{length, getD}
 use Rattle.lists.specs.Tests.{cases}
-use Rattle.lists.specs.Lists.{every}
-use Rattle.lists.specs.Each.{All, every-all}
+use Rattle.lists.specs.Lists.{every, All}
+use Rattle.lists.specs.Each.{every-all}
 use Rattle.paths.specs.Containment.{same}
 use Rattle.register.specs.Limits.{idLimit}
 use Rattle.rights.specs.Rights.{rightCount, isRight}
 use Rattle.actions.specs.Actions.{useLimit, flagCount}
-use Rattle.decimals.specs.Decimals.{digits, parse, got, starts}
+use Rattle.decimals.specs.Decimals.{digits, parse, got}
 use Rattle.decimals.specs.Laws.{parse-digits}
+use Rattle.decimals.specs.Answers.{starts}
 use Rattle.json_tokens.specs.Tokens.{Token, mark, text, comma, colon, opensList, closesList, opensObject, closesObject, trueMark, falseMark}
 use Rattle.json_actions.specs.Names.{keyNames, flagNames, defaultDomain}
 use Rattle.json_actions.specs.Names.{idPlace, actorPlace, kindPlace, flagsPlace, domainPlace, depthPlace}

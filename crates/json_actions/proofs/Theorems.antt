@@ -6,8 +6,7 @@ use mathlib.Core.List.{List, []}
 use mathlib.Core.Logic.{_↔_}
 use lib.Dec.{leb, ltb}
 use lib.ListN.{length, take}
-use Rattle.lists.specs.Lists.{every}
-use Rattle.lists.specs.Each.{All}
+use Rattle.lists.specs.Lists.{every, All}
 use Rattle.register.specs.Limits.{momentEnd}
 use Rattle.actions.specs.declared.Usage.{Usage}
 use Rattle.actions.specs.declared.Action.{Action}

@@ -9,9 +9,9 @@ use lib.Dec.{eqb, leb, ltb}
 use lib.ListN.{length, take, replicate}
 use lib.Seq.{take-append-seam}
 use Rattle.lists.specs.Tests.{cases, clash, and-right, and-both}
-use Rattle.lists.specs.Lists.{any, every, every-append}
-use Rattle.lists.specs.Each.{All, all-imp, each-all, all-every, every-all, every-map, ands-out}
-use Rattle.lists.specs.Counts.{counted, every-counted-sound}
+use Rattle.lists.specs.Lists.{any, every, All, counted}
+use Rattle.lists.specs.Each.{all-imp, each-all, all-every, every-all, every-map, ands-out, every-append}
+use Rattle.lists.specs.Counts.{every-counted-sound}
 use Rattle.register.specs.Limits.{idLimit, momentEnd}
 use Rattle.rights.specs.Rights.{isRight}
 use Rattle.rules.specs.Sound.{distinct}

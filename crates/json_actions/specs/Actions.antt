@@ -1,12 +1,10 @@
--- The builder's JSON actions, in the words of 02's T-04: how a text is read as an action, and what the text of an action is. Assumes nothing.
+-- Believed: The builder's JSON actions, in the words of 02's T-04: how a text is read as an action, and what the text of an action is.
 use Prim.Native.Nat.{ℕ, zero, suc, _+_, _-_, _/_, _%_, _^_}
 use mathlib.Core.List.{List, [], _∷_, _++_, map}
 use mathlib.Core.Bool.{Bool, cond, _&&_}
 use lib.ListN.{length, getD, replicate}
 use lib.Dec.{eqb, leb, ltb}
-use Rattle.lists.specs.Tests.{ands}
-use Rattle.lists.specs.Lists.{any, every}
-use Rattle.lists.specs.Counts.{counted}
+use Rattle.lists.specs.Lists.{any, every, ands, counted}
 use Rattle.register.specs.Limits.{momentEnd}
 use Rattle.rights.specs.Rights.{isRight}
 use Rattle.rules.specs.Sound.{distinct}

@@ -1,4 +1,4 @@
--- What a key may hold. Assumes nothing.
+-- Believed: What a key may hold.
 use Prim.Native.Nat.{ℕ}
 use mathlib.Core.Path.{_≡_}
 use mathlib.Core.Bool.{Bool, true, _&&_, _||_}

@@ -1,4 +1,4 @@
--- Laws of taking things off the front of a list of tokens: each takes a token at least, so fuel does not matter to items. Assumes nothing.
+-- Laws: Taking things off the front of a list of tokens: each takes a token at least, so fuel does not matter to items. Assumes nothing.
 use Prim.Native.Nat.{ℕ, zero, suc, _≤_, _<_}
 use mathlib.Core.Path.{_≡_, refl, ap, _∙_}
 use mathlib.Core.List.{List, [], _∷_, _++_, append-assoc}
@@ -13,6 +13,9 @@ use Rattle.json_actions.specs.Names.{idPlace, actorPlace, kindPlace, rea
 use Rattle.json_actions.specs.Members.{Taken, taking, missed, past, made, ledBy, separated, further, itemsWith, items, anyItems, named}
 use Rattle.json_actions.specs.Members.{Value, takeText, takeNumber, takeNumbers, takeWord, takeSet, takeSetting, takeSettings}
 use Rattle.json_actions.specs.Members.{takeZero, takeValue, takeHeld, takeMember}
+
+abbrev pub keyCount : ℕ
+keyCount = 9
 
 -- what was taken, with its equation
 pub taken-cases : {A B : Type 0} (x : Taken A) → ((a : A) (rest : List Token) → x ≡ taking a rest → B) → (x ≡ missed → B) → B

@@ -1,12 +1,11 @@
--- A JSON text of the builder's form as its list of members, each with its key's own value. Keys may come in any order; blanks are gone
--- with the tokens. Assumes nothing.
+-- Believed: A JSON text of the builder's form as its list of members, each with its key's own value. Keys may come in any order; blanks are gone with
+-- the tokens.
 use Prim.Native.Nat.{ℕ, zero, suc}
 use mathlib.Core.List.{List, [], _∷_, map}
 use mathlib.Core.Bool.{Bool, true, false, not, cond, _&&_, _||_}
 use lib.ListN.{length}
 use lib.Dec.{eqb, leb, ltb}
-use Rattle.lists.specs.Lists.{any, every}
-use Rattle.lists.specs.Counts.{counted}
+use Rattle.lists.specs.Lists.{any, every, counted}
 use Rattle.paths.specs.Containment.{same}
 use Rattle.register.specs.Limits.{idLimit}
 use Rattle.rights.specs.Rights.{rightCount}

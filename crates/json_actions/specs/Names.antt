@@ -1,4 +1,4 @@
--- The names of the builder's form (002, section 7, version 2), each in its group's order. Assumes nothing.
+-- Believed: The names of the builder's form (002, section 7, version 2), each in its group's order.
 use Prim.Native.Nat.{ℕ, suc}
 use mathlib.Core.List.{List, [], _∷_}
 use mathlib.Core.Bool.{cond}
@@ -87,9 +87,6 @@ domainPlace = 7
 
 abbrev pub depthPlace : ℕ
 depthPlace = 8
-
-abbrev pub keyCount : ℕ
-keyCount = 9
 
 -- the place of a name among others, or how many they are where it is none of them
 unfoldable pub placeOf : List (List ℕ) → List ℕ → ℕ

@@ -1,10 +1,10 @@
--- The order in which a reading holds the uses of an action, and lists that differ in their order only. Assumes nothing.
+-- Believed: The order in which a reading holds the uses of an action, and lists that differ in their order only.
 use Prim.Native.Nat.{ℕ, _-_}
 use mathlib.Core.Path.{_≡_}
 use mathlib.Core.List.{List, [], _∷_, _++_}
 use lib.ListN.{length, replicate}
 use lib.Dec.{eqb}
-use Rattle.lists.specs.Trims.{filter}
+use Rattle.lists.specs.Lists.{filter}
 use Rattle.actions.specs.Actions.{useLimit, governLimit, usesOf}
 use Rattle.actions.specs.declared.Usage.{Usage}
 use Rattle.actions.specs.declared.Action.{Action}

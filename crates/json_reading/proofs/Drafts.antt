@@ -9,13 +9,14 @@ use lib.Dec.{eqb}
 use lib.ListN.{length, getD, set, replicate, getD-replicate, length-set}
 use lib.Seq.{getD-set-same, getD-set-other}
 use Rattle.lists.specs.Tests.{cases}
-use Rattle.lists.specs.Lists.{any, any-append}
-use Rattle.lists.specs.Each.{All, all-both, all-append, none-all, any-map}
+use Rattle.lists.specs.Lists.{any, All}
+use Rattle.lists.specs.Each.{all-both, all-append, none-all, any-map, any-append}
 use Rattle.rules.specs.Registers.{distinct-nil}
 use Rattle.rules.specs.Distinct.{distinct-last}
 use Rattle.actions.specs.Actions.{useLimit}
-use Rattle.json_actions.specs.Names.{keyCount, readPlace, executePlace}
+use Rattle.json_actions.specs.Names.{readPlace, executePlace}
 use Rattle.json_actions.specs.Members.{Member, Value}
+use Rattle.json_actions.specs.Items.{keyCount}
 use Rattle.json_reading.specs.Answers.{Apart, keysOf, HoldsValue, KeptMembers}
 
 -- a key's value is as it was where the array changed at another key

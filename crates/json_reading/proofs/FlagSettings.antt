@@ -9,7 +9,7 @@ use lib.Dec.{eqb, ltb}
 use lib.ListN.{drop, getD, set, replicate}
 use Rattle.lists.specs.Tests.{cases}
 use Rattle.lists.specs.Each.{any-map}
-use Rattle.lists.specs.Counts.{counted}
+use Rattle.lists.specs.Lists.{counted}
 use Rattle.rules.specs.Sound.{distinct}
 use Rattle.rules.specs.Distinct.{distinct-again}
 use Rattle.actions.specs.Actions.{flagCount}
@@ -22,7 +22,7 @@ use Rattle.json_reading.specs.declared.SettingAt.{SettingAt}
 use Rattle.json_reading.specs.declared.SettingAt.the-variants.{Is, Not as NoSetting}
 use Rattle.json_reading.specs.declared.Settings.{Settings}
 use Rattle.json_reading.specs.declared.Settings.the-variants.{Are, Not}
-use Rattle.json_reading.specs.Laws.{past-unmarked, continued, separated-natural, separated-more, separated-done, separated-broken, items-missed}
+use Rattle.json_reading.proofs.Laws.{past-unmarked, continued, separated-natural, separated-more, separated-done, separated-broken, items-missed}
 use Rattle.json_reading.specs.Answers.{Behind, Separation, more, done, broken, separation, isMarked, SettingSays, flagsFound, fullSet, SettingsSays}
 use Rattle.json_reading.proofs.Flags.{isAmong, Noted, noted-none, noted-more, noted-answer}
 

@@ -11,9 +11,9 @@ use lib.Dec.{eqb}
 use lib.ListN.{length, drop, getD, set, replicate, getD-replicate, length-set}
 use lib.Seq.{getD-set-same, getD-set-other}
 use Rattle.lists.specs.Tests.{cases, clash, and-left, iff-same}
-use Rattle.lists.specs.Lists.{any, every, any-append}
-use Rattle.lists.specs.Each.{any-map, none-weaken}
-use Rattle.lists.specs.Counts.{counted, every-counted-sound, every-counted-complete}
+use Rattle.lists.specs.Lists.{any, every, counted}
+use Rattle.lists.specs.Each.{any-map, none-weaken, any-append}
+use Rattle.lists.specs.Counts.{every-counted-sound, every-counted-complete}
 use Rattle.rules.specs.Sound.{distinct}
 use Rattle.rules.specs.Registers.{distinct-nil}
 use Rattle.rules.specs.Distinct.{distinct-last}

@@ -7,7 +7,8 @@ use native.Mathlib.Omega.{arith}
 use lib.ListN.{length, drop, set, drop-of-length-le, length-append, length-set}
 use lib.Seq.{drop-cons}
 use borrow.Author.Tests.{le-leb, lt-leb}
-use Rattle.lists.specs.Splices.{splice, splice-nil, splice-snoc}
+use Rattle.lists.specs.Splices.{splice-nil, splice-snoc}
+use Rattle.lists.specs.Lists.{splice}
 use Rattle.paths.specs.Containment.{same}
 use Rattle.register.specs.Limits.{idLimit}
 use Rattle.decimals.specs.Decimals.{Parsed, got, parse}
@@ -19,8 +20,8 @@ use Rattle.json_actions.specs.Items.{taken-cases, missed-took, items-step, numb
 use Rattle.json_reading.specs.declared.Numbers.{Numbers}
 use Rattle.json_reading.specs.declared.Numbers.the-variants.{Are, Not}
 use Rattle.json_reading.specs.Answers.{Behind, Separation, more, done, broken, separation, isMarked, limited, NumbersSays}
-use Rattle.json_reading.specs.Laws.{past-marked, past-unmarked, continued, separated-natural, items-missed, items-more, items-done, items-broken}
-use Rattle.json_reading.specs.Laws.{any-items-none, any-items-some, number-noToken}
+use Rattle.json_reading.proofs.Laws.{past-marked, past-unmarked, continued, separated-natural, items-missed, items-more, items-done, items-broken}
+use Rattle.json_reading.proofs.Laws.{any-items-none, any-items-some, number-noToken}
 
 -- the place of a name, by the first of the names
 pub place-hit : (n : List ℕ) (names : List (List ℕ)) (x : List ℕ) → same x n ≡ true → placeOf (n ∷ names) x ≡ 0

@@ -9,9 +9,8 @@ use lib.Dec.{eqb, leb}
 use lib.ListN.{length, take, drop, getD, replicate, length-append, length-map, length-drop}
 use lib.Seq.{length-take-le}
 use Rattle.lists.specs.Tests.{cases, clash, or-other, iff-same}
-use Rattle.lists.specs.Lists.{any}
-use Rattle.lists.specs.Each.{All}
-use Rattle.lists.specs.Counts.{counted, every-counted-sound, every-counted-complete}
+use Rattle.lists.specs.Lists.{any, All, counted}
+use Rattle.lists.specs.Counts.{every-counted-sound, every-counted-complete}
 use Rattle.register.specs.Limits.{momentEnd}
 use Rattle.rules.specs.Sound.{distinct}
 use Rattle.rules.specs.Registers.{distinct-nil}

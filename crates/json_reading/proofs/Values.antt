@@ -8,8 +8,8 @@ use borrow.Author.Tests.{eqb-true, eqb-false, leb-true, lt-ltb, le-ltb, ltb-true
 use lib.Dec.{eqb, leb, ltb}
 use lib.ListN.{length, take, drop}
 use Rattle.lists.specs.Tests.{cases, and-left}
-use Rattle.lists.specs.Lists.{every}
-use Rattle.lists.specs.Splices.{splice, splice-part, splice-behind, splice-before}
+use Rattle.lists.specs.Lists.{every, splice}
+use Rattle.lists.specs.Splices.{splice-part, splice-behind, splice-before}
 use Rattle.paths.specs.Containment.{same}
 use Rattle.rights.specs.Rights.{rightCount}
 use Rattle.actions.specs.Actions.{useLimit}
@@ -21,7 +21,7 @@ use Rattle.json_actions.specs.Members.{takeZero, takeValue, isIdByte, isIdText,
 use Rattle.json_actions.specs.Actions.{asLetters, asFigure, asFigures, asSettings, flagsOf}
 use Rattle.json_reading.specs.declared.Held.{Held}
 use Rattle.json_reading.specs.Answers.{Behind, isMarked, keyOf, isTextKey, blockOf, listRoom, limited, heldWhole, HeldSays, HeldAnyway, Apart, HoldsValue}
-use Rattle.json_reading.specs.Laws.{past-unmarked}
+use Rattle.json_reading.proofs.Laws.{past-unmarked}
 use Rattle.json_reading.proofs.Keys.{single-key, domain-last}
 
 -- some tokens that begin with no text

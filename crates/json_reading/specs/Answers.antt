@@ -1,24 +1,22 @@
--- Working definitions: what the code's answers say of the tokens from a position on. `jsonRead` of json_actions is what they lead to, by the
--- contract of `read_json`. Assumes nothing.
+-- Working: What the code's answers say of the tokens from a position on. `jsonRead` of json_actions is what they lead to, by the contract of
+-- `read_json`.
 use Prim.Native.Nat.{ℕ, zero, suc, _+_, _-_, _*_, _^_, _≤_, _<_}
 use mathlib.Core.Path.{_≡_}
 use mathlib.Core.List.{List, [], _∷_, _++_, map}
 use mathlib.Core.Bool.{Bool, true, false, cond, _||_}
 use lib.Dec.{eqb, leb}
 use lib.ListN.{length, take, drop, getD, replicate}
-use Rattle.lists.specs.Lists.{any, every}
-use Rattle.lists.specs.Each.{All}
-use Rattle.lists.specs.Counts.{counted}
-use Rattle.lists.specs.Splices.{splice}
+use Rattle.lists.specs.Lists.{any, every, All, counted, splice}
 use Rattle.rules.specs.Sound.{distinct}
 use Rattle.decimals.specs.Decimals.{Parsed}
 use Rattle.actions.specs.Actions.{useLimit, flagCount}
 use Rattle.actions.specs.declared.Usage.{Usage}
 use Rattle.texts.specs.Actions.{noUse}
 use Rattle.json_tokens.specs.Tokens.{Token, mark, text, noToken, comma, tokens}
-use Rattle.json_actions.specs.Names.{keyNames, keyCount, idPlace, actorPlace, kindPlace, readPlace, writePlace, executePlace, flagsPlace, domainPlace, depthPlace}
+use Rattle.json_actions.specs.Names.{keyNames, idPlace, actorPlace, kindPlace, readPlace, writePlace, executePlace, flagsPlace, domainPlace, depthPlace}
 use Rattle.json_actions.specs.Members.{Setting, Value, Member, Taken, taking, missed, made, named, takeText, isExact, exactOf, isFullSet, idLength}
 use Rattle.json_actions.specs.Actions.{asLetters, asFigure, asFigures, asSettings, flagsOf, usedWith}
+use Rattle.json_actions.specs.Items.{keyCount}
 use Rattle.json_reading.specs.declared.Exact.{Exact}
 use Rattle.json_reading.specs.declared.Exact.the-variants.{Is, Not}
 use Rattle.json_reading.specs.declared.NumberAt.{NumberAt}

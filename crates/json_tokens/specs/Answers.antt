@@ -1,4 +1,4 @@
--- What the code's answer says of a text's tokens. Assumes nothing.
+-- Working: What the code's answer says of a text's tokens: the first of `tokens`, and where the others begin.
 use Prim.Native.Nat.{ℕ, _+_, _-_, _≤_, _<_}
 use mathlib.Core.Path.{_≡_}
 use mathlib.Core.List.{List, [], _∷_}

@@ -1,4 +1,4 @@
--- Laws of the tokens of a text: the first of them and the others, however much fuel there is. Assumes nothing.
+-- Laws: The tokens of a text: the first of them and the others, however much fuel there is. Assumes nothing.
 use Prim.Native.Nat.{ℕ, zero, suc, _≤_, _<_}
 use mathlib.Core.Path.{_≡_, refl, sym, ap, _∙_}
 use mathlib.Core.List.{List, [], _∷_}

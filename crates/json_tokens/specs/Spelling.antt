@@ -1,4 +1,4 @@
--- How tokens are spelled: each one's text, one behind the other, with blanks in front of any of them and at the end. Assumes nothing.
+-- Believed: How tokens are spelled: each one's text, one behind the other, with blanks in front of any of them and at the end.
 use Prim.Native.Nat.{ℕ}
 use mathlib.Core.Path.{_≡_}
 use mathlib.Core.List.{List, [], _∷_, _++_, flatten}

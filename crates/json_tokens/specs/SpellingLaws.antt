@@ -1,4 +1,4 @@
--- What spelled tokens read as: themselves, with any blanks between them. Assumes nothing.
+-- Laws: What spelled tokens read as: themselves, with any blanks between them. Assumes nothing.
 use Prim.Native.Nat.{ℕ}
 use mathlib.Core.Path.{_≡_, refl, ap, _∙_}
 use mathlib.Core.List.{List, [], _∷_, _++_, append-assoc, flatten}
@@ -6,8 +6,7 @@ use mathlib.Core.Bool.{true, false, not, _||_}
 use lib.Dec.{eqb}
 use borrow.Author.Tests.{eqb-true, not-true}
 use Rattle.lists.specs.Tests.{cases, clash, and-left, and-right, or-other}
-use Rattle.lists.specs.Lists.{every}
-use Rattle.lists.specs.Each.{All}
+use Rattle.lists.specs.Lists.{every, All}
 use Rattle.paths.specs.Containment.{same}
 use Rattle.json_tokens.specs.Tokens.{Token, mark, text, noToken, first, isBlank, isMark, quote, trueMark, falseMark}
 use Rattle.json_tokens.specs.Tokens.{unblanked, quoted, closing, leading, tokens}

@@ -1,4 +1,4 @@
--- The tokens of a JSON text without escapes: marks, words and texts in quotes, with blanks around any of them. Assumes nothing.
+-- Believed: The tokens of a JSON text without escapes: marks, words and texts in quotes, with blanks around any of them.
 use Prim.Native.Nat.{ℕ, zero, suc}
 use mathlib.Core.List.{List, [], _∷_}
 use mathlib.Core.Bool.{Bool, cond, _||_}

@@ -7,8 +7,9 @@ use mathlib.Core.Bool.{Bool, true, _&&_}
 use native.Mathlib.Omega.{arith}
 use lib.Dec.{leb, leb·suc-suc}
 use lib.ListN.{length, take, length-append}
-use Rattle.lists.specs.Splices.{splice, length-splice}
+use Rattle.lists.specs.Splices.{length-splice}
 use Rattle.lists.specs.Tests.{cases}
+use Rattle.lists.specs.Lists.{splice}
 use Rattle.rights.specs.Rights.{policyModifying}
 use Rattle.actions.specs.Actions.{actionFits}
 use Rattle.actions.specs.declared.Action.{Action}
@@ -16,7 +17,7 @@ use Rattle.sheets.specs.Laws.{Writing, splice-front, writing-start, writing-nex
 use Rattle.json_actions.specs.Members.{isIdText}
 use Rattle.json_actions.specs.Actions.{jsonText, jsonFits, jsonLimit}
 use Rattle.json_writing.specs.Pieces.{headText, tailText}
-use Rattle.json_writing.specs.Laws.{pieces-natural, json-length}
+use Rattle.json_writing.proofs.Laws.{pieces-natural, json-length}
 
 -- the code's test of the ranges is the one of `jsonFits`
 pub fits-tested : (a : Action) (id : List ℕ) (kind : ℕ) {fit named : Bool} → fit ≡ actionFits a → named ≡ isIdText id

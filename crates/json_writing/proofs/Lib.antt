@@ -1,3 +1,5 @@
+pub mod Laws
+pub mod Answers
 pub mod Joining
 pub mod Listing
 pub mod Composing

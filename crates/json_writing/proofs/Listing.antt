@@ -6,7 +6,7 @@ use mathlib.Core.Bool.{Bool, false}
 use borrow.Author.Tests.{eq-eqb, ne-eqb}
 use lib.ListN.{length, getD, take, drop, drop-of-length-le}
 use Rattle.lists.specs.Loops.{drop-at}
-use Rattle.lists.specs.Splices.{splice}
+use Rattle.lists.specs.Lists.{splice}
 use Rattle.actions.specs.declared.Usage.{Usage}
 use Rattle.sheets.specs.Laws.{Writing, writing-room, writing-next, writing-done}
 use Rattle.json_writing.specs.Pieces.{resourceEntry, resourcesFrom, resourcesText}

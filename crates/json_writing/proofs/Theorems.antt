@@ -7,13 +7,13 @@ use lib.ListN.{length}
 use Rattle.refusals.specs.declared.Outcome.the-variants.{Refused}
 use Rattle.refusals.specs.declared.Refusal.{Refusal}
 use Rattle.actions.specs.declared.Action.{Action}
-use Rattle.json_actions.specs.Actions.{jsonText, jsonFits, jsonWritten, jsonBuffer}
-use Rattle.json_writing.specs.Laws as laws
-use Rattle.json_writing.specs.Answers as answers
+use Rattle.json_actions.specs.Actions.{jsonText, jsonFits, jsonWritten, jsonBuffer, jsonLimit}
+use Rattle.json_writing.proofs.Laws as laws
+use Rattle.json_writing.proofs.Answers as answers
 
 module _ (a : Action) (id : List ℕ) (kind : ℕ) where
   -- 1. The text of an action, an id and a kind in range is never longer than 807 bytes.
-  pub json-length : jsonFits a id kind ≡ true → length (jsonText a id kind) ≤ 807
+  pub json-length : jsonFits a id kind ≡ true → length (jsonText a id kind) ≤ jsonLimit
   json-length = laws.json-length a id kind
 
   -- 2. A refused write, for whatever reason, gives length 0 and leaves every byte of the buffer.

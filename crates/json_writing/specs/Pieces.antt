@@ -1,5 +1,5 @@
--- Working definitions: the text of an action in the builder's form as the pieces that the code puts one behind the other. `pieces-natural` of
--- Laws leads back to `jsonText`. Assumes nothing.
+-- Working: The text of an action in the builder's form as the pieces that the code puts one behind the other. `pieces-natural` of proofs/Laws leads
+-- back to `jsonText`.
 use Prim.Native.Nat.{ℕ, zero, suc}
 use mathlib.Core.List.{List, [], _∷_, _++_}
 use mathlib.Core.Bool.{Bool, true, false, cond}

@@ -3,9 +3,10 @@
 ghost use mathlib.Core.Path.{_≡_};
 ghost use Prim.Native.Nat.{_+_, _≤_, _<_};
 ghost use lib.ListN.{length};
-ghost use Rattle.lists.specs.Splices.{splice};
-ghost use Rattle.sheets.specs.Sheets.{put, behind};
+ghost use Rattle.lists.specs.Lists.{splice};
+ghost use Rattle.sheets.specs.Sheets.{put};
 ghost use Rattle.actions.specs.Actions.{usesOf};
+ghost use Rattle.sheets.specs.Positions.{behind};
 ghost use Rattle.writing.specs.Writing.{unwritten};
 ghost use Rattle.json_actions.specs.Actions.{jsonHolds, jsonWritten, jsonBuffer};
 ghost use Rattle.json_writing.specs.Pieces.{kindText, openingText, resourcesText, settingText, flagsText, headText, tailText, resourceEntry};

@@ -5,7 +5,8 @@ use mathlib.Core.List.{[], _∷_}
 use Rattle.decimals.specs.Decimals.{digitsWith, digits, digitRun, after, value, canonical, parse}
 use Rattle.lines.specs.Lines.{line, beyond, fault, begins, ended, parseLimited, atLeast, parseDecimal, decimalLine}
 use Rattle.lines.specs.Lines.{parseKind, humanLine, machineLine, pathOn, parseScope}
-use Rattle.lines.specs.Reading.{going, failed, number, count, kind, readForm, closed, stateOf}
+use Rattle.lines.specs.Reading.{going, failed, number, count, kind, readForm, closed}
+use Rattle.lines.specs.Answers.{stateOf}
 
 -- a text that begins with `n=`, that ends within it, and that differs from it
 begins-cases : (begins (110 ∷ 61 ∷ []) (110 ∷ 61 ∷ 55 ∷ []) ≡ true) × (begins (110 ∷ 61 ∷ []) (110 ∷ []) ≡ false) × (begins (110 ∷ 61 ∷ []) (61 ∷ 110 ∷ []) ≡ false)

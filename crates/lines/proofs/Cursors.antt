@@ -9,9 +9,9 @@ use lib.ListN.{length, drop, drop-of-length-le}
 use borrow.Author.Tests.{ne-eqb, le-leb, leb-true}
 use Rattle.lists.specs.Tests.{and-left, and-right, clash}
 use Rattle.decimals.specs.Walk.{drop-byte}
-use Rattle.lines.specs.Lines.{Line, line, beyond, fault, parseScope}
-use Rattle.lines.specs.Reading.{formRefusal, going, failed, Form, parseForm, aboveRefusal, readForm, readScope, closed, stateOf}
-use Rattle.lines.specs.Answers.{FieldSays, PathSays, ScopeSays, heldPath}
+use Rattle.lines.specs.Lines.{Line, line, beyond, fault, parseScope, heldPath}
+use Rattle.lines.specs.Reading.{formRefusal, going, failed, Form, parseForm, aboveRefusal, readForm, readScope, closed}
+use Rattle.lines.specs.Answers.{FieldSays, PathSays, ScopeSays, stateOf}
 use Rattle.lines.specs.declared.Cursor.{Cursor}
 use Rattle.lines.specs.declared.Scope.{Scope}
 use Rattle.lines.specs.declared.PathRead.{PathRead}

@@ -1,27 +1,30 @@
--- What the code's answers say of a text. Assumes nothing.
-use Prim.Native.Nat.{ℕ, _-_, _≤_, _<_}
+-- Working: What the code's answers say of a text: where a cursor stands, and what was read. The contracts of reading tie them to `readForm` and
+-- `readScope`.
+use Prim.Native.Nat.{ℕ, _≤_, _<_, _+_}
 use mathlib.Core.Path.{_≡_}
-use mathlib.Core.List.{List, _++_}
-use mathlib.Core.Bool.{true, false}
-use lib.ListN.{length, drop, replicate}
-use Rattle.register.specs.Limits.{pathLimit}
-use Rattle.lines.specs.Lines.{Line, line, beyond, fault}
-use Rattle.lines.specs.Reading.{Read, stateOf}
+use mathlib.Core.List.{List}
+use mathlib.Core.Bool.{true, false, cond, _&&_}
+use lib.ListN.{length, drop}
+use lib.Dec.{eqb, leb}
+use Rattle.lines.specs.Lines.{Line, line, beyond, fault, heldPath}
+use Rattle.lines.specs.Reading.{Read, failed, State, going}
 use Rattle.lines.specs.declared.LineRead.{LineRead}
 use Rattle.lines.specs.declared.LineRead.the-variants.{Value, Over, Fault}
 use Rattle.lines.specs.declared.PathRead.{PathRead}
 use Rattle.lines.specs.declared.Field.{Field}
 use Rattle.lines.specs.declared.Scope.{Scope}
+use Rattle.lines.specs.declared.Cursor.{Cursor}
+
+-- a reading by the code: it goes on where it has no refusal and stands within the text, with no more lines than bytes behind it
+abbrev pub stateOf : List ℕ → Cursor → State
+stateOf s c =
+    cond (eqb (c .refusal) 0 && (leb (c .at) (length s) && leb (c .line) (c .at))) (going (drop (c .at) s) (c .line + 1)) (failed (c .refusal) (c .line))
 
 -- the code's answer for a line that begins at a position of s
 abbrev pub LineSays : List ℕ → ℕ → LineRead → Line ℕ → Type 0
 LineSays s at (Value n next) p = (p ≡ line n (drop next s)) × (next ≤ length s) × (at < next)
 LineSays s at Over p = p ≡ beyond
 LineSays s at Fault p = p ≡ fault
-
--- the array that holds a path: zeros behind it
-abbrev pub heldPath : List ℕ → List ℕ
-heldPath p = p ++ replicate (pathLimit - length p) 0
 
 -- the code's answer for a path that begins at a position of s
 unfoldable pub PathSays : List ℕ → ℕ → PathRead → Line (List ℕ) → Type 0

@@ -1,5 +1,5 @@
--- The two laws of each line: its text reads as its value, whatever follows, and whatever reads as a value is that value's text and what
--- follows it. And how great and how long what is read can be. Assumes nothing.
+-- Laws: The two laws of each line: its text reads as its value, whatever follows, and whatever reads as a value is that value's text and what follows
+-- it. And how great and how long what is read can be. Assumes nothing.
 use Prim.Native.Nat.{ℕ, _+_, _≤_, _<_}
 use mathlib.Core.Path.{_≡_, refl, sym, ap, _∙_}
 use mathlib.Core.List.{List, [], _∷_, _++_, append-assoc, append-nil}
@@ -12,11 +12,16 @@ use borrow.Author.Tests.{eq-eqb, ne-eqb, le-leb, le-ltb, lt-ltb, eqb-true, leb-t
 use Rattle.lists.specs.Tests.{cases, and-left, and-right, and-both, or-other}
 use Rattle.lists.specs.Lists.{every}
 use Rattle.register.specs.Limits.{humanKind, machineKind, pathLimit, pathByteLeast, pathByteGreatest, ranged}
-use Rattle.decimals.specs.Decimals.{digits, starts, Parsed, got, large, bad, parse}
+use Rattle.decimals.specs.Decimals.{digits, Parsed, got, large, bad, parse}
 use Rattle.decimals.specs.Laws.{parse-digits, digits-parse}
+use Rattle.decimals.specs.Answers.{starts}
 use Rattle.lines.specs.Lines.{lineFeed, Line, line, beyond, fault, begins, ended, parseLimited, atLeast, parseDecimal, decimalLine}
 use Rattle.lines.specs.Lines.{humanLine, machineLine, parseKind, kindLine, scopeKey, pathOn, parseScope, scopeLine}
-use Rattle.lines.specs.Reading.{formRefusal, State, going, failed, decimal, taken, readForm, readScope}
+use Rattle.lines.specs.Reading.{formRefusal, State, going, failed, decimal, taken, readForm, readScope, Form, kind}
+
+abbrev pub formFits : Form → ℕ → Bool
+formFits (decimal key least greatest above) n = ranged least greatest n
+formFits kind n = eqb n humanKind || eqb n machineKind
 
 -- no line is none
 line-over-clash : {A B : Type 0} {a : A} {rest : List ℕ} → _≡_ {A = Line A} beyond (line a rest) → B

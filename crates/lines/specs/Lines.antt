@@ -1,8 +1,8 @@
--- A line of a text, `key=value` and LF: a decimal, an actor's kind, a path. What a text begins with, and the text of each. Assumes nothing.
-use Prim.Native.Nat.{ℕ}
+-- Believed: A line of a text, `key=value` and LF: a decimal, an actor's kind, a path. What a text begins with, and the text of each.
+use Prim.Native.Nat.{ℕ, _-_}
 use mathlib.Core.List.{List, [], _∷_, _++_}
 use mathlib.Core.Bool.{Bool, true, false, cond}
-use lib.ListN.{length, drop}
+use lib.ListN.{length, drop, replicate}
 use lib.Dec.{eqb, ltb, leb}
 use Rattle.lists.specs.Bytes.{bytes}
 use Rattle.decimals.specs.Decimals.{digits, Parsed, got, large, bad, parse}
@@ -86,3 +86,7 @@ parseScope t = cond (begins scopeKey t) (pathOn [] (drop (length scopeKey) t)) f
 -- its text
 unfoldable pub scopeLine : List ℕ → List ℕ
 scopeLine path = scopeKey ++ (path ++ (lineFeed ∷ []))
+
+-- the array that holds a path: zeros behind it
+abbrev pub heldPath : List ℕ → List ℕ
+heldPath p = p ++ replicate (pathLimit - length p) 0

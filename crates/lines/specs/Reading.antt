@@ -1,12 +1,7 @@
--- Reading a text line by line: the first failing line decides, and nothing is read behind it. Assumes nothing.
+-- Believed: Reading a text line by line: the first failing line decides, and nothing is read behind it.
 use Prim.Native.Nat.{ℕ, _+_}
 use mathlib.Core.List.{List, [], _∷_}
-use mathlib.Core.Bool.{Bool, cond, _&&_, _||_}
-use lib.ListN.{drop, length}
-use lib.Dec.{eqb, leb}
-use Rattle.register.specs.Limits.{humanKind, machineKind, ranged}
 use Rattle.lines.specs.Lines.{Line, line, beyond, fault, parseDecimal, decimalLine, parseKind, kindLine, parseScope}
-use Rattle.lines.specs.declared.Cursor.{Cursor}
 
 -- the refusal of a text that is not of the form, and of a count line above its limit
 abbrev pub formRefusal : ℕ
@@ -53,10 +48,6 @@ abbrev pub formLine : Form → ℕ → List ℕ
 formLine (decimal key least greatest above) n = decimalLine key n
 formLine kind n = kindLine n
 
-abbrev pub formFits : Form → ℕ → Bool
-formFits (decimal key least greatest above) n = ranged least greatest n
-formFits kind n = eqb n humanKind || eqb n machineKind
-
 -- a line read, with what stands for its value where it fails
 abbrev pub taken : {A : Type 0} → A → ℕ → ℕ → Line A → Read A
 taken none above l (line a rest) = record { value = a; state = going rest (l + 1) }
@@ -78,8 +69,3 @@ abbrev pub closed : State → State
 closed (going [] l) = going [] l
 closed (going (b ∷ t) l) = failed formRefusal l
 closed (failed why l) = failed why l
-
--- a reading by the code: it goes on where it has no refusal and stands within the text, with no more lines than bytes behind it
-abbrev pub stateOf : List ℕ → Cursor → State
-stateOf s c =
-    cond (eqb (c .refusal) 0 && (leb (c .at) (length s) && leb (c .line) (c .at))) (going (drop (c .at) s) (c .line + 1)) (failed (c .refusal) (c .line))

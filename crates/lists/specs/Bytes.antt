@@ -1,4 +1,4 @@
--- A text written in quotes, as the bytes that the rules speak of. Only for ASCII: there a character is one byte, its code. Assumes nothing.
+-- Believed: A text written in quotes, as the bytes that the rules speak of. Only for ASCII: there a character is one byte, its code.
 use mathlib.Core.List.{List, [], _∷_}
 use Prim.Native.Nat.{ℕ}
 use Prim.Native.Char.{code}

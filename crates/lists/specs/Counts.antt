@@ -1,4 +1,4 @@
--- Numbers counted up one by one, what some or every of them passing a test says of each, and lists read at counted places. Assumes nothing.
+-- Laws: Numbers counted up one by one: what some or every of them passing a test says of each, and lists read at counted places. Assumes nothing.
 use mathlib.Core.Path.{_≡_, refl, ap, _∙_}
 use mathlib.Core.Bool.{Bool, true}
 use mathlib.Core.List.{List, [], _∷_, _++_, map}
@@ -10,13 +10,8 @@ use lib.Dec.{eqb}
 use lib.ListN.{length, take, drop, getD, length-take}
 use lib.Seq.{drop-cons}
 use Rattle.lists.specs.Tests.{cases, and-left, and-right, and-both}
-use Rattle.lists.specs.Lists.{any, every}
-use Rattle.lists.specs.Each.{All, all-imp}
-
--- the n numbers from i on
-abbrev pub counted : ℕ → ℕ → List ℕ
-counted i zero = []
-counted i (suc n) = i ∷ counted (suc i) n
+use Rattle.lists.specs.Lists.{any, every, All, counted}
+use Rattle.lists.specs.Each.{all-imp}
 
 pub counted-length : (i n : ℕ) → length (counted i n) ≡ n
 counted-length i zero = refl

@@ -1,11 +1,11 @@
--- An array filled from the front, for any element. Assumes nothing.
+-- Laws: An array filled from the front, for any element. Assumes nothing.
 use Prim.Native.Nat.{ℕ, zero, suc, _+_, _-_, _<_, _≤_}
 use mathlib.Core.Path.{_≡_, ap, _∙_}
 use mathlib.Core.List.{List, [], _∷_, _++_, append-assoc}
 use native.Mathlib.Omega.{arith}
 use lib.ListN.{length, set, replicate, length-append, length-replicate}
 use lib.Seq.{set-at}
-use Rattle.lists.specs.Each.{All}
+use Rattle.lists.specs.Lists.{All}
 
 -- a list with the same behind it, up to a length
 pub full-length : {A : Type 0} (l : List A) (limit : ℕ) (none : A) → length l ≤ limit → length (l ++ replicate (limit - length l) none) ≡ limit

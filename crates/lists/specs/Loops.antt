@@ -1,4 +1,4 @@
--- Loops from the front over the first `k` of an array's list, for any element. Assumes nothing.
+-- Laws: Loops from the front over the first `k` of an array's list, for any element. Assumes nothing.
 use mathlib.Core.Path.{_≡_, sym, _∙_}
 use mathlib.Core.List.{List, [], _∷_, map}
 use Prim.Native.Nat.{ℕ, _+_, _≤_, _<_, min}

@@ -1,4 +1,4 @@
--- A list with another written over it from a place on, and how two such writings join, for any element. Assumes nothing.
+-- Laws: A list with another written over it from a place on: how long it is, and how two such writings join, for any element. Assumes nothing.
 use Prim.Native.Nat.{ℕ, _+_, _-_, _≤_, _<_}
 use mathlib.Core.Path.{_≡_, refl, sym, ap, _∙_}
 use mathlib.Core.List.{List, [], _∷_, _++_, append-assoc}
@@ -7,12 +7,9 @@ use native.Mathlib.Nat.{add-zero, add-assoc}
 use native.Mathlib.Numerals.{add-one}
 use lib.ListN.{length, take, drop, set, length-append, length-take, length-drop, take-append-drop}
 use lib.Seq.{set-split, take-at, drop-at, take-append-le, drop-append-le, drop-append-add, drop-drop}
+use Rattle.lists.specs.Lists.{splice}
 
 module _ {A : Type 0} where
-  -- `t` written over `old` from `at` on
-  unfoldable pub splice : ℕ → List A → List A → List A
-  splice at t old = take at old ++ (t ++ drop (at + length t) old)
-
   pub splice-nil : (at : ℕ) (old : List A) → splice at [] old ≡ old
   unfolding splice
   splice-nil at old = rw (add-zero, take-append-drop)

@@ -1,7 +1,6 @@
--- Laws of tests, as `&&` and `||` join them. Assumes nothing.
+-- Laws: Tests, as `&&` and `||` join them. Assumes nothing.
 use mathlib.Core.Path.{_≡_, refl, sym}
 use mathlib.Core.Bool.{Bool, true, false, _&&_, _||_, Bool·beq}
-use mathlib.Core.List.{List, [], _∷_}
 use Prim.Native.Nat.{ℕ}
 use native.Mathlib.Omega.{arith}
 use borrow.Author.Tests.{eq-eqb, eqb-true}
@@ -66,8 +65,3 @@ beq-same true true h = refl
 beq-same true false h = sym h
 beq-same false true h = h
 beq-same false false h = refl
-
--- all of some tests
-abbrev pub ands : List Bool → Bool
-ands [] = true
-ands (b ∷ l) = b && ands l

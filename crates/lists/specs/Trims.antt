@@ -1,25 +1,17 @@
--- Lists trimmed of the elements that a test takes, where the test looks at what stands behind an element too; and lists of the elements
--- that pass a test. Assumes nothing.
+-- Laws: Lists trimmed of the elements that a test takes, where the test looks at what stands behind an element too; and lists of the elements that
+-- pass a test. Assumes nothing.
 use mathlib.Core.Path.{_≡_, refl, ap, sym, _∙_}
-use mathlib.Core.Bool.{Bool, true, false, not, cond, Bool·not-not}
+use mathlib.Core.Bool.{Bool, true, false, not, Bool·not-not}
 use mathlib.Core.List.{List, [], _∷_, _++_, map, reverse, reverse-cons, append-nil}
 use Prim.Native.Nat.{_≤_}
 use native.Mathlib.Omega.{arith}
 use borrow.Author.Tests.{not-false}
 use lib.ListN.{length}
 use Rattle.lists.specs.Tests.{cases}
-use Rattle.lists.specs.Each.{Each, All, each-all, cons-clash}
+use Rattle.lists.specs.Each.{each-all, cons-clash}
+use Rattle.lists.specs.Lists.{Each, All, trim, filter}
 
 module _ {C : Type 0} where
-  -- what is left without the elements that the test takes, in their order
-  unfoldable pub trim : (List C → C → Bool) → List C → List C
-  trim t [] = []
-  trim t (c ∷ L) = let rest = trim t L in cond (t L c) rest (c ∷ rest)
-
-  -- the elements that pass a test, in their order
-  abbrev pub filter : (C → Bool) → List C → List C
-  filter p L = trim (λ M c. not (p c)) L
-
   module _ (t : List C → C → Bool) where
     pub trim-nil : trim t [] ≡ []
     unfolding trim

@@ -4,8 +4,8 @@ use mathlib.Core.Bool.{Bool, true, false, not, _&&_, _||_, and-true}
 use mathlib.Core.List.{List}
 use Prim.Native.Nat.{ℕ, zero, suc, _-_, _≤_, _<_}
 use native.Mathlib.Omega.{arith}
-use borrow.Author.Tests.{eq-eqb, ne-eqb, le-leb, lt-leb, lt-ltb, le-ltb}
-use lib.Dec.{eqb, leb}
+use borrow.Author.Tests.{eq-eqb, ne-eqb, lt-ltb, le-ltb}
+use lib.Dec.{eqb, ltb}
 use lib.ListN.{length, getD}
 use Rattle.register.specs.Limits.{hopLimit}
 use Rattle.register.specs.declared.Claim.{Claim}
@@ -24,11 +24,11 @@ fails b e = rw e
 
 -- what the number of steps says of the limit
 module _ (l : List ℕ) where
-  pub within-limit : {k : ℕ} → stepsUp l ≡ Up k → leb (length l) hopLimit ≡ true
-  within-limit {k} q = let told = steps-up-within l k q in le-leb (length l) hopLimit (omega (arith, told .0, told .1))
+  pub within-limit : {k : ℕ} → stepsUp l ≡ Up k → ltb k hopLimit ≡ ltb (length l) hopLimit
+  within-limit {k} q = ap (λ n. ltb n hopLimit) (sym (steps-up-within l k q .0))
 
-  pub beyond-limit : stepsUp l ≡ Beyond → leb (length l) hopLimit ≡ false
-  beyond-limit q = lt-leb (length l) hopLimit (steps-up-beyond l q)
+  pub beyond-limit : stepsUp l ≡ Beyond → ltb (length l) hopLimit ≡ false
+  beyond-limit q = le-ltb (length l) hopLimit (omega (arith, steps-up-beyond l q))
 
 -- the walk: each answer at the place that it has come to
 module _ (ups grantors holders : List ℕ) (j h : ℕ) where

@@ -1,11 +1,11 @@
--- Working definitions: what a claim is asked over the claims before it, by columns and by the places of the parents. They are shaped for
--- the code; what they are in 01's words is proved in Laws (`over-natural`).
+-- Working: What a claim is asked over the claims before it, by columns and by the places of the parents. They are shaped for the code; what they are
+-- in 01's words is proved in Laws (`over-natural`).
 use mathlib.Core.Bool.{Bool, true, not, _&&_, _||_}
 use mathlib.Core.List.{List, [], _∷_}
 use Prim.Native.Nat.{ℕ, zero, suc}
 use lib.Dec.{eqb, ltb}
 use lib.ListN.{getD}
-use Rattle.lists.specs.Tests.{ands}
+use Rattle.lists.specs.Lists.{ands}
 use Rattle.register.specs.Limits.{hopLimit}
 use Rattle.register.specs.declared.Claim.{Claim}
 use Rattle.rules.specs.Sound.{drawnFrom, over}

@@ -1,5 +1,5 @@
--- What the judgement by columns and places is in 01's words, where the columns are those of a list of claims and the places are kept of
--- each claim's parent. Assumes nothing.
+-- Laws: What the judgement by columns and places is in 01's words, where the columns are those of a list of claims and the places are kept of each
+-- claim's parent. Assumes nothing.
 use mathlib.Core.Path.{_≡_, refl, sym, ap, _∙_}
 use mathlib.Core.Bool.{true, false, not, _&&_, _||_, or-false, or-assoc}
 use mathlib.Core.List.{List, [], _∷_, map}
@@ -8,9 +8,8 @@ use native.Mathlib.Omega.{arith}
 use borrow.Author.Tests.{eq-eqb, ne-eqb, ltb-true}
 use lib.Dec.{eqb, leb, ltb}
 use lib.ListN.{length, getD, take, length-map}
-use Rattle.lists.specs.Tests.{ands}
-use Rattle.lists.specs.Lists.{any, any-reverse}
-use Rattle.lists.specs.Each.{list-cases, ands-out}
+use Rattle.lists.specs.Lists.{any, ands}
+use Rattle.lists.specs.Each.{list-cases, ands-out, any-reverse}
 use Rattle.register.specs.Limits.{hopLimit}
 use Rattle.register.specs.Register.{noClaim}
 use Rattle.register.specs.Chain.{latest, above, circling, rootGranted}

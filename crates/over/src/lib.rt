@@ -1,10 +1,10 @@
 // Whether a claim with a parent is as it should be over the claims before it: drawn from the parent (b), at most 16 hops (d) and no circle
 // along the chain (e). The claims before it are lent as columns.
 ghost use mathlib.Core.Path.{_≡_};
-ghost use lib.Dec.{leb};
+ghost use lib.Dec.{ltb};
 ghost use lib.ListN.{length, getD};
 ghost use Rattle.register.specs.Limits.{hopLimit};
-ghost use Rattle.columns.specs.Columns.{chainPlaces};
+ghost use Rattle.columns.specs.Columns.{placesUp};
 ghost use Rattle.rules.specs.Sound.{drawnFrom};
 ghost use Rattle.over.specs.Judged.{circlesUp, overAt};
 use columns::Hops;
@@ -30,13 +30,13 @@ pub fn drawn_from(p: Claim, c: Claim) -> bool
     c.weight <= p.weight
 }
 
-// (d): whether the chain from the parent number `p` up has at most 16 steps.
-pub fn within_hops<'a>(ids: &'a [u32], parents: &'a [u32], n: usize, p: u32) -> bool
-    ensures { λ r. ⌜ r ≡ leb (length (chainPlaces (now (ids .entry)) (now (parents .entry)) n p)) hopLimit ⌝ }
+// (d): whether a claim that is drawn from the one at the place `at` has at most 16 hops. `ups` has for each place that of the parent.
+pub fn within_hops(ups: &[usize], at: usize) -> bool
+    ensures { λ r. ⌜ r ≡ ltb (length (placesUp (now (ups .entry)) at)) hopLimit ⌝ }
 {
-    let walked = columns::hop_count(ids, parents, n, p);
+    let walked = columns::hop_count(ups, at);
     match walked {
-        Hops::Up(_) => true,
+        Hops::Up(steps) => steps < Register::HOPS,
         Hops::Beyond => false,
     }
 }

@@ -4,9 +4,8 @@ use mathlib.Core.Path.{_≡_, refl}
 use mathlib.Core.Bool.{true, false}
 use mathlib.Core.List.{[], _∷_}
 use Rattle.paths.specs.Containment.{slash, dot, same, isEmpty, joined, components, climbing, trimmed, starting, slashed, contained, reached}
-use Rattle.paths.specs.Components.{written, unslashed}
-use Rattle.paths.specs.Pairs.{dotted, paired}
-use Rattle.paths.specs.Trimming.{beneath}
+use Rattle.paths.specs.Readings.{written, unslashed}
+use Rattle.paths.specs.Lent.{dotted, paired, beneath}
 
 -- `a` is `a`, and neither `b` nor `ab`
 same-cases : (same (97 ∷ []) (97 ∷ []) ≡ true) × (same (97 ∷ []) (98 ∷ []) ≡ false) × (same (97 ∷ []) (97 ∷ 98 ∷ []) ≡ false)

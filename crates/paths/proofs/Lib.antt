@@ -1,3 +1,4 @@
+pub mod Pairs
 pub mod Theorems
 pub mod Cases
 pub mod Dots

@@ -7,11 +7,12 @@ use Prim.Native.Nat.{ℕ, _≤_}
 use lib.ListN.{length, replicate}
 use Rattle.lists.specs.Lists.{every}
 use Rattle.paths.specs.Containment.{slash, same, isEmpty, components, climbing, trimmed, contained, reached, reachBetween, isInside, lengthOf}
-use Rattle.paths.specs.Components.{written, unslashed, components-natural}
+use Rattle.paths.specs.Components.{components-natural}
 use Rattle.paths.specs.Trimming.{same-sound, same-complete, trimmed-twice}
-use Rattle.paths.specs.Laws.{Under, contained-clean, contained-sound, contained-complete, contained-refl, contained-trans}
+use Rattle.paths.specs.Laws.{contained-clean, contained-sound, contained-complete, contained-refl, contained-trans}
 use Rattle.paths.specs.Laws.{contained-not-trans, contained-antisym, contained-trimmed, trimmed-natural}
 use Rattle.paths.specs.Laws as laws
+use Rattle.paths.specs.Readings.{written, unslashed, Under}
 
 -- 1. A path contains itself exactly when it has no `..` component.
 pub reflexive : (p : List ℕ) → contained p p ≡ not (climbing p)

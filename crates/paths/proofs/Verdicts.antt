@@ -9,9 +9,10 @@ use lib.ListN.{length, take, drop, length-drop}
 use lib.Seq.{length-take-le, take-all}
 use Rattle.lists.specs.Tests.{cases}
 use Rattle.paths.specs.Containment.{isEmpty, slashed, climbing, trimmed, starting, contained, reachBetween}
-use Rattle.paths.specs.Trimming.{beneath, reachBeneath}
+use Rattle.paths.specs.Trimming.{reachBeneath}
 use Rattle.paths.specs.Laws.{contained-parts, beneath-clean, reached-yes}
 use Rattle.paths.specs.declared.Reach.the-variants.{Outside, Inside}
+use Rattle.paths.specs.Lent.{beneath}
 use Rattle.paths.proofs.Walks.{starting-short}
 
 pub outer-empty : (p q : List ℕ) → length p ≡ 0 → reachBeneath p q ≡ Inside 0

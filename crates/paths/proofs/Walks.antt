@@ -10,8 +10,8 @@ use lib.Seq.{take-suc}
 use Rattle.lists.specs.Tests.{cases}
 use Rattle.lists.specs.Loops.{drop-next}
 use Rattle.paths.specs.Containment.{slash, dot, isEmpty, slashed, climbing, trimmed, starting}
-use Rattle.paths.specs.Pairs.{paired}
 use Rattle.paths.specs.Trimming.{starting-length, trimmed-slash, trimmed-other}
+use Rattle.paths.specs.Lent.{paired}
 use Rattle.paths.proofs.Dots.{dots-end, dots-slash, dots-byte}
 
 -- ---- climbing, from place i on with d dots before it

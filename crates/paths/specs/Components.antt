@@ -1,25 +1,16 @@
--- Laws of a path's components: there is at least one, joined by slashes they are the path, and none holds a slash.
--- Assumes nothing.
+-- Laws: A path's components: there is at least one, joined by slashes they are the path, and none holds a slash. Assumes nothing.
 use mathlib.Core.Path.{_≡_, refl, _∙_}
-use mathlib.Core.Bool.{Bool, true, false, not, _||_}
+use mathlib.Core.Bool.{true, false, _||_}
 use mathlib.Core.List.{List, [], _∷_, _++_, append-nil}
 use Prim.Native.Nat.{ℕ, zero, suc}
 use lib.Dec.{eqb}
 use lib.ListN.{replicate}
 use borrow.Author.Tests.{eqb-true}
 use Rattle.lists.specs.Tests.{cases}
-use Rattle.lists.specs.Lists.{every, any-append}
+use Rattle.lists.specs.Lists.{every}
+use Rattle.lists.specs.Each.{any-append}
 use Rattle.paths.specs.Containment.{slash, dot, same, joined, components, climbing}
-
--- components written one behind the other, with a slash between each two
-abbrev pub written : List (List ℕ) → List ℕ
-written [] = []
-written (c ∷ []) = c
-written (c ∷ d ∷ cs) = c ++ (slash ∷ written (d ∷ cs))
-
--- whether a component holds no slash
-abbrev pub unslashed : List ℕ → Bool
-unslashed c = every (λ (b : ℕ). not (eqb b slash)) c
+use Rattle.paths.specs.Readings.{written, unslashed}
 
 module _ (b : ℕ) (p : List ℕ) where
   pub components-cut : eqb b slash ≡ true → components (b ∷ p) ≡ [] ∷ components p

@@ -1,5 +1,5 @@
--- Path containment (000), on paths as lists of bytes. Nothing is assumed of the bytes: components are cut at `/` only, and `.`
--- and `//` mean nothing special.
+-- Believed: Path containment (000), on paths as lists of bytes. Nothing is assumed of the bytes: components are cut at `/` only, and `.` and `//`
+-- mean nothing special.
 use mathlib.Core.Bool.{Bool, true, false, not, _&&_, _||_, cond}
 use mathlib.Core.List.{List, [], _∷_}
 use Prim.Native.Nat.{ℕ}

@@ -1,5 +1,5 @@
--- Laws of path containment, for the crates above: it is reflexive on paths without a `..` component, transitive where the middle
--- path is not empty, and antisymmetric up to trimming. Assumes nothing.
+-- Laws: Path containment, for the crates above: it is reflexive on paths without a `..` component, transitive where the middle path is not empty, and
+-- antisymmetric up to trimming. Assumes nothing.
 use mathlib.Core.Path.{_≡_, refl, sym, ap, _∙_}
 use mathlib.Core.Bool.{true, false, not, _&&_, _||_, or-assoc}
 use mathlib.Core.List.{List, [], _∷_, _++_, append-assoc, append-nil}
@@ -13,7 +13,9 @@ use Rattle.lists.specs.Tests.{cases, and-left, and-right, or-left}
 use Rattle.paths.specs.Containment.{slash, same, isEmpty, components, climbing, trimmed, starting, slashed, contained, reached}
 use Rattle.paths.specs.Containment.{reachBetween, isInside, lengthOf}
 use Rattle.paths.specs.Components.{climbing-append, climbing-behind}
-use Rattle.paths.specs.Trimming.{isEmpty-sound, starting-sound, starting-complete, trimmed-append, trimmed-twice, trimmed-slashes, trimmed-length, trimmed-end, beneath, followed}
+use Rattle.paths.specs.Trimming.{isEmpty-sound, starting-sound, starting-complete, trimmed-append, trimmed-twice, trimmed-slashes, trimmed-length, trimmed-end, followed}
+use Rattle.paths.specs.Readings.{Under}
+use Rattle.paths.specs.Lent.{beneath}
 
 -- ---- what containment says
 
@@ -41,12 +43,6 @@ outer-climbs p q climbs = rw climbs
 pub contained-empty : (q : List ℕ) → climbing q ≡ false → contained [] q ≡ true
 unfolding contained climbing components same
 contained-empty q clean = rw clean
-
--- path q is t, or t and a slash and more
-pub record Under (t q : List ℕ) : Type 0 where
-  pub rest : List ℕ
-  pub whole : q ≡ t ++ rest
-  pub parted : isEmpty rest || slashed rest ≡ true
 
 -- containment as two tests, neither of which looks at the other's part: no `..` component, and where inner stands
 pub contained-parts : (p q : List ℕ) → contained p q ≡ (not (climbing p) && not (climbing q)) && (isEmpty p || beneath (trimmed p) q)

@@ -1,5 +1,6 @@
 pub mod Containment
 pub mod Components
-pub mod Pairs
 pub mod Trimming
 pub mod Laws
+pub mod Readings
+pub mod Lent

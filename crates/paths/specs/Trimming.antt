@@ -1,4 +1,4 @@
--- Laws of trimming, of sameness and of beginnings: what a path is made of. Assumes nothing.
+-- Laws: Trimming, sameness and beginnings: what a path is made of. Assumes nothing.
 use mathlib.Core.Path.{_≡_, refl, sym, ap, _∙_}
 use mathlib.Core.Bool.{Bool, true, false, _&&_, _||_, cond}
 use mathlib.Core.List.{List, [], _∷_, _++_, append-nil}
@@ -11,6 +11,7 @@ use Rattle.lists.specs.Tests.{cases, and-left, and-right}
 use Rattle.paths.specs.Containment.{slash, same, isEmpty, trimmed, starting, slashed}
 use Rattle.paths.specs.declared.Reach.{Reach}
 use Rattle.paths.specs.declared.Reach.the-variants.{Outside, Inside}
+use Rattle.paths.specs.Lent.{beneath}
 
 -- two byte strings are the same exactly when they are equal
 pub same-sound : (p q : List ℕ) → same p q ≡ true → p ≡ q
@@ -131,10 +132,6 @@ pub trimmed-end : (p q : List ℕ) → trimmed p ≡ q ++ (slash ∷ []) → ⊥
 trimmed-end p q e =
     let short : length (trimmed (trimmed p)) ≤ length q = rw (e, trimmed-slash q) (trimmed-length q) in
     omega (arith, ap length (trimmed-twice p), ap length e, length-append q (slash ∷ []))
-
--- whether path q starts with t, and what follows is nothing or begins with a slash
-abbrev pub beneath : List ℕ → List ℕ → Bool
-beneath t q = starting t q && (isEmpty (drop (length t) q) || slashed (drop (length t) q))
 
 -- how far outer reaches to what is beneath it, whatever `..` components there are
 abbrev pub reachBeneath : List ℕ → List ℕ → Reach

@@ -7,8 +7,8 @@ ghost use Prim.Native.Nat.{_+_, _≤_};
 ghost use lib.Dec.{eqb, ltb};
 ghost use lib.ListN.{length, take};
 ghost use Rattle.paths.specs.Containment.{dot, climbing, trimmed, starting, isEmpty, slashed, reachBetween};
-ghost use Rattle.paths.specs.Pairs.{paired};
 ghost use Rattle.paths.specs.Trimming.{reachBeneath};
+ghost use Rattle.paths.specs.Lent.{paired};
 
 const SLASH: u8 = 47;
 

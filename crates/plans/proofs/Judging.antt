@@ -25,7 +25,7 @@ use Rattle.verdicts.specs.Cancelling.{halt-runs, planned-runs}
 use Rattle.gate.specs.Judged.{Lent, viewOf, lentOf, judgedBy}
 use Rattle.gate.specs.declared.View.{View}
 use Rattle.plans.specs.Judgements.{judgedAs, judgementsBy}
-use Rattle.plans.specs.Laws.{judgements-by-nil, judgements-by-cons, judgements-natural}
+use Rattle.plans.proofs.Laws.{judgements-by-nil, judgements-by-cons, judgements-natural}
 
 -- the verdict by the number of violations
 pub judged-none : (n : ℕ) → n ≡ 0 → Permitted ≡ judgedAs n

@@ -1,4 +1,4 @@
--- The verdicts on the actions of a plan, by what is lent to each.
+-- Working: The verdicts on the actions of a plan, by what is lent to each. They are those of the register (`judgements-natural`).
 use mathlib.Core.Bool.{Bool, not, _||_, cond}
 use mathlib.Core.List.{List, [], _∷_}
 use Prim.Native.Nat.{ℕ, zero, suc}

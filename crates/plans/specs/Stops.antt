@@ -1,4 +1,4 @@
--- What stops a plan, as the code holds it, and by the ids of the actors that are lent.
+-- Working: What stops a plan, as the code holds it, and by the ids of the actors that are lent. It is what stops it by the register (`halt-natural`).
 use mathlib.Core.List.{List, [], _∷_}
 use Prim.Native.Nat.{ℕ, suc}
 use Rattle.refusals.specs.Refusals.{outcomeOf}

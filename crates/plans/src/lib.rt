@@ -78,7 +78,6 @@ fn judge<'a>(
     resources: usize,
     bytes: &'a [u8],
     lens: &'a [usize],
-    parents: &'a [u32],
     holders: &'a [u32],
     rights: &'a [u32],
     ends: &'a [u64],
@@ -88,7 +87,7 @@ fn judge<'a>(
     a: Action,
     cancelled: bool,
 ) -> Judgement
-    ensures { λ v. ⌜ v ≡ cond cancelled Judgement.Cancelled (judgedAs (judgedBy (record { names = now (names .entry); kinds = now (kinds .entry); owners = now (owners .entry); actors = actors; reports = now (reports .entry); publics = now (publics .entry); resources = resources; bytes = now (bytes .entry); lens = now (lens .entry); parents = now (parents .entry); holders = now (holders .entry); rights = now (rights .entry); ends = now (ends .entry); spots = now (spots .entry); ups = now (ups .entry); claims = claims }) a .violations .count)) ⌝ }
+    ensures { λ v. ⌜ v ≡ cond cancelled Judgement.Cancelled (judgedAs (judgedBy (record { names = now (names .entry); kinds = now (kinds .entry); owners = now (owners .entry); actors = actors; reports = now (reports .entry); publics = now (publics .entry); resources = resources; bytes = now (bytes .entry); lens = now (lens .entry); holders = now (holders .entry); rights = now (rights .entry); ends = now (ends .entry); spots = now (spots .entry); ups = now (ups .entry); claims = claims }) a .violations .count)) ⌝ }
 {
     if cancelled {
         return Judgement::Cancelled;
@@ -103,7 +102,6 @@ fn judge<'a>(
         resources,
         bytes,
         lens,
-        parents,
         holders,
         rights,
         ends,
@@ -130,7 +128,6 @@ fn judge_all<'a>(
     resources: usize,
     bytes: &'a [u8],
     lens: &'a [usize],
-    parents: &'a [u32],
     holders: &'a [u32],
     rights: &'a [u32],
     ends: &'a [u64],
@@ -139,7 +136,7 @@ fn judge_all<'a>(
     claims: usize,
     p: Plan,
 ) -> PlanVerdict
-    ensures { λ v. ⌜ v ≡ held (judgementsBy (record { names = now (names .entry); kinds = now (kinds .entry); owners = now (owners .entry); actors = actors; reports = now (reports .entry); publics = now (publics .entry); resources = resources; bytes = now (bytes .entry); lens = now (lens .entry); parents = now (parents .entry); holders = now (holders .entry); rights = now (rights .entry); ends = now (ends .entry); spots = now (spots .entry); ups = now (ups .entry); claims = claims }) false (actionsOf p)) ⌝ }
+    ensures { λ v. ⌜ v ≡ held (judgementsBy (record { names = now (names .entry); kinds = now (kinds .entry); owners = now (owners .entry); actors = actors; reports = now (reports .entry); publics = now (publics .entry); resources = resources; bytes = now (bytes .entry); lens = now (lens .entry); holders = now (holders .entry); rights = now (rights .entry); ends = now (ends .entry); spots = now (spots .entry); ups = now (ups .entry); claims = claims }) false (actionsOf p)) ⌝ }
 {
     let top = columns::least(p.count, Plan::ACTIONS);
     let none = Judged {
@@ -160,7 +157,6 @@ fn judge_all<'a>(
             resources,
             bytes,
             lens,
-            parents,
             holders,
             rights,
             ends,
@@ -207,7 +203,6 @@ pub fn plan(r: Register, p: Plan) -> PlanVerdict
             v.counts.resources,
             &v.paths.bytes,
             &v.paths.lens,
-            &v.claims.parents,
             &v.claims.holders,
             &v.claims.rights,
             &v.ends,

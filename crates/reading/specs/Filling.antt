@@ -1,12 +1,13 @@
--- An array filled from the front with things that are read one behind the other. Assumes nothing.
+-- Laws: An array filled from the front with things that are read one behind the other. Assumes nothing.
 use Prim.Native.Nat.{ℕ, _+_, _-_, _≤_, _<_}
 use mathlib.Core.Path.{_≡_, sym, ap, _∙_}
 use mathlib.Core.List.{List, [], _∷_, _++_}
 use native.Mathlib.Omega.{arith}
 use lib.ListN.{length, set, replicate}
 use Rattle.lists.specs.Fills.{put-first}
-use Rattle.lines.specs.Reading.{State, Read, stateOf}
+use Rattle.lines.specs.Reading.{State, Read}
 use Rattle.lines.specs.declared.Cursor.{Cursor}
+use Rattle.lines.specs.Answers.{stateOf}
 use Rattle.texts.specs.Records.{many}
 use Rattle.texts.specs.Laws.{many-none, many-next, many-length}
 use Rattle.reading.specs.Reads.{Reads}

@@ -1,4 +1,4 @@
--- Numbers read one behind the other by the code: what they are, and where the reading then stands. Assumes nothing.
+-- Laws: Numbers read one behind the other by the code: what they are, and where the reading then stands. Assumes nothing.
 use Prim.Native.Nat.{ℕ, _+_, _≤_}
 use mathlib.Core.Path.{_≡_, refl, ap, sym, _∙_}
 use mathlib.Core.List.{List, [], _∷_}
@@ -9,9 +9,9 @@ use lib.Dec.{eqb, leb}
 use lib.ListN.{length, drop}
 use Rattle.register.specs.Limits.{humanKind, machineKind}
 use Rattle.lines.specs.Lines.{line, fault, begins, humanLine, machineLine, parseKind}
-use Rattle.lines.specs.Reading.{State, going, failed, Form, decimal, kind, readForm, taken, formRefusal, stateOf}
+use Rattle.lines.specs.Reading.{State, going, failed, Form, decimal, kind, readForm, taken, formRefusal}
 use Rattle.lines.specs.Laws.{form-bound}
-use Rattle.lines.specs.Answers.{FieldSays}
+use Rattle.lines.specs.Answers.{FieldSays, stateOf}
 use Rattle.lines.specs.declared.Cursor.{Cursor}
 use Rattle.lines.specs.declared.Field.{Field}
 use Rattle.texts.specs.Records.{values, passed}

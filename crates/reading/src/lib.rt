@@ -1,7 +1,7 @@
 // A register read from a lent text of any length and content, in one pass: the first failing line decides, soundness comes last.
 ghost use mathlib.Core.Path.{_≡_};
 ghost use Rattle.register.specs.Register.{emptyRegister};
-ghost use Rattle.lines.specs.Reading.{stateOf};
+ghost use Rattle.lines.specs.Answers.{stateOf};
 ghost use Rattle.texts.specs.Registers.{readActor, readResource, readClaim, readActors, readResources, readClaims, heldActors, heldResources, heldClaims, registerRead};
 ghost use Rattle.texts.specs.Registers.{registerEnding};
 ghost use Rattle.reading.specs.Reads.{Reads};

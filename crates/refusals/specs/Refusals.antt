@@ -1,4 +1,4 @@
--- 01's number of each refusal, and the outcome of ordered tests.
+-- Believed: 01's number of each refusal, and the outcome of ordered tests.
 use mathlib.Core.Bool.{Bool, true, false, cond}
 use mathlib.Core.List.{List, [], _∷_}
 use Prim.Native.Nat.{ℕ}

@@ -1,9 +1,11 @@
--- The chain of a claim, its hop count, and when a claim is live.
+-- Believed: The chain of a claim, its hop count, and when a claim is live.
 use mathlib.Core.Bool.{Bool, false, not, _&&_, _||_, cond}
 use mathlib.Core.List.{List, [], _∷_, reverse}
-use Prim.Native.Nat.{ℕ}
+use Prim.Native.Nat.{ℕ, _<_}
 use lib.Dec.{eqb, leb, ltb}
 use lib.ListN.{length}
+use mathlib.Core.Path.{_≡_}
+use mathlib.Core.Logic.{_⊎_}
 use Rattle.lists.specs.Lists.{any, every}
 use Rattle.register.specs.declared.Claim.{Claim}
 
@@ -54,3 +56,8 @@ current now c = ltb 0 (c .weight) && not (expired now c)
 -- a claim is live at a moment when every claim on its chain, the claim included, is current
 abbrev pub live : ℕ → List Claim → Claim → Bool
 live now earlier c = every (current now) (chainOf earlier c)
+
+-- a claim that has weight, and that never expires or does so after the moment
+pub record Lasting (now : ℕ) (c : Claim) : Type 0 where
+  pub weighs : 0 < c .weight
+  pub lasts : (c .expiry ≡ 0) ⊎ (now < c .expiry)

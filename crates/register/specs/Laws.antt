@@ -1,4 +1,4 @@
--- Laws of chains, for any things that have a number and a parent's number; and that the empty register has its shape. Assumes nothing.
+-- Laws: Laws of chains, for any things that have a number and a parent's number; and that the empty register has its shape. Assumes nothing.
 use mathlib.Core.Path.{_≡_, refl, ap, sym, _∙_}
 use mathlib.Core.Bool.{true, false, and-false}
 use mathlib.Core.List.{List, [], _∷_, map}
@@ -8,8 +8,9 @@ use borrow.Author.Tests.{eqb-true, eq-eqb, ne-eqb, lt-ltb}
 use lib.Dec.{eqb, ltb}
 use lib.ListN.{length, length-replicate}
 use Rattle.lists.specs.Tests.{cases, and-right}
-use Rattle.lists.specs.Each.{All, cons-clash, any-map}
+use Rattle.lists.specs.Each.{cons-clash, any-map}
 use Rattle.lists.specs.Fills.{all-replicate}
+use Rattle.lists.specs.Lists.{All}
 use Rattle.register.specs.Limits.{actorLimit, resourceLimit, claimLimit, pathLimit}
 use Rattle.register.specs.Register.{noActor, noResource, noClaim, emptyRegister, Shaped}
 use Rattle.register.specs.Chain.{numbered, chain, rootGranted, circling}

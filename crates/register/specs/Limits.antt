@@ -1,4 +1,4 @@
--- The numbers of 01, each once, and what it is to be in range. The code reads them by name from the crate `register`.
+-- Believed: The numbers of 01, each once, and what it is to be in range. The code reads them by name from the crate `register`.
 use mathlib.Core.Bool.{Bool, _&&_}
 use Prim.Native.Nat.{ℕ, _^_}
 use lib.Dec.{leb}

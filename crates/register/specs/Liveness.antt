@@ -1,15 +1,15 @@
--- When a claim is live, in plain words: what each claim on its chain has. Assumes nothing.
-use mathlib.Core.Path.{_≡_, refl, sym, ap, _∙_}
-use mathlib.Core.Bool.{true, false, not, _&&_}
+-- Laws: When a claim is live, in plain words: what each claim on its chain has. Assumes nothing.
+use mathlib.Core.Path.{_≡_, sym, _∙_}
+use mathlib.Core.Bool.{true, not}
 use mathlib.Core.List.{List}
-use mathlib.Core.Logic.{_⊎_, inl, inr, ⊎-elim}
-use Prim.Native.Nat.{ℕ, _<_}
+use mathlib.Core.Logic.{inl, inr, ⊎-elim}
+use Prim.Native.Nat.{ℕ}
 use borrow.Author.Tests.{eqb-true, eqb-false, eq-eqb, ne-eqb, ltb-true, lt-ltb, le-ltb, leb-true, leb-false}
 use lib.Dec.{eqb, leb, ltb}
 use Rattle.lists.specs.Tests.{cases, and-left, and-right, and-both}
-use Rattle.lists.specs.Lists.{every}
-use Rattle.lists.specs.Each.{All, all-imp, every-all, all-every}
-use Rattle.register.specs.Chain.{chainOf, expired, current, live}
+use Rattle.lists.specs.Lists.{All}
+use Rattle.lists.specs.Each.{all-imp, every-all, all-every}
+use Rattle.register.specs.Chain.{chainOf, expired, current, live, Lasting}
 use Rattle.register.specs.declared.Claim.{Claim}
 
 -- an expiry is above a moment where it is not at or before it
@@ -17,11 +17,6 @@ pub above-unpast : (now expiry : ℕ) → not (leb expiry now) ≡ ltb now expir
 above-unpast now expiry =
     cases (leb expiry now) (λ e. rw (e, le-ltb now expiry (leb-true expiry now e)))
     (λ e. rw (e, lt-ltb now expiry (leb-false expiry now e)))
-
--- a claim that has weight, and that never expires or does so after the moment
-pub record Lasting (now : ℕ) (c : Claim) : Type 0 where
-  pub weighs : 0 < c .weight
-  pub lasts : (c .expiry ≡ 0) ⊎ (now < c .expiry)
 
 module _ (now : ℕ) (c : Claim) where
   -- one that expires at all has not expired where its expiry is above the moment

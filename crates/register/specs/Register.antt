@@ -1,9 +1,9 @@
--- The three lists of a register, when two registers are the same, the empty register, and the shape that every register has by its type.
+-- Believed: The three lists of a register, when two registers are the same, the empty register, and the shape that every register has by its type.
 use mathlib.Core.Path.{_≡_}
 use mathlib.Core.List.{List, map}
 use Prim.Native.Nat.{ℕ}
 use lib.ListN.{length, take, replicate}
-use Rattle.lists.specs.Each.{All}
+use Rattle.lists.specs.Lists.{All}
 use Rattle.register.specs.Limits.{actorLimit, resourceLimit, claimLimit, pathLimit}
 use Rattle.register.specs.declared.Actor.{Actor}
 use Rattle.register.specs.declared.Resource.{Resource}

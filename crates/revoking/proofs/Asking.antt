@@ -7,8 +7,8 @@ use borrow.Author.Tests.{eq-eqb, ne-eqb}
 use lib.Dec.{eqb}
 use lib.ListN.{take, getD, List·getD-map}
 use Rattle.lists.specs.Tests.{eqb-turned}
-use Rattle.lists.specs.Lists.{any, any-reverse}
-use Rattle.lists.specs.Each.{each-all, any-same, any-map}
+use Rattle.lists.specs.Lists.{any}
+use Rattle.lists.specs.Each.{each-all, any-same, any-map, any-reverse}
 use Rattle.register.specs.Register.{noClaim}
 use Rattle.register.specs.Chain.{latest, chain}
 use Rattle.register.specs.declared.Claim.{Claim}

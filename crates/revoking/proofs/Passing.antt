@@ -9,9 +9,10 @@ use native.Mathlib.Omega.{arith}
 use lib.Dec.{eqb}
 use lib.ListN.{length, take, getD, set, replicate, length-set, length-take, length-reverse}
 use lib.Seq.{take-suc-set, getD-take}
-use Rattle.lists.specs.Lists.{any, any-reverse}
+use Rattle.lists.specs.Lists.{any, trim}
 use Rattle.lists.specs.Fills.{put-first}
-use Rattle.lists.specs.Trims.{trim, trim-nil, trim-hit, trim-miss}
+use Rattle.lists.specs.Trims.{trim-nil, trim-hit, trim-miss}
+use Rattle.lists.specs.Each.{any-reverse}
 use Rattle.register.specs.Limits.{claimLimit}
 use Rattle.register.specs.Register.{claimsOf, noClaim}
 use Rattle.register.specs.Chain.{latest}

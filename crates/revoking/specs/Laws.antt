@@ -1,4 +1,4 @@
--- What the pass over marked claims leaves, where no two have one number: what is drawn from a number goes exactly where that number is among
+-- Laws: What the pass over marked claims leaves, where no two have one number: what is drawn from a number goes exactly where that number is among
 -- those of what goes, so the pass strikes what the marks name with all that is drawn from it. Assumes nothing.
 use mathlib.Core.Path.{_≡_, refl, ap, sym, _∙_}
 use mathlib.Core.Bool.{Bool, true, false, _||_}
@@ -10,9 +10,9 @@ use lib.Dec.{eqb}
 use lib.ListN.{length, take, getD, length-take}
 use lib.Seq.{take-all, getD-take}
 use Rattle.lists.specs.Tests.{cases, clash}
-use Rattle.lists.specs.Lists.{any}
-use Rattle.lists.specs.Each.{Each, All, all-imp, each-imp, each-behind}
-use Rattle.lists.specs.Trims.{trim, trim-same, trim-map}
+use Rattle.lists.specs.Lists.{any, Each, All, trim}
+use Rattle.lists.specs.Each.{all-imp, each-imp, each-behind}
+use Rattle.lists.specs.Trims.{trim-same, trim-map}
 use Rattle.register.specs.Register.{claimsOf, noClaim}
 use Rattle.register.specs.Chain.{latest, chain, numbered}
 use Rattle.register.specs.Laws.{chain-ind, numbered-own, numbered-id}
@@ -20,13 +20,14 @@ use Rattle.register.specs.declared.Claim.{Claim}
 use Rattle.register.specs.declared.Register.{Register}
 use Rattle.rules.specs.Sound.{sound}
 use Rattle.rules.specs.Registers.{sound-out}
-use Rattle.rules.specs.Striking.{struck, strike, Distinct, sound-distinct}
+use Rattle.rules.specs.Striking.{Distinct, sound-distinct}
 use Rattle.columns.specs.Columns.{claimId, parentOf, places}
 use Rattle.columns.specs.Laws.{places-latest}
 use Rattle.refusals.specs.Refusals.{outcomeOf}
 use Rattle.changes.specs.Changes.{worldIn, Withdrawal, revoke, clearResource, clearExpired, names, standing, revokeTests, clearResourceTests, clearExpiredTests, withdrawTests, withdrawn}
 use Rattle.refusals.specs.Laws.{outcome-cases, outcome-accepted}
 use Rattle.refusals.specs.declared.Outcome.the-variants.{Accepted}
+use Rattle.rules.specs.Struck.{struck, strike}
 use Rattle.revoking.specs.Struck.{numbersGone, goes, spared, struckClaims, answered}
 
 module _ {C : Type 0} (id up : C → ℕ) (P : C → Bool) where

@@ -1,12 +1,11 @@
--- What is left of a register's claims when those with a mark go with all that is drawn from them, as one pass over them finds it. Shaped for
+-- Working: What is left of a register's claims when those with a mark go with all that is drawn from them, as one pass over them finds it. Shaped for
 -- the code: where no two claims have one number, it is what `strike` leaves (Laws).
 use mathlib.Core.Bool.{Bool, false, _||_, cond}
 use mathlib.Core.List.{List, [], _∷_, _++_, map}
 use Prim.Native.Nat.{ℕ, _-_}
 use lib.Dec.{eqb}
 use lib.ListN.{length, getD, replicate}
-use Rattle.lists.specs.Lists.{any}
-use Rattle.lists.specs.Trims.{trim}
+use Rattle.lists.specs.Lists.{any, trim}
 use Rattle.register.specs.Limits.{claimLimit}
 use Rattle.register.specs.Register.{claimsOf, noClaim}
 use Rattle.register.specs.Chain.{latest}

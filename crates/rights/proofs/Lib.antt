@@ -1,4 +1,5 @@
 pub mod Table
 pub mod Masks
+pub mod Kept
 pub mod Theorems
 pub mod Cases

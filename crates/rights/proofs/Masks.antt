@@ -2,21 +2,21 @@
 -- right of a number through a mask. Assumes nothing.
 use mathlib.Core.Path.{_≡_, refl, sym, ap, ap₂, _∙_}
 use mathlib.Core.Bool.{Bool, true, Bool·beq}
-use Prim.Native.Nat.{ℕ, zero, suc, _+_, _-_, _*_, _/_, _%_, _^_, _≤_, _<_, zero-le}
+use Prim.Native.Nat.{ℕ, zero, suc, _+_, _-_, _*_, _/_, _%_, _^_, _≤_, _<_, zero-le, min}
 use native.Mathlib.Nat.{pow-suc, pow-succ', div-div-eq-div-mul, div-one, div-add-mod', mod-lt, min-eq-left, zero-lt-suc, mod-eq-of-lt}
 use native.Mathlib.Omega.{arith}
 use lib.Dec.{eqb, ltb}
-use lib.Bits.{bitAnd, and-step, and-shr, and-mod, and-le-r}
+use lib.Bits.{bitAnd, and-step, and-shr, and-mod, and-le-r, and-zero-r}
 use lib.Pow.{pow-pos, field, mod-mod-pow}
-use borrow.Author.Tests.{eq-eqb, eqb-true, ltb-true, lt-ltb}
-use Rattle.lists.specs.Tests.{and-right, and-both, iff-same, beq-same}
+use borrow.Author.Tests.{eq-eqb, eqb-true, eqb-false, ltb-true, lt-ltb}
+use Rattle.lists.specs.Tests.{cases, and-right, and-both, iff-same, beq-same}
 use Rattle.lists.specs.Lists.{every}
 use Rattle.lists.specs.Counts.{every-counted-sound}
 use Rattle.rights.specs.Rights.{rightCount, theRights, isRight, worthOf, isRights, hasRight, hasRights}
 use Rattle.rights.specs.Laws.{had-right, has-rights-sound, has-rights-complete}
 
 -- digit b of n
-abbrev digit : ℕ → ℕ → ℕ
+abbrev pub digit : ℕ → ℕ → ℕ
 digit n b = n / 2 ^ b % 2
 
 digit-small : (n b : ℕ) → digit n b < 2
@@ -30,11 +30,11 @@ digit-last : (n : ℕ) → digit n 0 ≡ n % 2
 digit-last n = ap (λ (x : ℕ). x % 2) (div-one n)
 
 -- a right that is had is a digit that is 1
-right-digit : (n b : ℕ) → hasRight n b ≡ true → digit n b ≡ 1
+pub right-digit : (n b : ℕ) → hasRight n b ≡ true → digit n b ≡ 1
 unfolding hasRight
 right-digit n b h = eqb-true (digit n b) 1 (and-right (isRight b) (eqb (digit n b) 1) h)
 
-right-had : (n b : ℕ) → isRight b ≡ true → digit n b ≡ 1 → hasRight n b ≡ true
+pub right-had : (n b : ℕ) → isRight b ≡ true → digit n b ≡ 1 → hasRight n b ≡ true
 unfolding hasRight
 right-had n b is one = and-both (isRight b) (eqb (digit n b) 1) is (eq-eqb (digit n b) 1 one)
 
@@ -62,6 +62,35 @@ within-sound a n b same one =
     let common : bitAnd (digit a b) (digit n b) ≡ digit a b =
     sym (and-mod (a / 2 ^ b) (n / 2 ^ b) 1) ∙ ap (λ (x : ℕ). x % 2) (sym (and-shr a n b)) ∙ ap (λ (x : ℕ). digit x b) same in
     omega (arith, and-le-r (digit a b) (digit n b), digit-small n b)
+
+common-higher : (k n m b : ℕ) → b < k → digit (n / 2) b ≡ 1 → digit (m / 2) b ≡ 1 → (c : ℕ) × (c < suc k) × (digit n c ≡ 1) × (digit m c ≡ 1)
+common-higher k n m b h one other = (suc b, omega arith, digit-half n b ∙ one, digit-half m b ∙ other)
+
+-- two numbers with a digit in common both have a 1 there, and there is such a place where what they have in common is not 0
+pub common-sound : (k n m : ℕ) → m < 2 ^ k → (bitAnd n m ≡ 0 → ⊥) → (b : ℕ) × (b < k) × (digit n b ≡ 1) × (digit m b ≡ 1)
+common-sound zero n m small some = let none : m ≡ 0 = omega arith in absurd (some (rw none (and-zero-r n)))
+common-sound (suc k) n m small some =
+    let twice : 2 ^ suc k ≡ 2 ^ k * 2 = pow-suc 2 k in
+    let halved : m / 2 < 2 ^ k = omega arith in
+    cases (eqb (min (n % 2) (m % 2)) 1)
+    (λ e. let both : min (n % 2) (m % 2) ≡ 1 = eqb-true (min (n % 2) (m % 2)) 1 e in
+    let one : n % 2 ≡ 1 = omega (arith, both, mod-lt n (zero-lt-suc 1)) in
+    let other : m % 2 ≡ 1 = omega (arith, both, mod-lt m (zero-lt-suc 1)) in
+    (0, omega arith, digit-last n ∙ one, digit-last m ∙ other))
+    (λ e. let none : min (n % 2) (m % 2) ≡ 0 = omega (arith, eqb-false (min (n % 2) (m % 2)) 1 e, mod-lt n (zero-lt-suc 1)) in
+    let found = common-sound k (n / 2) (m / 2) halved (λ zeros. some (and-step n m ∙ rw (zeros, none))) in
+    common-higher k n m (found .0) (found .1) (found .2) (found .3))
+
+digit-zero : (b : ℕ) → digit 0 b ≡ 0
+digit-zero zero = digit-last 0
+digit-zero (suc b) = digit-half 0 b ∙ digit-zero b
+
+pub common-complete : (n m b : ℕ) → digit n b ≡ 1 → digit m b ≡ 1 → bitAnd n m ≡ 0 → ⊥
+common-complete n m b one other none =
+    let common : bitAnd (digit n b) (digit m b) ≡ digit (bitAnd n m) b =
+    sym (and-mod (n / 2 ^ b) (m / 2 ^ b) 1) ∙ ap (λ (x : ℕ). x % 2) (sym (and-shr n m b)) in
+    let ones : bitAnd (digit n b) (digit m b) ≡ 1 = rw (one, other) in
+    omega (arith, common, ones, ap (λ (x : ℕ). digit x b) none, digit-zero b)
 
 -- the digits below k of what is left of m by 2^k are those of m
 digit-low : (m k b : ℕ) → b < k → digit (m % 2 ^ k) b ≡ digit m b

@@ -1,7 +1,6 @@
--- The rule of a table of rights, turned from one test that antt computes over all of its rows into the rule at each place.
--- Assumes nothing.
-use mathlib.Core.Path.{_≡_, refl, ap₂}
-use mathlib.Core.Bool.{Bool, true, false, _&&_, Bool·beq}
+-- The rule of the table of rights, turned from one test that antt computes over all of its rows into the rule at each place. Assumes nothing.
+use mathlib.Core.Path.{_≡_, refl, ap, ap₂}
+use mathlib.Core.Bool.{Bool, true, _&&_, Bool·beq}
 use mathlib.Core.List.{List, [], _∷_}
 use Prim.Native.Nat.{ℕ, zero, suc, _+_, _^_, _<_}
 use native.Mathlib.Nat.{add-zero, zero-add, add-suc, suc-add}
@@ -12,6 +11,7 @@ use borrow.Author.Tests.{eqb-true}
 use Rattle.lists.specs.Tests.{and-left, and-right, beq-same}
 use Rattle.rights.specs.declared.Right.{Right}
 use Rattle.rights.specs.Rights.{rightCount, machineGrants}
+use Rattle.rights.specs.Table.{noRow, theTable}
 
 -- the row that 002 says of right b
 abbrev pub rowOf : ℕ → Right
@@ -41,20 +41,12 @@ ruled-from (r ∷ rows) i t none (suc b) h = rw (add-suc, ← suc-add) (ruled-fr
 ruled-at : (rows : List Right) → ruled 0 rows ≡ true → (none : Right) (b : ℕ) → b < length rows → getD rows b none ≡ rowOf b
 ruled-at rows t none b h = rw zero-add at (ruled-from rows 0 t none b h)
 
-abbrev row : ℕ → Bool → Right
-row w m = record { worth = w; machine = m }
-
--- what is read past the table
-abbrev pub noRow : Right
-noRow = row 0 false
-
--- the code's table: the check of `worth` and `machine_grants` holds it to the source
-abbrev pub theTable : List Right
-theTable =
-    row 1 true ∷ row 2 true ∷ row 4 true ∷ row 8 true ∷ row 16 true ∷ row 32 true
-    ∷ row 64 true ∷ row 128 true ∷ row 256 true ∷ row 512 true ∷ row 1024 true ∷ row 2048 true
-    ∷ row 4096 true ∷ row 8192 false ∷ row 16384 true ∷ row 32768 false ∷ row 65536 false ∷ []
-
 -- the rule at each place, by the test over the whole table
-pub table-ruled : (b : ℕ) → b < rightCount → getD theTable b noRow ≡ rowOf b
+table-ruled : (b : ℕ) → b < rightCount → getD theTable b noRow ≡ rowOf b
 table-ruled b h = ruled-at theTable refl noRow b h
+
+pub table-worth : (b : ℕ) → b < rightCount → getD theTable b noRow .worth ≡ 2 ^ b
+table-worth b h = ap (λ (r : Right). r .worth) (table-ruled b h)
+
+pub table-machine : (b : ℕ) → b < rightCount → getD theTable b noRow .machine ≡ machineGrants b
+table-machine b h = ap (λ (r : Right). r .machine) (table-ruled b h)

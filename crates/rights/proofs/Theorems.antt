@@ -1,24 +1,24 @@
 -- What is proved of rights and rights numbers: the table's rule, what a worth is read as, what it is to have every right of a
 -- number, and what bars a machine. Assumes nothing.
-use mathlib.Core.Path.{_≡_, ap}
+use mathlib.Core.Path.{_≡_}
 use mathlib.Core.Bool.{true, false, _||_}
 use Prim.Native.Nat.{ℕ, _^_, _<_}
 use lib.Dec.{eqb}
 use lib.ListN.{getD}
 use lib.Bits.{bitAnd}
-use Rattle.rights.specs.declared.Right.{Right}
 use Rattle.rights.specs.Rights.{rightCount, auditWriting, registryModifying, policyModifying, isRight, worthOf, machineGrants, isRights, hasRight, hasRights, barsMachine}
 use Rattle.rights.specs.Laws as laws
-use Rattle.rights.proofs.Table.{theTable, noRow, table-ruled}
+use Rattle.rights.specs.Table.{theTable, noRow}
+use Rattle.rights.proofs.Table as table
 use Rattle.rights.proofs.Masks as masks
 
 -- 1a. Right b's place in the code's table says that the right is worth 2^b.
 pub table-worth : (b : ℕ) → b < rightCount → getD theTable b noRow .worth ≡ 2 ^ b
-table-worth b within = ap (λ (r : Right). r .worth) (table-ruled b within)
+table-worth = table.table-worth
 
 -- 1b. Right b's place in the code's table says whether a machine may grant the right.
 pub table-machine : (b : ℕ) → b < rightCount → getD theTable b noRow .machine ≡ machineGrants b
-table-machine b within = ap (λ (r : Right). r .machine) (table-ruled b within)
+table-machine = table.table-machine
 
 -- 2. The worth of a right, read as a rights number, has that right and no other.
 pub worth-alone : (b c : ℕ) → isRight b ≡ true → isRight c ≡ true → hasRight (worthOf b) c ≡ eqb b c

@@ -1,4 +1,4 @@
--- What the definitions of rights numbers say right by right, and what follows from it. Assumes nothing.
+-- Laws: What the definitions of rights numbers say right by right, and what follows from it. Assumes nothing.
 use mathlib.Core.Path.{_≡_, refl}
 use mathlib.Core.Bool.{Bool, true, false, not, _&&_, _||_, and-false, and-true, or-false}
 use Prim.Native.Nat.{ℕ, _/_, _%_, _^_, zero-le}

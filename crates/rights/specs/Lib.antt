@@ -1,2 +1,3 @@
 pub mod Rights
 pub mod Laws
+pub mod Table

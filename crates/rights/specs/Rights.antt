@@ -1,5 +1,5 @@
--- The seventeen rights of 002, section 4: what each is worth in a rights number, which of them a machine may grant, and how a
--- rights number is read.
+-- Believed: The seventeen rights of 002, section 4: what each is worth in a rights number, which of them a machine may grant, and how a rights number
+-- is read.
 use mathlib.Core.Bool.{Bool, not, _&&_, _||_, cond}
 use mathlib.Core.List.{List, [], _∷_}
 use Prim.Native.Nat.{ℕ, _/_, _%_, _^_}

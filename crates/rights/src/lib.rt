@@ -165,15 +165,21 @@ pub fn has_all(n: u32, m: u32) -> bool
     asked & n == asked
 }
 
-// Whether the rights number `n` has a right that a machine may not grant: one of the three that the table keeps from machines.
+// Whether the rights number `n` has a right that a machine may not grant. What it may not grant is read off the table, as one rights
+// number: the sum of the worths of the rows that say so.
 pub fn bars_machine(n: u32) -> bool
     ensures { λ r. ⌜ r ≡ barsMachine n ⌝ }
 {
-    if has(n, AUDIT_WRITE) {
-        return true;
+    let table = RIGHTS;
+    let mut kept: u32 = 0;
+    let mut b: usize = 0;
+    while b < COUNT {
+        if table[b].machine {
+            b += 1;
+        } else {
+            kept += table[b].worth;
+            b += 1;
+        }
     }
-    if has(n, REGISTRY_MODIFY) {
-        return true;
-    }
-    has(n, POLICY_MODIFY)
+    n & kept != 0
 }

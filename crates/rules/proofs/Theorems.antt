@@ -7,23 +7,20 @@ use mathlib.Core.List.{List, [], _∷_, _++_, map}
 use Prim.Native.Nat.{ℕ, suc, _≤_}
 use lib.Dec.{eqb}
 use lib.ListN.{length, take}
-use Rattle.lists.specs.Tests.{ands}
-use Rattle.lists.specs.Lists.{any, every}
-use Rattle.lists.specs.Trims.{filter}
+use Rattle.lists.specs.Lists.{any, every, ands, filter}
 use Rattle.register.specs.Limits.{hopLimit}
 use Rattle.register.specs.Register.{Same}
 use Rattle.register.specs.Chain.{latest, chain, above, hopsOf, chainOf}
 use Rattle.register.specs.declared.Claim.{Claim}
 use Rattle.register.specs.declared.Register.{Register}
 use Rattle.rules.specs.Sound.{World, distinct, claimFits, namesStand, rootKept, machineMay, acceptable, soundClaims, sound}
-use Rattle.rules.specs.Chains.{Climbs, rootOf}
-use Rattle.rules.specs.Striking.{struck, strike}
-use Rattle.rules.specs.Natural.{eachDrawn}
 use Rattle.rules.specs.Places as places
 use Rattle.rules.specs.Chains as chains
 use Rattle.rules.specs.Striking as striking
 use Rattle.rules.specs.Sameness as sameness
-use Rattle.rules.specs.Natural as natural
+use Rattle.rules.proofs.Natural as natural
+use Rattle.rules.specs.Struck.{struck, strike}
+use Rattle.rules.specs.Roots.{Climbs, rootOf, eachDrawn}
 
 -- 1. The first claims of a sound register are sound.
 pub prefix-sound : (w : World) (n : ℕ) (cs : List Claim) → soundClaims w (latest cs) ≡ true → soundClaims w (latest (take n cs)) ≡ true

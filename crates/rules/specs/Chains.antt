@@ -1,5 +1,5 @@
--- Chains in a sound list of claims, latest first: they reach a root, and may be looked up among all claims as among the earlier ones.
--- Assumes nothing.
+-- Laws: Chains in a sound list of claims, latest first: they reach a root, and may be looked up among all claims as among the earlier ones. Assumes
+-- nothing.
 use mathlib.Core.Path.{_≡_, refl, ap, sym, _∙_}
 use mathlib.Core.Bool.{true}
 use mathlib.Core.List.{List, [], _∷_, _++_}
@@ -15,16 +15,7 @@ use Rattle.register.specs.declared.Claim.{Claim}
 use Rattle.rules.specs.Sound.{World, soundClaims}
 use Rattle.rules.specs.Laws.{acceptable-out, claim-fits-out, drawn-stands, fresh-out}
 use Rattle.rules.specs.Places.{latest-acceptable, earlier-sound, prefix-sound, place-acceptable}
-
--- the chain of number p as a list: its first has that number, each next one has its parent's number, and the last one's parent's number is 0
-abbrev pub Climbs : ℕ → List Claim → Type 0
-Climbs p [] = p ≡ 0
-Climbs p (d ∷ higher) = (d .id ≡ p) × Climbs (d .parent) higher
-
--- the root of a chain: the last of a claim and of those above it
-abbrev pub rootOf : Claim → List Claim → Claim
-rootOf c [] = c
-rootOf c (p ∷ higher) = rootOf p higher
+use Rattle.rules.specs.Roots.{Climbs, rootOf}
 
 -- it is a root's grantor that (e) asks of
 pub root-granted-root : (c : Claim) (higher : List Claim) (h : ℕ) → rootGranted (λ d. d .grantor) (c ∷ higher) h ≡ eqb (rootOf c higher .grantor) h

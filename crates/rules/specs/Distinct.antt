@@ -1,4 +1,4 @@
--- Distinct numbers with one more behind them. Assumes nothing.
+-- Laws: Distinct numbers with one more behind them. Assumes nothing.
 use mathlib.Core.Path.{_≡_, refl, sym, _∙_}
 use mathlib.Core.Bool.{Bool, true, false, not, _&&_, _||_, and-false, or-true, or-false}
 use mathlib.Core.List.{List, [], _∷_, _++_}
@@ -6,7 +6,8 @@ use Prim.Native.Nat.{ℕ}
 use borrow.Author.Tests.{eq-eqb, eqb-true, not-true}
 use lib.Dec.{eqb}
 use Rattle.lists.specs.Tests.{cases, clash, and-left, and-right, or-other, eqb-turned}
-use Rattle.lists.specs.Lists.{any, any-append}
+use Rattle.lists.specs.Lists.{any}
+use Rattle.lists.specs.Each.{any-append}
 use Rattle.rules.specs.Sound.{distinct}
 use Rattle.rules.specs.Registers.{distinct-cons}
 

@@ -1,4 +1,4 @@
--- What each judgement of soundness says, part by part: from the judgement to its parts (`-out`) and back (`-in`). Assumes nothing.
+-- Laws: What each judgement of soundness says, part by part: from the judgement to its parts (`-out`) and back (`-in`). Assumes nothing.
 use mathlib.Core.Path.{_≡_, refl, sym, _∙_}
 use mathlib.Core.Bool.{true, false, not, _&&_}
 use mathlib.Core.List.{List, [], _∷_}
@@ -8,14 +8,15 @@ use borrow.Author.Tests.{eqb-true, eqb-false, leb-true, ltb-true, not-true, eq-e
 use lib.Dec.{eqb, leb, ltb}
 use lib.ListN.{length}
 use Rattle.lists.specs.Tests.{cases, clash, and-left, and-right, and-both, or-other, or-second}
-use Rattle.lists.specs.Lists.{any}
-use Rattle.lists.specs.Each.{All, all-imp, none-all, all-none, ands-out, list-cases, cons-clash}
+use Rattle.lists.specs.Lists.{any, All}
+use Rattle.lists.specs.Each.{all-imp, none-all, all-none, ands-out, list-cases, cons-clash}
 use Rattle.rights.specs.Rights.{rightCount, delegating, isRights, hasRight, hasRights, barsMachine}
 use Rattle.register.specs.Limits.{isId, ranged, hopLimit, idLimit, weightLimit, momentEnd}
 use Rattle.register.specs.Chain.{above, circling}
 use Rattle.register.specs.Laws.{chain-zero}
 use Rattle.register.specs.declared.Claim.{Claim}
 use Rattle.rules.specs.Sound.{World, claimFits, namesStand, rootKept, drawnFrom, machineMay, withinHops, overChain, drawn, fresh, alone, over, acceptable}
+use Rattle.rules.specs.Roots.{DrawnFrom}
 
 -- a claim's fields are in their ranges
 pub record Fits (c : Claim) : Type 0 where
@@ -125,14 +126,6 @@ machine-may-out w c h machine =
 pub machine-may-in : (w : World) (c : Claim) → (w .machine (c .grantor) ≡ true → MachineGranted w c) → machineMay w c ≡ true
 unfolding machineMay
 machine-may-in w c may = cases (w .machine (c .grantor)) (λ e. let granted = may e in rw (e, granted .owned, granted .free)) (λ e. rw e)
-
--- (b), of a claim and its parent
-pub record DrawnFrom (p c : Claim) : Type 0 where
-  pub held : p .holder ≡ c .grantor
-  pub onSame : p .resource ≡ c .resource
-  pub delegates : hasRight (p .rights) delegating ≡ true
-  pub contains : hasRights (p .rights) (c .rights) ≡ true
-  pub weighs : c .weight ≤ p .weight
 
 pub drawn-from-out : (p c : Claim) → drawnFrom p c ≡ true → DrawnFrom p c
 unfolding drawnFrom

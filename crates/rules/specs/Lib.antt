@@ -1,4 +1,6 @@
 pub mod Sound
+pub mod Struck
+pub mod Roots
 pub mod Laws
 pub mod Registers
 pub mod Distinct
@@ -6,4 +8,3 @@ pub mod Places
 pub mod Chains
 pub mod Striking
 pub mod Sameness
-pub mod Natural

@@ -1,21 +1,23 @@
--- What soundness says of claims at their places, latest first: of the earlier claims, of one more claim, of chains and of ids.
--- Assumes nothing.
-use mathlib.Core.Path.{_≡_, refl, sym}
+-- Laws: What soundness says of claims at their places, latest first: of the earlier claims, of one more claim, of chains and of ids. Assumes nothing.
+use mathlib.Core.Path.{_≡_, refl, sym, ap, _∙_}
 use mathlib.Core.Bool.{true, false, _&&_}
 use mathlib.Core.List.{List, [], _∷_, _++_, reverse-append}
-use Prim.Native.Nat.{ℕ, _≤_}
+use Prim.Native.Nat.{ℕ, _≤_, suc, _<_}
+use native.Mathlib.Omega.{arith}
 use borrow.Author.Tests.{eqb-false}
 use lib.Dec.{eqb}
-use lib.ListN.{take, drop, take-append-drop}
+use lib.ListN.{take, drop, take-append-drop, length, getD}
+use lib.Seq.{take-suc, take-take}
 use Rattle.lists.specs.Tests.{cases, and-left, and-right, and-both}
 use Rattle.lists.specs.Lists.{any}
 use Rattle.lists.specs.Each.{all-imp, all-append-right, none-all}
 use Rattle.register.specs.Limits.{hopLimit}
+use Rattle.register.specs.Register.{noClaim}
 use Rattle.register.specs.Chain.{latest, hopsOf, numbered}
 use Rattle.register.specs.Laws.{chain-absent, numbered-other}
 use Rattle.register.specs.declared.Claim.{Claim}
 use Rattle.rules.specs.Sound.{World, acceptable, soundClaims}
-use Rattle.rules.specs.Laws.{Acceptable, acceptable-out, drawn-stands, drawn-hops, fresh-out}
+use Rattle.rules.specs.Laws.{Acceptable, acceptable-out, drawn-stands, drawn-hops, fresh-out, claim-fits-out}
 
 module _ (w : World) where
   pub sound-claims-nil : soundClaims w [] ≡ true
@@ -46,6 +48,16 @@ module _ (w : World) where
   take-sound n cs h =
       prefix-sound (latest (drop n cs)) (latest (take n cs))
       (rw (← reverse-append (take n cs) (drop n cs), take-append-drop n cs) h)
+
+  -- no claim of a register has the number 0
+  pub claim-numbered : (n : ℕ) (cs : List Claim) → soundClaims w (latest (take n cs)) ≡ true → (j : ℕ) → j < n → j < length cs → getD cs j noClaim .id ≡ 0 → ⊥
+  claim-numbered n cs h j below inside none =
+      let first : soundClaims w (latest (take (suc j) cs)) ≡ true = rw (take-take (suc j) n cs below) at (take-sound (suc j) (take n cs) h) in
+      let last : latest (take (suc j) cs) ≡ getD cs j noClaim ∷ latest (take j cs) =
+      ap latest (take-suc cs j noClaim inside) ∙ reverse-append (take j cs) (getD cs j noClaim ∷ []) in
+      let fits = claim-fits-out (getD cs j noClaim)
+      (acceptable-out w (latest (take j cs)) (getD cs j noClaim) (latest-acceptable (getD cs j noClaim) (latest (take j cs)) (rw last at first)) .byItself .fits) in
+      omega (arith, none, fits .idLeast)
 
   -- one more claim at the end of a register's claims
   pub append-sound : (cs : List Claim) (c : Claim) → soundClaims w (latest (cs ++ (c ∷ []))) ≡ acceptable w (latest cs) c && soundClaims w (latest cs)

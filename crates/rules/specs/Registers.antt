@@ -1,5 +1,5 @@
--- What soundness says of a register's counts, actors and resources, part by part: from the judgement to its parts (`-out`) and back
--- (`-in`). Assumes nothing.
+-- Laws: What soundness says of a register's counts, actors and resources, part by part: from the judgement to its parts (`-out`) and back (`-in`).
+-- Assumes nothing.
 use mathlib.Core.Path.{_≡_, refl}
 use mathlib.Core.Bool.{Bool, true, not, _&&_, _||_}
 use mathlib.Core.List.{List, [], _∷_, map}

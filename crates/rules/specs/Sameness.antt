@@ -1,11 +1,10 @@
--- Registers that are the same are judged alike: what stands past a count or past a path never matters. Assumes nothing.
+-- Laws: Registers that are the same are judged alike: what stands past a count or past a path never matters. Assumes nothing.
 use mathlib.Core.Path.{_≡_, refl, ap, sym, _∙_, fun-ext}
 use mathlib.Core.Bool.{Bool, _&&_}
 use mathlib.Core.List.{List, [], _∷_, map}
 use Prim.Native.Nat.{ℕ}
 use lib.Dec.{eqb, leb}
-use Rattle.lists.specs.Tests.{ands}
-use Rattle.lists.specs.Lists.{any, every}
+use Rattle.lists.specs.Lists.{any, every, ands}
 use Rattle.lists.specs.Each.{any-map, every-map}
 use Rattle.register.specs.Limits.{isId, ranged, pathLimit, pathByteLeast, pathByteGreatest}
 use Rattle.register.specs.Register.{actorsOf, resourcesOf, claimsOf, Standing, resourceStanding, Same}

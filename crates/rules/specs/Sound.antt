@@ -1,11 +1,10 @@
--- When a register is sound, rule by rule in 01's words.
+-- Believed: When a register is sound, rule by rule in 01's words.
 use mathlib.Core.Bool.{Bool, true, false, not, _&&_, _||_}
 use mathlib.Core.List.{List, [], _∷_, map}
 use Prim.Native.Nat.{ℕ}
 use lib.Dec.{eqb, leb, ltb}
 use lib.ListN.{length}
-use Rattle.lists.specs.Tests.{ands}
-use Rattle.lists.specs.Lists.{any, every}
+use Rattle.lists.specs.Lists.{any, every, ands}
 use Rattle.rights.specs.Rights.{delegating, isRights, hasRight, hasRights, barsMachine}
 use Rattle.register.specs.Limits.{actorLimit, resourceLimit, claimLimit, hopLimit, pathLimit, idLimit, weightLimit, momentEnd, pathByteLeast, pathByteGreatest, humanKind}
 use Rattle.register.specs.Limits.{machineKind, ranged, isId}

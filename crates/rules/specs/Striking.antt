@@ -1,83 +1,76 @@
--- Striking what a test names with all that is drawn from it: the rest keeps its order, its chains and its soundness. Assumes nothing.
+-- Laws: Striking what a test names with all that is drawn from it: the rest keeps its order, its chains and its soundness. Assumes nothing.
 use mathlib.Core.Path.{_≡_, ap, sym, _∙_}
 use mathlib.Core.Bool.{Bool, true, false, not, _||_, or-true, or-false}
 use mathlib.Core.List.{List, [], _∷_, reverse-reverse}
 use Prim.Native.Nat.{ℕ, _≤_, _<_}
 use lib.ListN.{length}
 use Rattle.lists.specs.Tests.{cases, or-left, or-right, or-middle}
-use Rattle.lists.specs.Lists.{any}
-use Rattle.lists.specs.Each.{Each, All, each-all, each-imp, each-both, all-imp, each-behind, any-same, any-either, all-none}
-use Rattle.lists.specs.Trims.{trim, filter, trim-nil, trim-hit, trim-miss, trim-ind, all-trim, trim-length, trim-none, trim-same, trim-trim, filter-not, filter-reverse}
+use Rattle.lists.specs.Lists.{any, Each, All, filter}
+use Rattle.lists.specs.Each.{each-all, each-imp, each-both, all-imp, each-behind, any-same, any-either, all-none}
+use Rattle.lists.specs.Trims.{trim-nil, trim-hit, trim-miss, trim-ind, all-trim, trim-length, trim-none, trim-same, trim-trim, filter-not, filter-reverse}
 use Rattle.register.specs.Chain.{latest, chain}
 use Rattle.register.specs.Laws.{chain-nil, chain-hit, chain-miss, chain-ind, all-chain, chain-absent, numbered-own, numbered-id, numbered-other}
 use Rattle.register.specs.declared.Claim.{Claim}
 use Rattle.rules.specs.Sound.{World, soundClaims, acceptable}
 use Rattle.rules.specs.Laws.{acceptable-out, acceptable-in, claim-fits-out, fresh-out, fresh-in, drawn-same}
 use Rattle.rules.specs.Places.{sound-claims-in, latest-acceptable, earlier-sound}
+use Rattle.rules.specs.Struck.{struck, strike}
 
 module _ {C : Type 0} (id up : C → ℕ) where
-  -- whether P names c, or one on the chain above it among the earlier ones
-  abbrev pub struck : (C → Bool) → List C → C → Bool
-  struck P earlier c = P c || any P (chain id up earlier (up c))
-
-  -- what is left, in its order, when all that P names goes with all that is drawn from it
-  abbrev pub strike : (C → Bool) → List C → List C
-  strike P L = trim (struck P) L
-
   -- each has a number above 0 that none behind it has
   abbrev pub Distinct : List C → Type 0
   Distinct L = Each (λ M c. (0 < id c) × All (λ d. id c ≡ id d → ⊥) M) L
 
   -- where c is not struck, nothing above it is named
-  pub above-spared : (P : C → Bool) (L : List C) (c : C) → struck P L c ≡ false → any P (chain id up L (up c)) ≡ false
+  pub above-spared : (P : C → Bool) (L : List C) (c : C) → struck id up P L c ≡ false → any P (chain id up L (up c)) ≡ false
   above-spared P L c e = or-right (P c) (any P (chain id up L (up c))) e
 
   -- not more stand than before
-  pub strike-length : (P : C → Bool) (L : List C) → length (strike P L) ≤ length L
-  strike-length P L = trim-length (struck P) L
+  pub strike-length : (P : C → Bool) (L : List C) → length (strike id up P L) ≤ length L
+  strike-length P L = trim-length (struck id up P) L
 
   -- nothing that is left is named
-  pub strike-spared : (P : C → Bool) (L : List C) → All (λ c. P c ≡ false) (strike P L)
-  strike-spared P = trim-ind (struck P) (λ L K. All (λ c. P c ≡ false) K) tt (λ c L e ih. ih)
+  pub strike-spared : (P : C → Bool) (L : List C) → All (λ c. P c ≡ false) (strike id up P L)
+  strike-spared P = trim-ind (struck id up P) (λ L K. All (λ c. P c ≡ false) K) tt (λ c L e ih. ih)
       (λ c L e ih. (or-left (P c) (any P (chain id up L (up c))) e, ih))
 
   -- a chain on which nothing is named is the same afterwards
-  pub chain-strike : (P : C → Bool) (L : List C) (p : ℕ) → any P (chain id up L p) ≡ false → chain id up (strike P L) p ≡ chain id up L p
-  chain-strike P = chain-ind id up (λ L p H. any P H ≡ false → chain id up (strike P L) p ≡ H)
-      (λ p h. rw (trim-nil (struck P)) (chain-nil id up p))
-      (λ c L p e ih h. rw (trim-miss (struck P) c L h, chain-hit id up c (strike P L) p e, ih (above-spared P L c h)))
-      (λ c L p e ih h. cases (struck P L c) (λ f. rw (trim-hit (struck P) c L f) (ih h))
-      (λ f. rw (trim-miss (struck P) c L f, chain-miss id up c (strike P L) p e) (ih h)))
+  pub chain-strike : (P : C → Bool) (L : List C) (p : ℕ) → any P (chain id up L p) ≡ false → chain id up (strike id up P L) p ≡ chain id up L p
+  chain-strike P = chain-ind id up (λ L p H. any P H ≡ false → chain id up (strike id up P L) p ≡ H)
+      (λ p h. rw (trim-nil (struck id up P)) (chain-nil id up p))
+      (λ c L p e ih h. rw (trim-miss (struck id up P) c L h, chain-hit id up c (strike id up P L) p e, ih (above-spared P L c h)))
+      (λ c L p e ih h. cases (struck id up P L c) (λ f. rw (trim-hit (struck id up P) c L f) (ih h))
+      (λ f. rw (trim-miss (struck id up P) c L f, chain-miss id up c (strike id up P L) p e) (ih h)))
 
   -- what is left has the chain that it had
-  pub above-kept : (P : C → Bool) (L : List C) (c : C) → struck P L c ≡ false → chain id up (strike P L) (up c) ≡ chain id up L (up c)
+  pub above-kept : (P : C → Bool) (L : List C) (c : C) → struck id up P L c ≡ false → chain id up (strike id up P L) (up c) ≡ chain id up L (up c)
   above-kept P L c e = chain-strike P L (up c) (above-spared P L c e)
 
   -- what had something named on its chain does not stand afterwards
-  pub chain-gone : (P : C → Bool) (L : List C) (p : ℕ) → Distinct L → any P (chain id up L p) ≡ true → chain id up (strike P L) p ≡ []
-  chain-gone P = chain-ind id up (λ L p H. Distinct L → any P H ≡ true → chain id up (strike P L) p ≡ [])
-      (λ p d k. rw (trim-nil (struck P)) (chain-nil id up p))
-      (λ c L p e ih d k. rw (trim-hit (struck P) c L k) (chain-absent id up (strike P L) p (all-trim (struck P) _ L
+  pub chain-gone : (P : C → Bool) (L : List C) (p : ℕ) → Distinct L → any P (chain id up L p) ≡ true → chain id up (strike id up P L) p ≡ []
+  chain-gone P = chain-ind id up (λ L p H. Distinct L → any P H ≡ true → chain id up (strike id up P L) p ≡ [])
+      (λ p d k. rw (trim-nil (struck id up P)) (chain-nil id up p))
+      (λ c L p e ih d k. rw (trim-hit (struck id up P) c L k) (chain-absent id up (strike id up P L) p (all-trim (struck id up P) _ L
       (all-imp (λ x. id c ≡ id x → ⊥) _ (λ x apart. numbered-other id up p x (λ same. apart (numbered-id id up p c e ∙ sym same))) L (d .0 .1)))))
-      (λ c L p e ih d k. cases (struck P L c) (λ f. rw (trim-hit (struck P) c L f) (ih (d .1) k))
-      (λ f. rw (trim-miss (struck P) c L f, chain-miss id up c (strike P L) p e) (ih (d .1) k)))
+      (λ c L p e ih d k. cases (struck id up P L c) (λ f. rw (trim-hit (struck id up P) c L f) (ih (d .1) k))
+      (λ f. rw (trim-miss (struck id up P) c L f, chain-miss id up c (strike id up P L) p e) (ih (d .1) k)))
 
   -- tests that agree strike alike, and a test that names none strikes none
-  pub strike-same : (P Q : C → Bool) (L : List C) → All (λ c. P c ≡ Q c) L → strike P L ≡ strike Q L
-  strike-same P Q L h = trim-same (struck P) (struck Q) L (each-imp _ _
+  pub strike-same : (P Q : C → Bool) (L : List C) → All (λ c. P c ≡ Q c) L → strike id up P L ≡ strike id up Q L
+  strike-same P Q L h = trim-same (struck id up P) (struck id up Q) L (each-imp _ _
       (λ M c k. rw (k .0, any-same P Q (chain id up M (up c)) (all-chain id up (λ c. P c ≡ Q c) M (up c) (k .1)))) L (each-behind (λ M c. P c ≡ Q c) L h))
 
-  pub strike-none : (P : C → Bool) (L : List C) → All (λ c. P c ≡ false) L → strike P L ≡ L
-  strike-none P L h = trim-none (struck P) L (each-imp _ _
+  pub strike-none : (P : C → Bool) (L : List C) → All (λ c. P c ≡ false) L → strike id up P L ≡ L
+  strike-none P L h = trim-none (struck id up P) L (each-imp _ _
       (λ M c k. rw (k .0) (all-none P (chain id up M (up c)) (all-chain id up (λ c. P c ≡ false) M (up c) (k .1)))) L (each-behind (λ M c. P c ≡ false) L h))
 
   -- to strike twice is to strike what either test names
-  pub strike-strike : (P Q : C → Bool) (L : List C) → strike P (strike Q L) ≡ strike (λ c. P c || Q c) L
-  strike-strike P Q L = trim-trim (struck (λ c. P c || Q c)) (struck P) (struck Q) L (each-all _ (λ M c.
-      let both : struck (λ c. P c || Q c) M c ≡ struck P M c || struck Q M c =
+  pub strike-strike : (P Q : C → Bool) (L : List C) → strike id up P (strike id up Q L) ≡ strike id up (λ c. P c || Q c) L
+  strike-strike P Q L = trim-trim (struck id up (λ c. P c || Q c)) (struck id up P) (struck id up Q) L (each-all _ (λ M c.
+      let both : struck id up (λ c. P c || Q c) M c ≡ struck id up P M c || struck id up Q M c =
       rw (any-either P Q (chain id up M (up c))) (or-middle (P c) (Q c) (any P (chain id up M (up c))) (any Q (chain id up M (up c)))) in (
-        (λ e. both ∙ rw e (or-true (struck P M c))),
-        λ e. rw (above-kept Q M c e) (sym (both ∙ rw e (or-false (struck P M c)))),
+        (λ e. both ∙ rw e (or-true (struck id up P M c))),
+        λ e. rw (above-kept Q M c e) (sym (both ∙ rw e (or-false (struck id up P M c)))),
       )) L)
 
   -- where numbers are distinct, a thing's chain is found by its own number among all
@@ -90,13 +83,13 @@ module _ {C : Type 0} (id up : C → ℕ) where
   )
 
   -- so what goes is what has something named on its chain among all, itself included
-  pub strike-natural : (P : C → Bool) (L : List C) → Distinct L → strike P L ≡ filter (λ c. not (any P (chain id up L (id c)))) L
-  strike-natural P L h = trim-same (struck P) (λ M c. any P (chain id up L (id c))) L (each-imp _ _ (λ M c e. ap (λ H. any P H) (sym e)) L (chain-own L h))
+  pub strike-natural : (P : C → Bool) (L : List C) → Distinct L → strike id up P L ≡ filter (λ c. not (any P (chain id up L (id c)))) L
+  strike-natural P L h = trim-same (struck id up P) (λ M c. any P (chain id up L (id c))) L (each-imp _ _ (λ M c e. ap (λ H. any P H) (sym e)) L (chain-own L h))
       ∙ sym (filter-not (λ c. any P (chain id up L (id c))) L)
 
   -- the same in the order of a register
   pub strike-latest : (P : C → Bool) (cs : List C) → Distinct (latest cs)
-      → latest (strike P (latest cs)) ≡ filter (λ c. not (any P (chain id up (latest cs) (id c)))) cs
+      → latest (strike id up P (latest cs)) ≡ filter (λ c. not (any P (chain id up (latest cs) (id c)))) cs
   strike-latest P cs h = ap latest (strike-natural P (latest cs) h ∙ filter-reverse (λ c. not (any P (chain id up (latest cs) (id c)))) cs) ∙ reverse-reverse _
 
 module _ (w : World) where

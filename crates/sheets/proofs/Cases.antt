@@ -1,8 +1,9 @@
 -- Texts put into small buffers: within one, up to its last byte, and one byte too far. Computed. Assumes nothing.
 use mathlib.Core.Path.{_≡_, refl}
 use mathlib.Core.List.{[], _∷_}
-use Rattle.lists.specs.Splices.{splice}
-use Rattle.sheets.specs.Sheets.{put, behind}
+use Rattle.lists.specs.Lists.{splice}
+use Rattle.sheets.specs.Sheets.{put}
+use Rattle.sheets.specs.Positions.{behind}
 
 put-within : put 1 (7 ∷ 8 ∷ []) (1 ∷ 2 ∷ 3 ∷ 4 ∷ []) ≡ 1 ∷ 7 ∷ 8 ∷ 4 ∷ []
 unfolding splice

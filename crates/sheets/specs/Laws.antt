@@ -1,5 +1,5 @@
--- What a text put into a buffer leaves, where it fits and where it does not; and the law by which a text that is put part by part is
--- written whole. Assumes nothing.
+-- Laws: What a text put into a buffer leaves, where it fits and where it does not; and the law by which a text that is put part by part is written
+-- whole. Assumes nothing.
 use Prim.Native.Nat.{ℕ, _+_, _≤_, _<_}
 use mathlib.Core.Path.{_≡_, refl, sym, ap, _∙_}
 use mathlib.Core.List.{List, [], _++_, append-assoc, append-nil}
@@ -8,8 +8,10 @@ use native.Mathlib.Nat.{add-zero}
 use lib.ListN.{length, take, drop, length-append}
 use lib.Seq.{take-append-seam}
 use borrow.Author.Tests.{le-leb, lt-leb}
-use Rattle.lists.specs.Splices.{splice, splice-nil, splice-then, length-splice}
-use Rattle.sheets.specs.Sheets.{put, behind}
+use Rattle.lists.specs.Splices.{splice-nil, splice-then, length-splice}
+use Rattle.lists.specs.Lists.{splice}
+use Rattle.sheets.specs.Sheets.{put}
+use Rattle.sheets.specs.Positions.{behind}
 
 -- a text that fits is written, and the position is behind it
 pub put-fits : (at : ℕ) (t old : List ℕ) → at + length t ≤ length old → (put at t old ≡ splice at t old) × (behind at t old ≡ at + length t)

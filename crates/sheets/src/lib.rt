@@ -3,10 +3,11 @@ ghost use mathlib.Core.Path.{_≡_};
 ghost use Prim.Native.Nat.{_+_, _≤_};
 ghost use lib.Dec.{leb};
 ghost use lib.ListN.{length};
-ghost use Rattle.lists.specs.Splices.{splice};
+ghost use Rattle.lists.specs.Lists.{splice};
 ghost use Rattle.decimals.specs.Decimals.{digits};
 ghost use Rattle.lines.specs.Lines.{decimalLine, kindLine};
-ghost use Rattle.sheets.specs.Sheets.{put, behind};
+ghost use Rattle.sheets.specs.Sheets.{put};
+ghost use Rattle.sheets.specs.Positions.{behind};
 use register::Actor;
 
 // The byte that ends a line.

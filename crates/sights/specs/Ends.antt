@@ -1,4 +1,4 @@
--- The ends of a register's claims tell which are live: in a sound register, at a moment in range, a claim is live exactly before its end.
+-- Laws: The ends of a register's claims tell which are live: in a sound register, at a moment in range, a claim is live exactly before its end.
 -- Assumes nothing.
 use mathlib.Core.Path.{_≡_, sym, ap, _∙_}
 use mathlib.Core.Bool.{true, _&&_}
@@ -6,7 +6,7 @@ use mathlib.Core.List.{List, map}
 use Prim.Native.Nat.{ℕ, _≤_, _<_}
 use native.Mathlib.Omega.{arith}
 use lib.Dec.{ltb}
-use lib.ListN.{length, getD, take, length-take, length-map, List·getD-map}
+use lib.ListN.{length, getD, take, length-map, List·getD-map}
 use Rattle.lists.specs.Lists.{every}
 use Rattle.register.specs.Limits.{claimLimit, momentEnd}
 use Rattle.register.specs.Register.{claimsOf, noClaim, Shaped}
@@ -15,8 +15,8 @@ use Rattle.register.specs.declared.Register.{Register}
 use Rattle.columns.specs.Columns.{claimId, parentOf, holderOf, weightOf, expiryOf, chainPlaces, currentAt}
 use Rattle.columns.specs.Laws.{current-natural}
 use Rattle.rules.specs.Sound.{sound}
-use Rattle.rules.specs.Laws.{claim-fits-out}
-use Rattle.rules.specs.Places.{place-acceptable}
+use Rattle.rules.specs.Registers.{sound-out}
+use Rattle.rules.specs.Places.{claim-numbered}
 use Rattle.rules.specs.Chains.{place-above}
 use Rattle.verdicts.specs.Places.{latest-split}
 use Rattle.finding.specs.Finding.{asked, earlierPlaces}
@@ -44,11 +44,8 @@ module _ (r : Register) (shaped : Shaped r) (h : sound r ≡ true) where
   -- no claim has the number 0
   numbered : (j : ℕ) → j < r .claims .count → getD ids j 0 ≡ 0 → ⊥
   numbered j within zero =
-      let inside : j < length (claimsOf (r .claims)) = omega (arith, few r shaped h, shaped .claims, length-take (r .claims .count) (r .claims .list)) in
-      let at = stands-at r shaped h j inside in
-      let told = place-acceptable (around r shaped h) (latest (at .after)) (claimAt r j) (latest (take j (r .claims .list))) (sound-at r shaped h j inside) in
-      let id : claimAt r j .id ≡ 0 = sym (List·getD-map claimId (r .claims .list) j noClaim) ∙ zero in
-      omega (arith, claim-fits-out (claimAt r j) (told .byItself .fits) .idLeast, id)
+      claim-numbered (around r shaped h) (r .claims .count) (r .claims .list) (sound-out r h .claims) j within (omega (arith, within, long r shaped h))
+      (sym (List·getD-map claimId (r .claims .list) j noClaim) ∙ zero)
 
   module _ (j : ℕ) (inside : j < length (claimsOf (r .claims))) where
     -- the chain above the claim at a place is that among the claims before it
@@ -82,7 +79,8 @@ module _ (r : Register) (shaped : Shaped r) (h : sound r ≡ true) where
     pub ends-natural : (now : ℕ) → ltb now momentEnd ≡ true → ltb now (getD (endsIn r) j 0) ≡ live now (latest (claimsOf (r .claims))) (claimAt r j)
     ends-natural now timely =
         ap (ltb now) (ends-read weights expiries (upsOf r) (r .claims .count) j ending)
-        ∙ end-lasts ids parents weights expiries (r .claims .count) (few r shaped h) (long r shaped h) numbered now timely j (below r shaped h j inside)
+        ∙ end-lasts ids parents weights expiries (r .claims .count) (few r shaped h)
+        (omega (arith, long r shaped h, length-map (r .claims .list) parentOf)) numbered now timely j (below r shaped h j inside)
         ∙ ap (λ b. b && every (currentAt weights expiries now) (chainPlaces ids parents j (getD parents j 0))) (current-here now)
         ∙ ap (λ b. current now (claimAt r j) && b)
         (ap (λ p. every (currentAt weights expiries now) (chainPlaces ids parents j p)) (List·getD-map parentOf (r .claims .list) j noClaim)

@@ -1,11 +1,11 @@
--- The judgement of a use by columns is 01's: the violations and the hop count of the use. Assumes nothing.
+-- Laws: The judgement of a use by columns is 01's: the violations and the hop count of the use. Assumes nothing.
 use mathlib.Core.Path.{_≡_, refl, sym, ap, _∙_}
 use mathlib.Core.Bool.{Bool, true, false, not, _&&_, cond, and-assoc}
-use mathlib.Core.List.{List, [], _∷_, _++_, map}
+use mathlib.Core.List.{[], _∷_, _++_, map}
 use Prim.Native.Nat.{ℕ, suc, _≤_, _<_}
 use native.Mathlib.Omega.{arith}
 use lib.Dec.{eqb}
-use lib.ListN.{length, getD, take, drop, length-map, length-take, List·getD-map}
+use lib.ListN.{length, getD, take, drop, length-take, List·getD-map}
 use lib.Seq.{split-at, getD-take, take-take}
 use Rattle.lists.specs.Lists.{any}
 use Rattle.lists.specs.Each.{all-imp}
@@ -14,47 +14,40 @@ use Rattle.register.specs.Register.{actorsOf, resourcesOf, claimsOf, noActor, n
 use Rattle.register.specs.Chain.{latest, hopsOf}
 use Rattle.register.specs.declared.Actor.{Actor}
 use Rattle.register.specs.declared.Register.{Register}
-use Rattle.columns.specs.Columns.{actorId, ownerOf, publicOf, claimId, parentOf, latestPlace, chainPlaces}
-use Rattle.columns.specs.Laws.{chain-natural}
+use Rattle.columns.specs.Columns.{actorId, ownerOf, publicOf, latestPlace, placesUp}
+use Rattle.columns.specs.Laws.{steps-within}
 use Rattle.columns.specs.declared.Place.{Place}
 use Rattle.columns.specs.declared.Place.the-variants.{At, Nowhere}
 use Rattle.finding.specs.Asked.{askedAt, asked-natural}
 use Rattle.rules.specs.Sound.{World, worldOf, soundClaims, sound}
 use Rattle.rules.specs.Registers.{sound-out}
+use Rattle.rules.specs.Places.{claim-numbered}
 use Rattle.rules.specs.Chains.{place-hops-whole}
+use Rattle.finding.specs.Laws.{hop-count-natural}
 use Rattle.actions.specs.declared.Usage.{Usage}
 use Rattle.actions.specs.declared.Violation.the-variants.{NotCovered as UseNotCovered, OwnerNotCovering as UseOwnerNotCovering}
 use Rattle.verdicts.specs.Gate.{covers, ownerLacks, useViolation, hopsIn, hopsFor}
-use Rattle.verdicts.specs.Places.{latest-split, IsIn}
+use Rattle.verdicts.specs.Places.{latest-split}
 use Rattle.verdicts.specs.Coverage.{sound-place}
 use Rattle.verdicts.specs.Trace.{place-hops-most}
+use Rattle.verdicts.specs.Authority.{IsIn}
 use Rattle.coverage.specs.Laws.{nearest-any}
-use Rattle.use_judging.specs.Uses.{openTo, hopsFrom, coveredBy, faultOf, reliedOn, useJudged, coveringOn}
+use Rattle.use_judging.specs.Uses.{openTo, hopsFrom, coveredBy, faultOf, reliedOn, useJudged, coveringOn, stepsTold}
 use Rattle.gathering.specs.Gathering.{coverPlaces}
 use Rattle.sights.specs.Sights.{ownerAt, ownerIn, ownedIn, upsOf, sightOf, spotFor, faultAt}
-use Rattle.sights.specs.Climbing.{hops-climbed}
 use Rattle.sights.specs.Relying.{claimAt, claimPlaces, places-within, relied-natural, place-natural, covers-natural, onlyAt, reachFor, nearestPlace, nearest-covers}
 use Rattle.sights.specs.Relying.{nearest-natural}
 
 -- ---- the claim relied on: its hops
 module _ (r : Register) (shaped : Shaped r) (h : sound r ≡ true) where
-  abbrev ids : List ℕ
-  ids = map claimId (r .claims .list)
-
-  abbrev parents : List ℕ
-  parents = map parentOf (r .claims .list)
-
   abbrev pub around : World
   around = worldOf (actorsOf (r .actors)) (resourcesOf (r .resources))
 
   pub few : r .claims .count ≤ claimLimit
   few = sound-out r h .limits .claimCount
 
-  pub long : r .claims .count ≤ length parents
-  long = omega (arith, few, shaped .claims, length-map (r .claims .list) parentOf)
-
-  parent-at : (j : ℕ) → getD parents j 0 ≡ claimAt r j .parent
-  parent-at j = List·getD-map parentOf (r .claims .list) j noClaim
+  pub long : r .claims .count ≤ length (r .claims .list)
+  long = omega (arith, few, shaped .claims)
 
   pub below : (j : ℕ) → j < length (claimsOf (r .claims)) → j < r .claims .count
   below j inside = omega (arith, length-take (r .claims .count) (r .claims .list))
@@ -77,27 +70,28 @@ module _ (r : Register) (shaped : Shaped r) (h : sound r ≡ true) where
       → soundClaims around (latest (stands-at j inside .after) ++ claimAt r j ∷ latest (take j (r .claims .list))) ≡ true
   sound-at j inside = sound-place r h (claimAt r j) (stands-at j inside)
 
-  -- the claim at a place of the register has as many hops as its chain by columns has steps
-  hops-at : (j : ℕ) → j < length (claimsOf (r .claims)) → hopsIn r (onlyAt (claimAt r) (At j)) ≡ hopsFrom parents (upsOf r) (At j)
+  -- the claim at a place of the register has as many hops as the walk up from there counts
+  hops-at : (j : ℕ) → j < length (claimsOf (r .claims)) → hopsIn r (onlyAt (claimAt r) (At j)) ≡ hopsFrom (upsOf r) (At j)
   hops-at j inside =
       let at = stands-at j inside in
       let whole : hopsOf (latest (claimsOf (r .claims))) (claimAt r j) ≡ hopsOf (latest (take j (r .claims .list))) (claimAt r j) =
       ap (λ l. hopsOf l (claimAt r j)) (ap latest (at .split) ∙ latest-split (at .before) (claimAt r j) (at .after))
       ∙ place-hops-whole around (latest (at .after)) (claimAt r j) (latest (take j (r .claims .list))) (sound-at j inside) in
-      let chained : length (chainPlaces ids parents j (getD parents j 0)) ≡ hopsOf (latest (claimsOf (r .claims))) (claimAt r j) =
-      rw (parent-at j) (sym (length-map (chainPlaces ids parents j (claimAt r j .parent)) (claimAt r))
-      ∙ ap length (chain-natural (r .claims .list) j (claimAt r j .parent)) ∙ sym whole) in
-      sym (hops-climbed ids parents (r .claims .count) few long j (below j inside)
-      ∙ rw chained (omega (arith, place-hops-most r h (claimAt r j) at)))
+      let counted : length (placesUp (upsOf r) j) ≡ hopsOf (latest (take j (r .claims .list))) (claimAt r j) =
+      hop-count-natural (r .claims .list) (r .claims .count) few long
+      (λ i before. claim-numbered around (r .claims .count) (r .claims .list) (sound-out r h .claims) i before (omega (arith, before, long)))
+      j (below j inside) in
+      sym (ap stepsTold (steps-within (placesUp (upsOf r) j) (hopsOf (latest (claimsOf (r .claims))) (claimAt r j)) (counted ∙ sym whole)
+      (place-hops-most r h (claimAt r j) at)))
 
   -- the hop count of the claim relied on, by columns
-  pub hops-natural : (now x : ℕ) (u : Usage) → hopsFor r now x u ≡ hopsFrom parents (upsOf r) (nearestPlace r now x u)
+  pub hops-natural : (now x : ℕ) (u : Usage) → hopsFor r now x u ≡ hopsFrom (upsOf r) (nearestPlace r now x u)
   unfolding hopsFor
   hops-natural now x u =
       ap (hopsIn r) (relied-natural r now x u)
-      ∙ nearest-any (reachFor r u) (λ p. hopsIn r (onlyAt (claimAt r) p) ≡ hopsFrom parents (upsOf r) p) _ 0 0 (claimPlaces r) refl
+      ∙ nearest-any (reachFor r u) (λ p. hopsIn r (onlyAt (claimAt r) p) ≡ hopsFrom (upsOf r) p) _ 0 0 (claimPlaces r) refl
       (all-imp (λ j. j < length (claimsOf (r .claims)))
-      (λ j. hopsIn r (onlyAt (claimAt r) (At j)) ≡ hopsFrom parents (upsOf r) (At j)) hops-at (claimPlaces r) (places-within r))
+      (λ j. hopsIn r (onlyAt (claimAt r) (At j)) ≡ hopsFrom (upsOf r) (At j)) hops-at (claimPlaces r) (places-within r))
 
 -- ---- the actor: whether it is a machine, and its owner
 module _ (r : Register) (h : sound r ≡ true) (x : ℕ) where
@@ -173,7 +167,7 @@ module _ (r : Register) (shaped : Shaped r) (h : sound r ≡ true) (now x : ℕ)
   pub hop-natural : useJudged (sightOf r now x) (spotFor r u) (u .right) .hops ≡ hopsFor r now x u
   unfolding useJudged
   hop-natural =
-      ap (hopsFrom (map parentOf (r .claims .list)) (upsOf r)) (nearest-natural r shaped h now x u x) ∙ sym (hops-natural r shaped h now x u)
+      ap (hopsFrom (upsOf r)) (nearest-natural r shaped h now x u x) ∙ sym (hops-natural r shaped h now x u)
 
 -- a use judged by columns is the use as the gate judges it: its violations and its hop count
 pub use-natural : (r : Register) → Shaped r → sound r ≡ true → (now x n : ℕ) (u : Usage)

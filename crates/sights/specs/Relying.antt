@@ -1,4 +1,4 @@
--- The claim that a use relies on, by gathered places: the nearest covering claim of the register. Assumes nothing.
+-- Laws: The claim that a use relies on, by gathered places: the nearest covering claim of the register. Assumes nothing.
 use mathlib.Core.Path.{_≡_, refl, sym, ap, _∙_}
 use mathlib.Core.Bool.{Bool, true, false, _&&_, _||_, and-true, or-true, or-false, cond}
 use mathlib.Core.List.{List, [], _∷_, map}
@@ -9,9 +9,9 @@ use borrow.Author.Tests.{lt-ltb, ne-eqb, leb-false}
 use lib.Dec.{eqb, ltb, leb}
 use lib.ListN.{length, getD, length-map, length-take, List·getD-map}
 use Rattle.lists.specs.Tests.{cases}
-use Rattle.lists.specs.Lists.{any}
-use Rattle.lists.specs.Each.{All, all-imp}
-use Rattle.lists.specs.Counts.{counted, counted-below, counted-first}
+use Rattle.lists.specs.Lists.{any, All, counted}
+use Rattle.lists.specs.Each.{all-imp}
+use Rattle.lists.specs.Counts.{counted-below, counted-first}
 use Rattle.rights.specs.Rights.{hasRight}
 use Rattle.register.specs.Limits.{resourceLimit, claimLimit}
 use Rattle.register.specs.Register.{claimsOf, noClaim, Shaped}

@@ -1,4 +1,4 @@
--- What the gate asks of a register's resources by their ids, asked of what stands at their spots. Assumes nothing.
+-- Laws: What the gate asks of a register's resources by their ids, asked of what stands at their spots. Assumes nothing.
 use mathlib.Core.Path.{_≡_, refl, ap, _∙_, sym}
 use mathlib.Core.Bool.{Bool, true, _&&_}
 use mathlib.Core.List.{List, map}

@@ -1,4 +1,5 @@
--- What the gate sees of a register for an actor at a moment, by columns: what `use_judging` is handed.
+-- Working: What the gate sees of a register for an actor at a moment, by columns: what `use_judging` is handed. That a use is then judged in 01's
+-- words is `use-natural` of Laws.
 use mathlib.Core.Bool.{Bool, not, _&&_, cond}
 use mathlib.Core.List.{List, [], _∷_, map}
 use Prim.Native.Nat.{ℕ}
@@ -58,7 +59,6 @@ sightOf r now x = record {
   bytes = laid (r .resources) .bytes;
   lens = laid (r .resources) .lens;
   publics = map publicOf (r .resources .list);
-  parents = map parentOf (r .claims .list);
   ups = upsOf r;
 }
 

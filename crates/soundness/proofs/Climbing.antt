@@ -13,10 +13,11 @@ use lib.Seq.{take-suc, take-take, getD-set-same, getD-set-other}
 use Rattle.lists.specs.Tests.{cases}
 use Rattle.register.specs.Limits.{claimLimit, hopLimit}
 use Rattle.register.specs.Register.{noClaim}
-use Rattle.register.specs.Chain.{latest}
+use Rattle.register.specs.Chain.{latest, hopsOf}
 use Rattle.register.specs.declared.Claim.{Claim}
 use Rattle.columns.specs.Columns.{claimId, parentOf, grantorOf, holderOf, latestPlace, chainPlaces}
 use Rattle.columns.specs.Laws.{place-found, chain-places-zero}
+use Rattle.columns.specs.Laws as column-laws
 use Rattle.columns.specs.declared.Place.{Place}
 use Rattle.columns.specs.declared.Place.the-variants.{At, Nowhere}
 use Rattle.finding.specs.Finding.{placeNumber, earlierPlaces}
@@ -64,19 +65,19 @@ pub record Tables (cs : List Claim) (n : ℕ) (grantors holders ups twins : List
   pub parents : ups ≡ earlierPlaces (map claimId cs) (map parentOf cs) n claimLimit
   pub doubles : twins ≡ earlierPlaces (map claimId cs) (map claimId cs) n claimLimit
 
--- the claims before place i are as they should be, and their hops are kept
+-- the claims before place i are as they should be, and their hops are kept: by `hops-natural` the running count is 01's
 pub record Climbed (cs : List Claim) (n : ℕ) (hops : List ℕ) (i : ℕ) : Type 0 where
   pub within : i ≤ n
   pub room : length hops ≡ claimLimit
   pub stands : standOver (latest (take i cs)) ≡ true
-  pub kept : (j : ℕ) → j < i → getD hops j 0 ≡ length (higher (map claimId cs) (map parentOf cs) j)
+  pub kept : (j : ℕ) → j < i → getD hops j 0 ≡ hopsOf (latest (take j cs)) (getD cs j noClaim)
 
 pub climbed-none : (cs : List Claim) (n : ℕ) (hops : List ℕ) → length hops ≡ claimLimit → Climbed cs n hops 0
 climbed-none cs n hops room = record { within = omega arith; room = room; stands = stand-nil; kept = λ j h. absurd (omega arith) }
 
 module _ {cs : List Claim} {n : ℕ} {hops : List ℕ} {i : ℕ} (s : Climbed cs n hops i) (long : length cs ≡ claimLimit) (short : n ≤ claimLimit) (inside : i < n) where
   -- one claim more
-  climbed-next : (steps : ℕ) → over (latest (take i cs)) (getD cs i noClaim) ≡ true → steps ≡ length (higher (map claimId cs) (map parentOf cs) i)
+  climbed-next : (steps : ℕ) → over (latest (take i cs)) (getD cs i noClaim) ≡ true → steps ≡ hopsOf (latest (take i cs)) (getD cs i noClaim)
       → Climbed cs n (set hops i steps) (i + 1)
   climbed-next steps behind e = record {
     within = omega arith;
@@ -129,7 +130,8 @@ module _ {cs : List Claim} {n : ℕ} {grantors holders ups twins : List ℕ} (t 
     root-passed s e =
         climbed-next s (t .long) (t .short) inside 0 (root-stands cs i (getD cs i noClaim) apart e)
         (sym (ap (λ x. length (chainPlaces (map claimId cs) (map parentOf cs) i x)) (List·getD-map parentOf cs i noClaim ∙ e)
-        ∙ ap length (chain-places-zero (map claimId cs) (map parentOf cs) i)))
+        ∙ ap length (chain-places-zero (map claimId cs) (map parentOf cs) i))
+        ∙ column-laws.hops-natural cs i)
 
     module _ (o : getD cs i noClaim .parent ≡ 0 → ⊥) where
       -- its parent stands nowhere before it
@@ -148,7 +150,7 @@ module _ {cs : List Claim} {n : ℕ} {grantors holders ups twins : List ℕ} (t 
         module _ {hops : List ℕ} (s : Climbed cs n hops i) {answer : Bool}
             (told : answer ≡ overAt ups grantors holders (getD ups i 0) (getD hops (getD ups i 0) 0) (getD cs (getD ups i 0) noClaim) (getD cs i noClaim)) where
           steps-kept : getD hops (getD ups i 0) 0 ≡ length (higher (map claimId cs) (map parentOf cs) (getD ups i 0))
-          steps-kept = s .kept (getD ups i 0) parent-before
+          steps-kept = s .kept (getD ups i 0) parent-before ∙ sym (column-laws.hops-natural cs (getD ups i 0))
 
           judged : answer ≡ over (latest (take i cs)) (getD cs i noClaim)
           judged =
@@ -169,4 +171,5 @@ module _ {cs : List Claim} {n : ℕ} {grantors holders ups twins : List ℕ} (t 
               (add-one (getD hops (getD ups i 0) 0)
               ∙ ap suc steps-kept
               ∙ sym (hops-natural cs i (getD cs i noClaim) apart o (getD ups i 0) stood)
-              ∙ ap (λ x. length (chainPlaces (map claimId cs) (map parentOf cs) i x)) (sym (List·getD-map parentOf cs i noClaim)))
+              ∙ ap (λ x. length (chainPlaces (map claimId cs) (map parentOf cs) i x)) (sym (List·getD-map parentOf cs i noClaim))
+              ∙ column-laws.hops-natural cs i)

@@ -10,7 +10,8 @@ use lib.Dec.{eqb}
 use lib.ListN.{length, take, getD, length-map, length-take, List·getD-map}
 use lib.Seq.{getD-take}
 use Rattle.lists.specs.Tests.{cases, clash}
-use Rattle.lists.specs.Lists.{every, every-at, at-every, every-reverse}
+use Rattle.lists.specs.Lists.{every}
+use Rattle.lists.specs.Each.{every-at, at-every, every-reverse}
 use Rattle.register.specs.Limits.{claimLimit}
 use Rattle.register.specs.Register.{noClaim}
 use Rattle.register.specs.Chain.{latest}

@@ -10,23 +10,23 @@ use lib.Dec.{leb, ltb}
 use lib.ListN.{length}
 use lib.Seq.{length-take-le}
 use Rattle.lists.specs.Tests.{and-left, and-right, and-both}
-use Rattle.lists.specs.Lists.{every}
-use Rattle.lists.specs.Each.{All, all-imp, every-all, all-every, ands-out}
+use Rattle.lists.specs.Lists.{every, All}
+use Rattle.lists.specs.Each.{all-imp, every-all, all-every, ands-out}
 use Rattle.lists.specs.Fills.{full-length}
 use Rattle.register.specs.Limits.{idLimit, momentEnd}
 use Rattle.rights.specs.Rights.{rightCount, isRight}
 use Rattle.rules.specs.Laws.{ranged-in, ranged-greatest}
-use Rattle.actions.specs.Actions.{useLimit, governLimit, flagCount, usesOf, governsOf, actionFits}
+use Rattle.actions.specs.Actions.{useLimit, governLimit, flagCount, usesOf, governsOf, actionFits, SameAction}
 use Rattle.actions.specs.declared.Usage.{Usage}
 use Rattle.actions.specs.declared.Action.{Action}
 use Rattle.refusals.specs.declared.Outcome.the-variants.{Accepted, Refused}
 use Rattle.refusals.specs.declared.Refusal.{Refusal}
 use Rattle.lines.specs.Reading.{State, going, Read, closed}
 use Rattle.texts.specs.Keys.{usesKey, governsKey}
-use Rattle.texts.specs.Records.{values, passed, linesText, linesFit, sectionText}
-use Rattle.texts.specs.Actions.{headForms, headNumbers, useForms, useNumbers, useText, governForm, governText, noUse, noAction, actionFrom, ShapedAction, SameAction}
-use Rattle.texts.specs.Actions.{readUses, readGoverns, actionOf, actionText, actionRead, actionEnding}
-use Rattle.texts.specs.Fitting.{lines-fit-none, lines-fit-more, lines-fit-first, lines-fit-others, take-few}
+use Rattle.texts.specs.Records.{values, passed, linesText, sectionText}
+use Rattle.texts.specs.Actions.{headForms, headNumbers, useForms, useNumbers, useText, governForm, governText, noUse, noAction, actionFrom, ShapedAction, readUses}
+use Rattle.texts.specs.Actions.{readGoverns, actionOf, actionText, actionRead, actionEnding}
+use Rattle.texts.specs.Fitting.{lines-fit-none, lines-fit-more, lines-fit-first, lines-fit-others, take-few, linesFit}
 use Rattle.texts.specs.declared.ActionRead.{ActionRead}
 use Rattle.texts.proofs.Things.{Codec, Pair, pair}
 use Rattle.texts.proofs.Forms.{lines, sectioned}

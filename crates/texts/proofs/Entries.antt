@@ -13,11 +13,11 @@ use Rattle.register.specs.declared.Resource.{Resource}
 use Rattle.register.specs.declared.Claim.{Claim}
 use Rattle.actions.specs.declared.Usage.{Usage}
 use Rattle.lines.specs.Reading.{State}
-use Rattle.lines.specs.Answers.{heldPath}
-use Rattle.texts.specs.Records.{values, passed, linesFit}
+use Rattle.lines.specs.Lines.{heldPath}
+use Rattle.texts.specs.Records.{values, passed}
 use Rattle.texts.specs.Registers.{actorForms, actorNumbers, actorFrom, resourceForms, resourceNumbers, resourceFrom, resourceText, claimForms, claimNumbers, claimFrom}
 use Rattle.texts.specs.Actions.{useForms, useNumbers, useFrom, governForm}
-use Rattle.texts.specs.Fitting.{ResourceLines}
+use Rattle.texts.specs.Fitting.{ResourceLines, linesFit}
 use Rattle.texts.proofs.Things.{Codec, Pair, pair, made}
 use Rattle.texts.proofs.Forms.{scope, lines}
 

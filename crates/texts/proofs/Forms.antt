@@ -6,15 +6,15 @@ use mathlib.Core.Bool.{true}
 use native.Mathlib.Omega.{arith}
 use lib.ListN.{length}
 use Rattle.lists.specs.Tests.{and-left, and-right, and-both}
-use Rattle.lists.specs.Lists.{every}
-use Rattle.lists.specs.Each.{All}
+use Rattle.lists.specs.Lists.{every, All}
 use Rattle.register.specs.Limits.{pathLimit, pathByteLeast, pathByteGreatest, ranged}
 use Rattle.rules.specs.Laws.{ranged-greatest, ranged-in}
 use Rattle.lines.specs.Lines.{Line, line, beyond, fault, scopeLine, parseScope, parseDecimal, parseKind}
-use Rattle.lines.specs.Reading.{State, going, failed, Read, Form, decimal, kind, count, taken, readForm, formLine, formFits, readScope, formRefusal}
-use Rattle.lines.specs.Laws.{decimal-reads, decimal-read, kind-reads, kind-read, scope-reads, scope-read}
-use Rattle.texts.specs.Records.{values, passed, linesText, linesFit, many, texts, section, sectionText}
+use Rattle.lines.specs.Reading.{State, going, failed, Read, Form, decimal, kind, count, taken, readForm, formLine, readScope, formRefusal}
+use Rattle.lines.specs.Laws.{decimal-reads, decimal-read, kind-reads, kind-read, scope-reads, scope-read, formFits}
+use Rattle.texts.specs.Records.{values, passed, linesText, many, texts, section, sectionText}
 use Rattle.texts.specs.Laws.{many-length}
+use Rattle.texts.specs.Fitting.{linesFit}
 use Rattle.texts.proofs.Things.{Reads, Stood, Codec, many-reads, many-stood}
 
 -- a reading that failed does not go on

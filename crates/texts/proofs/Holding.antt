@@ -4,7 +4,7 @@ use mathlib.Core.Path.{_≡_}
 use mathlib.Core.List.{List, [], _∷_, _++_}
 use lib.ListN.{length, take, replicate}
 use lib.Seq.{take-append-seam}
-use Rattle.lists.specs.Each.{All}
+use Rattle.lists.specs.Lists.{All}
 
 pub held-entries : {A : Type 0} (l : List A) (n : ℕ) (none : A) → take (length l) (l ++ replicate n none) ≡ l
 held-entries l n none = take-append-seam l (replicate n none)

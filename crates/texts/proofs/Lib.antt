@@ -10,3 +10,4 @@ pub mod Naming
 pub mod Numbering
 pub mod Theorems
 pub mod Cases
+pub mod TheoremsActions

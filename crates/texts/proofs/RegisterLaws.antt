@@ -7,8 +7,9 @@ use mathlib.Core.List.{List, [], _∷_, _++_, map, append-nil}
 use native.Mathlib.Omega.{arith}
 use lib.ListN.{length, replicate, length-map}
 use lib.Seq.{length-take-le}
-use Rattle.lists.specs.Each.{All, all-imp, all-both, all-append, all-map, every-all}
+use Rattle.lists.specs.Each.{all-imp, all-both, all-append, all-map, every-all}
 use Rattle.lists.specs.Fills.{full-length, all-replicate}
+use Rattle.lists.specs.Lists.{All}
 use Rattle.register.specs.Limits.{actorLimit, resourceLimit, claimLimit, pathLimit, ranged}
 use Rattle.register.specs.Register.{actorsOf, resourcesOf, claimsOf, pathOf, Same, noActor, noResource, noClaim, emptyRegister, resourceStanding, Shaped}
 use Rattle.register.specs.Laws.{empty-shaped}
@@ -25,11 +26,11 @@ use Rattle.refusals.specs.declared.Outcome.the-variants.{Accepted, Refused}
 use Rattle.refusals.specs.declared.Refusal.{Refusal}
 use Rattle.lines.specs.Reading.{State, going, Read, closed}
 use Rattle.texts.specs.Keys.{actorsKey, resourcesKey, claimsKey}
-use Rattle.texts.specs.Records.{linesFit, texts, sectionText}
+use Rattle.texts.specs.Records.{texts, sectionText}
 use Rattle.texts.specs.Registers.{actorForms, actorNumbers, resourceText, claimForms, claimNumbers, heldActors, heldResources, heldClaims, readActors, readResources}
 use Rattle.texts.specs.Registers.{readClaims, versionForm, registerFrom, registerText, registerRead, registerEnding}
 use Rattle.texts.specs.declared.RegisterRead.{RegisterRead}
-use Rattle.texts.specs.Fitting.{ResourceLines, RegisterLines, register-lines-fit}
+use Rattle.texts.specs.Fitting.{ResourceLines, RegisterLines, register-lines-fit, linesFit}
 use Rattle.texts.proofs.Things.{Codec, Pair, pair}
 use Rattle.texts.proofs.Forms.{form, sectioned}
 use Rattle.texts.proofs.Entries.{actor, actor-fits, claim, claim-fits, resource, cleaned, cleaned-fits, cleaned-text, cleaned-standing}

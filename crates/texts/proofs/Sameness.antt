@@ -9,15 +9,14 @@ use Rattle.register.specs.Register.{resourcesOf, Standing, resourceStanding, Sa
 use Rattle.register.specs.declared.Resource.{Resource}
 use Rattle.register.specs.declared.Register.{Register}
 use Rattle.rules.specs.Sound.{sound}
-use Rattle.actions.specs.Actions.{useLimit, governLimit, actionFits}
+use Rattle.actions.specs.Actions.{useLimit, governLimit, actionFits, SameAction}
 use Rattle.actions.specs.declared.Action.{Action}
 use Rattle.lines.specs.Lines.{scopeLine}
 use Rattle.lines.specs.Reading.{count, formLine}
-use Rattle.texts.specs.Keys.{actorsKey, resourcesKey, claimsKey}
+use Rattle.texts.specs.Keys.{actorsKey, resourcesKey, claimsKey, usesKey, governsKey}
 use Rattle.texts.specs.Records.{linesText, texts, sectionText}
 use Rattle.texts.specs.Registers.{actorText, resourceForms, resourceText, claimText, versionForm, registerText, registerRead}
-use Rattle.texts.specs.Keys.{usesKey, governsKey}
-use Rattle.texts.specs.Actions.{headForms, useText, governText, ShapedAction, SameAction, actionText, actionRead}
+use Rattle.texts.specs.Actions.{headForms, useText, governText, ShapedAction, actionText, actionRead}
 use Rattle.texts.proofs.RegisterLaws.{read-written}
 use Rattle.texts.proofs.ActionLaws as actions
 

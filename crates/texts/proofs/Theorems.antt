@@ -1,6 +1,5 @@
--- What is proved of the texts of registers and of actions, over the definitions that the contracts of reading and writing cite. Where an
--- array's places matter, it has as many as its type says (`Shaped`, `ShapedAction`), as every register and action of the program has.
--- Assumes nothing.
+-- What is proved of the texts of registers and of actions, over the definitions that the contracts of reading and writing cite. Where an array's
+-- places matter, it has as many as its type says (`Shaped`, `ShapedAction`), as every register and action of the program has. Assumes nothing.
 use Prim.Native.Nat.{ℕ, _≤_}
 use mathlib.Core.Path.{_≡_}
 use mathlib.Core.Bool.{true}
@@ -10,15 +9,13 @@ use lib.ListN.{length}
 use Rattle.register.specs.Register.{Same, emptyRegister, Shaped}
 use Rattle.register.specs.declared.Register.{Register}
 use Rattle.rules.specs.Sound.{sound}
-use Rattle.actions.specs.Actions.{actionFits}
-use Rattle.actions.specs.declared.Action.{Action}
 use Rattle.refusals.specs.Refusals.{numberOf}
 use Rattle.refusals.specs.declared.Refusal.{Refusal}
 use Rattle.refusals.specs.declared.Refusal.the-variants.{Unsound, BadForm, CountAbove}
 use Rattle.refusals.specs.declared.Outcome.the-variants.{Accepted, Refused}
 use Rattle.lines.specs.Reading.{failed}
-use Rattle.texts.specs.Registers.{registerFrom, registerText, registerRead}
-use Rattle.texts.specs.Actions.{ShapedAction, SameAction, actionOf, actionText, actionRead, noAction}
+use Rattle.texts.specs.Registers.{registerFrom, registerText, registerRead, textLimit}
+use Rattle.texts.specs.Actions.{actionOf, actionRead, noAction}
 use Rattle.texts.specs.Lengths as lengths
 use Rattle.texts.proofs.RegisterLaws as registers
 use Rattle.texts.proofs.ActionLaws as actions
@@ -59,7 +56,7 @@ pub text-one-register : (r s : Register) → sound r ≡ true → Shaped r → s
 text-one-register = sameness.text-same
 
 -- 5. The text of a sound register is never longer than 37,741 bytes.
-pub register-text-length : (r : Register) → sound r ≡ true → length (registerText r) ≤ 37741
+pub register-text-length : (r : Register) → sound r ≡ true → length (registerText r) ≤ textLimit
 register-text-length = lengths.text-length
 
 -- 6a. A refused reading gives the empty register.
@@ -87,27 +84,3 @@ refused-number = numbering.refused-number
 -- 6f. So with an action.
 pub action-refused-number : (t : List ℕ) (n l : ℕ) (why : Refusal) → actionOf t .state ≡ failed n l → actionRead t .outcome ≡ Refused why → numberOf why ≡ n
 action-refused-number = numbering.action-refused-number
-
--- 7a. The text of every action in its ranges is accepted.
-pub action-accepted : (a : Action) → actionFits a ≡ true → actionRead (actionText a) .outcome ≡ Accepted
-action-accepted = actions.written-accepted
-
--- 7b. Reading what was written gives the same action.
-pub action-read-written : (a : Action) → actionFits a ≡ true → ShapedAction a → SameAction (actionRead (actionText a) .action) a
-action-read-written = actions.read-written
-
--- 7c. A text that reads as an action is the action's text, and no other text is accepted.
-pub action-written-read : (t : List ℕ) → actionRead t .outcome ≡ Accepted → actionText (actionRead t .action) ≡ t
-action-written-read t h = actions.accepted-text t h .text
-
--- 7d. What was read is in its ranges.
-pub action-read-fits : (t : List ℕ) → actionRead t .outcome ≡ Accepted → actionFits (actionRead t .action) ≡ true
-action-read-fits t h = actions.accepted-text t h .fine
-
--- 7e. No action has two texts.
-pub action-one-text : (a b : Action) → SameAction a b → actionText a ≡ actionText b
-action-one-text = sameness.same-action-text
-
--- 7f. No text is that of two actions in their ranges.
-pub text-one-action : (a b : Action) → actionFits a ≡ true → ShapedAction a → actionFits b ≡ true → ShapedAction b → actionText a ≡ actionText b → SameAction a b
-text-one-action = sameness.text-same-action

@@ -5,7 +5,7 @@ use Prim.Native.Nat.{ℕ, zero, suc}
 use mathlib.Core.Path.{_≡_, refl, sym, ap, subst, _∙_}
 use mathlib.Core.List.{List, [], _∷_, _++_, append-assoc}
 use lib.ListN.{length}
-use Rattle.lists.specs.Each.{All}
+use Rattle.lists.specs.Lists.{All}
 use Rattle.lines.specs.Reading.{State, going, Read}
 use Rattle.texts.specs.Records.{many, texts}
 

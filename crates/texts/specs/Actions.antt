@@ -1,4 +1,4 @@
--- The text of an action, and how a text is read as one, in 01's words. Assumes nothing.
+-- Believed: The text of an action, and how a text is read as one, in 01's words.
 use Prim.Native.Nat.{ℕ, _-_, _^_}
 use mathlib.Core.Path.{_≡_}
 use mathlib.Core.List.{List, [], _∷_, _++_}
@@ -75,16 +75,6 @@ actionFrom head uses governs = record {
 pub record ShapedAction (a : Action) : Type 0 where
   pub uses : length (a .uses) ≡ useLimit
   pub governs : length (a .governs) ≡ governLimit
-
--- Two actions are the same when their numbers and their two lists are: entries past a count are ignored.
-pub record SameAction (a b : Action) : Type 0 where
-  pub actor : a .actor ≡ b .actor
-  pub flags : a .flags ≡ b .flags
-  pub now : a .now ≡ b .now
-  pub used : a .used ≡ b .used
-  pub uses : usesOf a ≡ usesOf b
-  pub governed : a .governed ≡ b .governed
-  pub governs : governsOf a ≡ governsOf b
 
 unfoldable pub readUses : State → Read (List Usage)
 readUses st = section usesKey useLimit readUse st

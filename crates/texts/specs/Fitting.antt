@@ -1,4 +1,4 @@
--- What a sound register has in each of its lists may stand in its lines. Assumes nothing.
+-- Laws: What a sound register has in each of its lists may stand in its lines. Assumes nothing.
 use Prim.Native.Nat.{ℕ, _-_, _^_, _≤_}
 use mathlib.Core.Path.{_≡_, refl}
 use mathlib.Core.List.{List, [], _∷_, _++_, reverse, reverse-cons}
@@ -8,8 +8,8 @@ use lib.Dec.{eqb, leb}
 use lib.ListN.{length, take, length-take}
 use borrow.Author.Tests.{leb-true}
 use Rattle.lists.specs.Tests.{and-left, and-right, and-both}
-use Rattle.lists.specs.Lists.{every}
-use Rattle.lists.specs.Each.{All, all-imp, every-all, ands-out}
+use Rattle.lists.specs.Lists.{every, All}
+use Rattle.lists.specs.Each.{all-imp, every-all, ands-out}
 use Rattle.register.specs.Limits.{actorLimit, resourceLimit, claimLimit, pathLimit, idLimit, weightLimit, momentEnd, pathByteLeast, pathByteGreatest, humanKind, machineKind, ranged, isId}
 use Rattle.register.specs.Register.{actorsOf, resourcesOf, claimsOf, pathOf}
 use Rattle.register.specs.Chain.{latest}
@@ -22,9 +22,14 @@ use Rattle.rules.specs.Sound.{World, worldOf, human, actorFits, resourceFits, c
 use Rattle.rules.specs.Laws.{ranged-in, claim-fits-out, acceptable-out}
 use Rattle.rules.specs.Registers.{resource-fits-out, sound-out}
 use Rattle.rules.specs.Places.{latest-acceptable, earlier-sound}
-use Rattle.lines.specs.Reading.{Form, formFits}
-use Rattle.texts.specs.Records.{linesFit}
+use Rattle.lines.specs.Reading.{Form}
+use Rattle.lines.specs.Laws.{formFits}
 use Rattle.texts.specs.Registers.{actorForms, actorNumbers, resourceForms, resourceNumbers, claimForms, claimNumbers}
+
+unfoldable pub linesFit : List Form → List ℕ → Bool
+linesFit [] numbers = true
+linesFit (f ∷ forms) [] = true
+linesFit (f ∷ forms) (n ∷ numbers) = formFits f n && linesFit forms numbers
 
 -- numbers that may stand in their lines, one line more
 pub lines-fit-none : (numbers : List ℕ) → linesFit [] numbers ≡ true

@@ -1,4 +1,4 @@
--- The keys of the lines, '=' included. Assumes nothing.
+-- Believed: The keys of the lines, '=' included.
 use Prim.Native.Nat.{ℕ}
 use mathlib.Core.List.{List}
 use Rattle.lists.specs.Bytes.{bytes}

@@ -1,5 +1,5 @@
--- What one thing more makes of things that are read and of texts, and how many things a section has: for the proofs of readers and
--- writers that go thing by thing. Assumes nothing.
+-- Laws: What one thing more makes of things that are read and of texts, and how many things a section has: for the proofs of readers and writers that
+-- go thing by thing. Assumes nothing.
 use Prim.Native.Nat.{ℕ, zero, suc, _+_, _≤_, _<_}
 use mathlib.Core.Path.{_≡_, refl, ap}
 use mathlib.Core.List.{List, [], _∷_, _++_, append-assoc, append-nil}

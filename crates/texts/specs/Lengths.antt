@@ -1,5 +1,5 @@
--- How long a text can be: each line is no longer than that of its greatest number, and so on up to the text of a sound register, which is
--- never longer than 37,741 bytes. Assumes nothing.
+-- Laws: How long a text can be: each line is no longer than that of its greatest number, and so on up to the text of a sound register, which is never
+-- longer than 37,741 bytes. Assumes nothing.
 use Prim.Native.Nat.{ℕ, zero, suc, _+_, _*_, _/_, _≤_, _<_}
 use mathlib.Core.Path.{_≡_, refl}
 use mathlib.Core.List.{List, [], _∷_, _++_}
@@ -10,7 +10,8 @@ use native.Mathlib.Nat.{suc-mul}
 use lib.Dec.{eqb}
 use lib.ListN.{length, length-append}
 use Rattle.lists.specs.Tests.{cases, and-left, and-right}
-use Rattle.lists.specs.Each.{All, all-imp}
+use Rattle.lists.specs.Each.{all-imp}
+use Rattle.lists.specs.Lists.{All}
 use Rattle.register.specs.Limits.{humanKind, actorLimit, resourceLimit, claimLimit}
 use Rattle.register.specs.Register.{actorsOf, resourcesOf, claimsOf, pathOf}
 use Rattle.register.specs.declared.Actor.{Actor}
@@ -22,13 +23,13 @@ use Rattle.rules.specs.Laws.{ranged-greatest, ranged-in}
 use Rattle.decimals.specs.Decimals.{digits, digitsWith}
 use Rattle.decimals.specs.Walk.{length-small, length-step}
 use Rattle.lines.specs.Lines.{lineFeed, machineLine, kindLine, decimalLine, scopeLine}
-use Rattle.lines.specs.Reading.{Form, decimal, kind, count, formLine, formFits}
-use Rattle.lines.specs.Laws.{decimal-line-length}
-use Rattle.texts.specs.Records.{linesText, linesFit, texts, sectionText}
+use Rattle.lines.specs.Reading.{Form, decimal, kind, count, formLine}
+use Rattle.lines.specs.Laws.{decimal-line-length, formFits}
+use Rattle.texts.specs.Records.{linesText, texts, sectionText}
 use Rattle.texts.specs.Keys.{actorsKey, resourcesKey, claimsKey}
 use Rattle.texts.specs.Registers.{actorForms, actorNumbers, actorText, resourceForms, resourceNumbers, resourceText, claimForms, claimNumbers, claimText}
 use Rattle.texts.specs.Registers.{versionForm, registerText, textLimit}
-use Rattle.texts.specs.Fitting.{ResourceLines, register-lines-fit}
+use Rattle.texts.specs.Fitting.{ResourceLines, register-lines-fit, linesFit}
 
 -- a greater number has no fewer digits
 digits-more : (fuel n m : ℕ) → n < fuel → n ≤ m → length (digits n) ≤ length (digits m)

@@ -1,9 +1,8 @@
--- Things whose text is some lines one behind the other, and lists of them: how they are read and what their text is. Assumes nothing.
+-- Believed: Things whose text is some lines one behind the other, and lists of them: how they are read and what their text is.
 use Prim.Native.Nat.{ℕ, zero, suc}
 use mathlib.Core.List.{List, [], _∷_, _++_}
-use mathlib.Core.Bool.{Bool, true, _&&_}
 use lib.ListN.{length}
-use Rattle.lines.specs.Reading.{State, Read, Form, count, readForm, formLine, formFits}
+use Rattle.lines.specs.Reading.{State, Read, Form, count, readForm, formLine}
 
 -- the numbers of lines of these forms, one behind the other, and where the reading then stands
 unfoldable pub values : List Form → State → List ℕ
@@ -19,11 +18,6 @@ unfoldable pub linesText : List Form → List ℕ → List ℕ
 linesText [] numbers = []
 linesText (f ∷ forms) [] = []
 linesText (f ∷ forms) (n ∷ numbers) = formLine f n ++ linesText forms numbers
-
-unfoldable pub linesFit : List Form → List ℕ → Bool
-linesFit [] numbers = true
-linesFit (f ∷ forms) [] = true
-linesFit (f ∷ forms) (n ∷ numbers) = formFits f n && linesFit forms numbers
 
 -- n things, one behind the other, each as `read` reads it
 unfoldable pub many : {A : Type 0} → (State → Read A) → ℕ → State → Read (List A)

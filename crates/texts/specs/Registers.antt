@@ -1,4 +1,4 @@
--- The text of a register, and how a text is read as one, in 01's words. Assumes nothing.
+-- Believed: The text of a register, and how a text is read as one, in 01's words.
 use Prim.Native.Nat.{ℕ, _-_, _^_}
 use mathlib.Core.List.{List, [], _∷_, _++_}
 use mathlib.Core.Bool.{cond}
@@ -18,9 +18,8 @@ use Rattle.rules.specs.Sound.{sound}
 use Rattle.refusals.specs.declared.Outcome.the-variants.{Accepted, Refused}
 use Rattle.refusals.specs.declared.Refusal.{Refusal}
 use Rattle.refusals.specs.declared.Refusal.the-variants.{Unsound, BadForm, CountAbove}
-use Rattle.lines.specs.Lines.{scopeLine}
+use Rattle.lines.specs.Lines.{scopeLine, heldPath}
 use Rattle.lines.specs.Reading.{State, going, failed, Read, Form, number, kind, readForm, formLine, readScope, closed, countRefusal}
-use Rattle.lines.specs.Answers.{heldPath}
 use Rattle.texts.specs.Keys.{registerKey, actorsKey, actorKey, ownerKey, resourcesKey, resourceKey, publicKey, keeperKey, claimsKey, claimKey, parentKey, grantorKey}
 use Rattle.texts.specs.Keys.{holderKey, rightsKey, weightKey, expiryKey}
 use Rattle.texts.specs.Records.{values, passed, linesText, section, sectionText}

@@ -1,11 +1,14 @@
--- Working definitions: a use judged by columns. What they are in 01's words is `use-natural` of sights/specs/Laws.
+-- Working: A use judged by columns. What they are in 01's words is `use-natural` of sights/specs/Laws.
 use mathlib.Core.Bool.{Bool, true, not, _&&_, cond}
 use mathlib.Core.List.{List}
-use Prim.Native.Nat.{ℕ, zero, suc}
-use lib.Dec.{eqb, ltb}
+use Prim.Native.Nat.{ℕ}
+use lib.Dec.{eqb}
 use lib.ListN.{getD}
 use Rattle.rights.specs.Rights.{reading}
-use Rattle.register.specs.Limits.{hopLimit, claimLimit}
+use Rattle.register.specs.Limits.{hopLimit}
+use Rattle.columns.specs.Columns.{placesUp, stepsUp}
+use Rattle.columns.specs.declared.Hops.{Hops}
+use Rattle.columns.specs.declared.Hops.the-variants.{Up, Beyond}
 use Rattle.columns.specs.declared.Place.{Place}
 use Rattle.columns.specs.declared.Place.the-variants.{At, Nowhere}
 use Rattle.coverage.specs.Coverage.{firstCovering, nearestCovering}
@@ -17,19 +20,15 @@ use Rattle.use_judging.specs.declared.UseJudged.{UseJudged}
 abbrev pub openTo : List ℕ → ℕ → ℕ → Bool
 openTo publics spot right = eqb right reading && eqb (getD publics spot 0) 1
 
--- whether the claim at a place has a parent, and that stands at a place of the claims before it
-abbrev pub drawnAt : List ℕ → List ℕ → ℕ → Bool
-drawnAt parents ups at = not (eqb (getD parents at 0) 0) && ltb (getD ups at claimLimit) claimLimit
+-- the number that is told of the steps up: in a sound register there are never more than the limit
+abbrev pub stepsTold : Hops → ℕ
+stepsTold (Up steps) = steps
+stepsTold Beyond = hopLimit
 
--- the number of steps up from a place, at most so many
-unfoldable pub climbed : List ℕ → List ℕ → ℕ → ℕ → ℕ
-climbed parents ups zero at = 0
-climbed parents ups (suc most) at = let more = suc (climbed parents ups most (getD ups at claimLimit)) in cond (drawnAt parents ups at) more 0
-
--- the hop count of the claim relied on
-abbrev pub hopsFrom : List ℕ → List ℕ → Place → ℕ
-hopsFrom parents ups Nowhere = 0
-hopsFrom parents ups (At j) = climbed parents ups hopLimit j
+-- the hop count of the claim relied on, by the walk up from its place
+abbrev pub hopsFrom : List ℕ → Place → ℕ
+hopsFrom ups Nowhere = 0
+hopsFrom ups (At j) = stepsTold (stepsUp (placesUp ups j))
 
 -- whether a use is covered: it is open, or a claim is relied on
 abbrev pub coveredBy : Bool → Place → Bool
@@ -50,7 +49,6 @@ pub record Sight : Type 0 where
   pub bytes : List ℕ
   pub lens : List ℕ
   pub publics : List ℕ
-  pub parents : List ℕ
   pub ups : List ℕ
 
 -- the claim relied on, by the gathered places: the nearest
@@ -66,5 +64,5 @@ unfoldable pub useJudged : Sight → ℕ → ℕ → UseJudged
 useJudged s spot right = record {
   fault = faultOf (coveredBy (openTo (s .publics) spot right) (reliedOn s (s .own) spot right))
       (s .owned && not (coveredBy (openTo (s .publics) spot right) (coveringOn s (s .theirs) spot right)));
-  hops = hopsFrom (s .parents) (s .ups) (reliedOn s (s .own) spot right);
+  hops = hopsFrom (s .ups) (reliedOn s (s .own) spot right);
 }

@@ -1,9 +1,9 @@
 // One use of an action judged by lent columns: whether the actor covers it, whether a machine's owner does, and the hop count of the
 // claim relied on.
 ghost use mathlib.Core.Path.{_≡_};
-ghost use lib.ListN.{getD, take};
-ghost use Rattle.register.specs.Limits.{hopLimit, claimLimit};
-ghost use Rattle.use_judging.specs.Uses.{openTo, drawnAt, climbed, hopsFrom, coveredBy, faultOf, useJudged};
+ghost use lib.ListN.{take};
+ghost use Rattle.use_judging.specs.Uses.{openTo, hopsFrom, coveredBy, faultOf, useJudged, stepsTold};
+use columns::Hops;
 use columns::Place;
 use register::Register;
 
@@ -30,50 +30,23 @@ fn is_open(publics: &[u32], spot: usize, right: u32) -> bool
     columns::number_at(publics, spot) == 1
 }
 
-// The place at a place, 256 past the end.
-fn place_at(places: &[usize], at: usize) -> usize
-    ensures { λ r. ⌜ r ≡ getD (now (places .entry)) at claimLimit ⌝ }
+// The number that is told of the steps up. In a sound register no chain goes on beyond the limit.
+fn steps_told(walked: Hops) -> usize
+    ensures { λ r. ⌜ r ≡ stepsTold walked ⌝ }
 {
-    if at < places.len() {
-        places[at]
-    } else {
-        Register::CLAIMS
+    match walked {
+        Hops::Up(steps) => steps,
+        Hops::Beyond => Register::HOPS,
     }
-}
-
-// Whether the claim at a place has a parent, and that stands at a place of the claims before it.
-fn is_drawn<'a>(parents: &'a [u32], ups: &'a [usize], at: usize) -> bool
-    ensures { λ r. ⌜ r ≡ drawnAt (now (parents .entry)) (now (ups .entry)) at ⌝ }
-{
-    let parent = columns::number_at(parents, at);
-    let place = place_at(ups, at);
-    (parent != 0) & (place < Register::CLAIMS)
-}
-
-// The hop count of the claim at `from`, at most 16.
-fn climb<'a>(parents: &'a [u32], ups: &'a [usize], from: usize) -> usize
-    ensures { λ r. ⌜ r ≡ climbed (now (parents .entry)) (now (ups .entry)) hopLimit from ⌝ }
-{
-    let mut at = from;
-    let mut steps: usize = 0;
-    while steps < Register::HOPS {
-        if is_drawn(parents, ups, at) {
-            at = place_at(ups, at);
-            steps += 1;
-        } else {
-            return steps;
-        }
-    }
-    steps
 }
 
 // The hop count of the claim at a place, 0 where there is none.
-fn hops_from<'a>(parents: &'a [u32], ups: &'a [usize], relied: Place) -> usize
-    ensures { λ r. ⌜ r ≡ hopsFrom (now (parents .entry)) (now (ups .entry)) relied ⌝ }
+fn hops_from(ups: &[usize], relied: Place) -> usize
+    ensures { λ r. ⌜ r ≡ hopsFrom (now (ups .entry)) relied ⌝ }
 {
     match relied {
         Place::Nowhere => 0,
-        Place::At(j) => climb(parents, ups, j),
+        Place::At(j) => steps_told(columns::hop_count(ups, j)),
     }
 }
 
@@ -115,15 +88,14 @@ pub fn judge_use<'a>(
     lens: &'a [usize],
     publics: &'a [u32],
     spot: usize,
-    parents: &'a [u32],
     ups: &'a [usize],
     right: u32,
 ) -> UseJudged
-    ensures { λ r. ⌜ r ≡ useJudged (record { own = take owns (now (own .entry)); theirs = take has (now (theirs .entry)); owned = owned; rights = now (rights .entry); spots = now (spots .entry); bytes = now (bytes .entry); lens = now (lens .entry); publics = now (publics .entry); parents = now (parents .entry); ups = now (ups .entry) }) spot right ⌝ }
+    ensures { λ r. ⌜ r ≡ useJudged (record { own = take owns (now (own .entry)); theirs = take has (now (theirs .entry)); owned = owned; rights = now (rights .entry); spots = now (spots .entry); bytes = now (bytes .entry); lens = now (lens .entry); publics = now (publics .entry); ups = now (ups .entry) }) spot right ⌝ }
 {
     let freely = is_open(publics, spot, right);
     let relied = coverage::nearest_covering(own, owns, rights, spots, bytes, lens, right, spot);
-    let hops = hops_from(parents, ups, relied);
+    let hops = hops_from(ups, relied);
     let covered = is_covered(freely, relied);
     let other = coverage::first_covering(theirs, has, rights, spots, bytes, lens, right, spot);
     let lacking = owned & !is_covered(freely, other);

@@ -20,7 +20,7 @@ use Rattle.sights.specs.Sights.{faultAt}
 use Rattle.violations.specs.Pushed.{pushedAll}
 use Rattle.violations.specs.Laws.{pushed-all-append}
 use Rattle.uses_judging.specs.Judging.{faultPut, judgedIn, faultsFrom, usesJudged}
-use Rattle.uses_judging.specs.Laws.{faults-last}
+use Rattle.uses_judging.proofs.Laws.{faults-last}
 use Rattle.uses_judging.specs.declared.UsesJudged.{UsesJudged}
 
 -- the hop count of a use

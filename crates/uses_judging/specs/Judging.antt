@@ -1,4 +1,4 @@
--- Working definitions: the uses of an action judged by columns. What they are in 01's words follows from `sights`.
+-- Working: The uses of an action judged by columns. What they are in 01's words follows, use by use, from `use-natural` of sights/specs/Laws.
 use mathlib.Core.List.{List, [], _∷_, _++_, map}
 use Prim.Native.Nat.{ℕ, suc}
 use Rattle.actions.specs.Actions.{usesOf}

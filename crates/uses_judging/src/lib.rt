@@ -40,10 +40,9 @@ pub fn judge_uses<'a>(
     publics: &'a [u32],
     reports: &'a [u32],
     m: usize,
-    parents: &'a [u32],
     ups: &'a [usize],
 ) -> UsesJudged
-    ensures { λ r. ⌜ r ≡ usesJudged (record { own = take owns (now (own .entry)); theirs = take has (now (theirs .entry)); owned = owned; rights = now (rights .entry); spots = now (spots .entry); bytes = now (bytes .entry); lens = now (lens .entry); publics = now (publics .entry); parents = now (parents .entry); ups = now (ups .entry) }) (now (reports .entry)) m a vs ⌝ }
+    ensures { λ r. ⌜ r ≡ usesJudged (record { own = take owns (now (own .entry)); theirs = take has (now (theirs .entry)); owned = owned; rights = now (rights .entry); spots = now (spots .entry); bytes = now (bytes .entry); lens = now (lens .entry); publics = now (publics .entry); ups = now (ups .entry) }) (now (reports .entry)) m a vs ⌝ }
 {
     let top = columns::least(a.used, Action::USES);
     let mut violations = vs;
@@ -65,7 +64,6 @@ pub fn judge_uses<'a>(
             lens,
             publics,
             spot,
-            parents,
             ups,
             u.right,
         );

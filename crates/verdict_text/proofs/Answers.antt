@@ -22,18 +22,13 @@ use Rattle.lines.specs.Lines.{decimalLine}
 use Rattle.texts.specs.Records.{texts}
 use Rattle.texts.specs.Registers.{registerRead}
 use Rattle.texts.specs.Actions.{actionRead}
-use Rattle.verdict_text.specs.Printed.{refusedLine, violationsKey, pairText, listText, stoppedText, verdictLines, verdictText, printed}
-use Rattle.verdict_text.specs.Lengths.{listed-in}
+use Rattle.verdict_text.specs.Printed.{refusedLine, violationsKey, pairText, listText, stoppedText, verdictLines, verdictText, printed, Heard}
+use Rattle.verdict_text.proofs.Lengths.{listed-in}
 use Rattle.verdict_text.proofs.Composing as composing
 
 -- the text of a permission
 abbrev pub permission : List ℕ
 permission = bytes "verdict=permitted\nviolations=0\n"
-
--- both texts are read
-pub record Heard (register action : List ℕ) : Type 0 where
-  pub registered : registerRead register .outcome ≡ Accepted
-  pub posed : actionRead action .outcome ≡ Accepted
 
 -- the lines of a permission, and of a list of violations as the answer holds it
 clean-lines : verdictLines Permitted (listed []) ≡ permission

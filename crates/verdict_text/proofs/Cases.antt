@@ -2,7 +2,7 @@
 use Prim.Native.Nat.{ℕ}
 use mathlib.Core.Path.{_≡_, refl}
 use mathlib.Core.List.{List, [], _∷_, map}
-use Rattle.lists.specs.Trims.{trim}
+use Rattle.lists.specs.Lists.{trim}
 use Rattle.paths.specs.Containment.{same, components, climbing, trimmed, starting, contained}
 use Rattle.rights.specs.Rights.{hasRight, hasRights, barsMachine}
 use Rattle.register.specs.Chain.{chain, rootGranted, circling}

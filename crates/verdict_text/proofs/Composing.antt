@@ -20,7 +20,7 @@ use Rattle.json_actions.specs.Actions.{jsonRead}
 use Rattle.json_actions.specs.declared.JsonRead.{JsonRead}
 use Rattle.verdict_text.specs.Printed.{stoppedText, verdictText, actionLines, registerLines, printed, printedLimit}
 use Rattle.verdict_text.specs.Printed.{jsonLines, clockRefusal, clockRead, clockLines, registerJson, jsonPrinted}
-use Rattle.verdict_text.specs.Lengths.{gated-fitting}
+use Rattle.verdict_text.proofs.Lengths.{gated-fitting}
 
 -- the gate's verdict fits
 pub judged-fits : (r : Register) (a : Action) (v : Verdict) → v ≡ gated r a → (length (verdictText v) ≤ printedLimit) × (v .violations .count ≤ violationLimit)

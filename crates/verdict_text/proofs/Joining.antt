@@ -4,7 +4,7 @@ use mathlib.Core.Path.{_≡_, sym, ap, _∙_}
 use mathlib.Core.List.{List, _++_}
 use native.Mathlib.Omega.{arith}
 use lib.ListN.{length}
-use Rattle.lists.specs.Splices.{splice}
+use Rattle.lists.specs.Lists.{splice}
 use Rattle.refusals.specs.Refusals.{numberOf}
 use Rattle.refusals.specs.declared.Refusal.{Refusal}
 use Rattle.actions.specs.Actions.{kindOf, valueOf}
@@ -13,8 +13,9 @@ use Rattle.actions.specs.declared.Violations.{Violations}
 use Rattle.actions.specs.declared.Decision.{Decision}
 use Rattle.actions.specs.declared.Verdict.{Verdict}
 use Rattle.lines.specs.Lines.{decimalLine}
-use Rattle.sheets.specs.Sheets.{put, behind}
+use Rattle.sheets.specs.Sheets.{put}
 use Rattle.sheets.specs.Laws.{Writing, put-fits, writing-start, writing-put, writing-left, writing-last}
+use Rattle.sheets.specs.Positions.{behind}
 use Rattle.verdict_text.specs.Printed.{stoppedLine, violationKey, atKey, refusalKey, pairText, listText, stoppedText, verdictLines, verdictText}
 
 module _ (first second : List ℕ) (at : ℕ) (old : List ℕ) {end : ℕ} {new : List ℕ} (room : at + length (first ++ second) ≤ length old)

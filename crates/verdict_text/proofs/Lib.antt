@@ -1,3 +1,4 @@
+pub mod Lengths
 pub mod Joining
 pub mod Listing
 pub mod Composing

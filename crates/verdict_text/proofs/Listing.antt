@@ -7,8 +7,9 @@ use Rattle.actions.specs.declared.Violated.{Violated}
 use Rattle.actions.specs.declared.Violations.{Violations}
 use Rattle.lines.specs.Lines.{decimalLine}
 use Rattle.texts.specs.Records.{texts}
-use Rattle.sheets.specs.Sheets.{put, behind}
+use Rattle.sheets.specs.Sheets.{put}
 use Rattle.sheets.specs.Laws.{Writing, writing-start, writing-put}
+use Rattle.sheets.specs.Positions.{behind}
 use Rattle.verdict_text.specs.Printed.{violationsKey, violationsIn, pairText, listText}
 
 -- the pair of the violation that an entry keeps

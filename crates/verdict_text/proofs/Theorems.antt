@@ -14,10 +14,9 @@ use Rattle.lines.specs.Lines.{decimalLine}
 use Rattle.texts.specs.Records.{texts}
 use Rattle.texts.specs.Registers.{registerRead}
 use Rattle.texts.specs.Actions.{actionRead}
-use Rattle.verdict_text.specs.Printed.{refusedLine, violationsKey, pairText, stoppedText, printed}
-use Rattle.verdict_text.specs.Lengths as lengths
+use Rattle.verdict_text.specs.Printed.{refusedLine, violationsKey, pairText, stoppedText, printed, Heard, printedLimit}
+use Rattle.verdict_text.proofs.Lengths as lengths
 use Rattle.verdict_text.proofs.Answers as answers
-use Rattle.verdict_text.proofs.Answers.{Heard}
 
 module _ (register action : List ℕ) where
   -- 1a. The first refusal stops: a register's text that is refused is answered with its number, whatever the action's text is.
@@ -51,5 +50,5 @@ module _ (register action : List ℕ) where
   refused-printed = answers.refused-printed register action
 
   -- 4. No printed text is longer than 1,103 bytes.
-  pub printed-length : length (printed register action) ≤ 1103
+  pub printed-length : length (printed register action) ≤ printedLimit
   printed-length = lengths.printed-length register action

@@ -1,9 +1,10 @@
--- The lines that 01's program prints, of the two texts that it reads. Assumes nothing.
+-- Believed: The lines that 01's program prints, of the two texts that it reads, and those of the JSON program, of three.
 use Prim.Native.Nat.{ℕ, _-_}
 use mathlib.Core.List.{List, _++_, map}
 use mathlib.Core.Bool.{cond}
 use lib.Dec.{eqb}
 use lib.ListN.{take}
+use mathlib.Core.Path.{_≡_}
 use Rattle.lists.specs.Bytes.{bytes}
 use Rattle.register.specs.Limits.{momentEnd}
 use Rattle.register.specs.declared.Register.{Register}
@@ -120,3 +121,8 @@ jsonPrinted register clock action = registerJson (registerRead register .outcome
 -- no verdict's text is longer: the verdict, the number of violations, and 51 pairs that each name a number of 16 bits
 abbrev pub printedLimit : ℕ
 printedLimit = 1103
+
+-- both texts are read
+pub record Heard (register action : List ℕ) : Type 0 where
+  pub registered : registerRead register .outcome ≡ Accepted
+  pub posed : actionRead action .outcome ≡ Accepted

@@ -3,7 +3,7 @@
 ghost use mathlib.Core.Path.{_≡_};
 ghost use Prim.Native.Nat.{_+_, _≤_};
 ghost use lib.ListN.{length};
-ghost use Rattle.lists.specs.Splices.{splice};
+ghost use Rattle.lists.specs.Lists.{splice};
 ghost use Rattle.actions.specs.Actions.{violationLimit};
 ghost use Rattle.texts.specs.Actions.{actionRead};
 ghost use Rattle.sheets.specs.Sheets.{put};

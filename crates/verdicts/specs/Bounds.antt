@@ -1,4 +1,4 @@
--- How many violations and hop counts an answer has at most. Assumes nothing.
+-- Laws: How many violations and hop counts an answer has at most. Assumes nothing.
 use mathlib.Core.Path.{_≡_, refl, ap, _∙_}
 use mathlib.Core.Bool.{Bool, true, false, not, cond}
 use mathlib.Core.List.{List, [], _∷_, _++_, map}
@@ -7,9 +7,8 @@ use native.Mathlib.Omega.{arith}
 use lib.Dec.{eqb}
 use lib.ListN.{length, replicate, length-append, length-take, length-map, length-replicate}
 use Rattle.lists.specs.Tests.{cases}
-use Rattle.lists.specs.Lists.{any}
-use Rattle.lists.specs.Counts.{counted}
-use Rattle.lists.specs.Trims.{filter, trim-length}
+use Rattle.lists.specs.Lists.{any, counted, filter}
+use Rattle.lists.specs.Trims.{trim-length}
 use Rattle.register.specs.Limits.{hopLimit}
 use Rattle.register.specs.Register.{claimsOf, actorsOf}
 use Rattle.register.specs.declared.Register.{Register}

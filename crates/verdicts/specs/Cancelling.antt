@@ -1,5 +1,5 @@
--- What a plan answers: the gate's own verdicts up to and with the first flagged action, then cancelled; nothing where it is stopped.
--- Assumes nothing.
+-- Laws: What a plan answers: the gate's own verdicts up to and with the first flagged action, then cancelled; nothing where it is stopped. Assumes
+-- nothing.
 use mathlib.Core.Path.{_≡_, refl, ap, sym, _∙_}
 use mathlib.Core.Bool.{Bool, true, false, not, _||_, cond}
 use mathlib.Core.List.{List, [], _∷_, _++_, map}
@@ -9,7 +9,7 @@ use native.Mathlib.Omega.{arith}
 use borrow.Author.Tests.{eq-eqb, ne-eqb, leb-true, le-leb, lt-leb}
 use lib.Dec.{eqb, leb}
 use lib.ListN.{length, replicate}
-use Rattle.lists.specs.Each.{All}
+use Rattle.lists.specs.Lists.{All}
 use Rattle.register.specs.declared.Register.{Register}
 use Rattle.rules.specs.Sound.{sound}
 use Rattle.refusals.specs.Refusals.{outcomeOf}
@@ -26,7 +26,8 @@ use Rattle.actions.specs.declared.Decision.the-variants.{Permitted, Refused, St
 use Rattle.verdicts.specs.Gate.{actionTests, gateTests, violationsOf, hopCounts, listed, padded, decided, gated}
 use Rattle.verdicts.specs.Plans.{actionsOf, judged, judgements, Halt, runs, halts, haltOn, firstHalt, haltOf, held, stopped, planVerdict, planned}
 use Rattle.verdicts.specs.Laws.{Fit, action-tests-out, gate-tests-in, gated-judged, gated-stopped, permitted-out, violations-none-in}
-use Rattle.verdicts.specs.Places.{all-place, IsIn}
+use Rattle.verdicts.specs.Places.{all-place}
+use Rattle.verdicts.specs.Authority.{IsIn}
 
 module _ (r : Register) where
   pub judgements-nil : (cancelled : Bool) → judgements r cancelled [] ≡ []

@@ -1,5 +1,4 @@
--- Covering: what a covering claim is, a use that is not covered, and that in a sound register the parent of a claim stands.
--- Assumes nothing.
+-- Laws: Covering: what a covering claim is, a use that is not covered, and that in a sound register the parent of a claim stands. Assumes nothing.
 use mathlib.Core.Path.{_≡_, sym, _∙_, ap}
 use mathlib.Core.Bool.{Bool, true, false, _&&_, and-false}
 use mathlib.Core.List.{[], _∷_, _++_}
@@ -7,8 +6,8 @@ use Prim.Native.Nat.{ℕ}
 use borrow.Author.Tests.{eqb-true}
 use lib.Dec.{eqb}
 use Rattle.lists.specs.Tests.{cases, clash, and-left, or-right}
-use Rattle.lists.specs.Lists.{any, any-append, any-reverse}
-use Rattle.lists.specs.Each.{ands-out, all-none, none-weaken, each-all}
+use Rattle.lists.specs.Lists.{any}
+use Rattle.lists.specs.Each.{ands-out, all-none, none-weaken, each-all, any-append, any-reverse}
 use Rattle.rights.specs.Rights.{reading, hasRight}
 use Rattle.paths.specs.Containment.{contained}
 use Rattle.register.specs.Register.{actorsOf, resourcesOf, claimsOf, pathOf}
@@ -20,9 +19,10 @@ use Rattle.rules.specs.Registers.{sound-out}
 use Rattle.rules.specs.Places.{place-parent}
 use Rattle.actions.specs.declared.Usage.{Usage}
 use Rattle.actions.specs.declared.Violation.the-variants.{NotCovered}
-use Rattle.verdicts.specs.Places.{IsIn, any-place, latest-split}
-use Rattle.verdicts.specs.Nearest.{Nearest, nearest-found, nearest-none}
+use Rattle.verdicts.specs.Places.{any-place, latest-split}
+use Rattle.verdicts.specs.Nearest.{nearest-found, nearest-none}
 use Rattle.verdicts.specs.Gate.{publicRead, contains, covering, covers, useViolation, hopsFor, reachOf, hopsIn}
+use Rattle.verdicts.specs.Authority.{IsIn, Nearest}
 
 -- what a covering claim is
 pub record Covering (r : Register) (now x : ℕ) (u : Usage) (c : Claim) : Type 0 where

@@ -1,13 +1,10 @@
--- The gate for one action, in 01's words: covers, covering claim, owner, the violations in their order, hop counts.
+-- Believed: The gate for one action, in 01's words: covers, covering claim, owner, the violations in their order, hop counts.
 use mathlib.Core.Bool.{Bool, not, _&&_, _||_, cond}
 use mathlib.Core.List.{List, [], _∷_, _++_, map}
 use Prim.Native.Nat.{ℕ, suc, _-_, _/_, _%_, _^_}
 use lib.Dec.{eqb, leb}
 use lib.ListN.{length, replicate}
-use Rattle.lists.specs.Tests.{ands}
-use Rattle.lists.specs.Lists.{any, every}
-use Rattle.lists.specs.Counts.{counted}
-use Rattle.lists.specs.Trims.{filter}
+use Rattle.lists.specs.Lists.{any, every, ands, counted, filter}
 use Rattle.rights.specs.Rights.{reading, hasRight}
 use Rattle.paths.specs.Containment.{contained, reached}
 use Rattle.register.specs.Limits.{machineKind}

@@ -1,4 +1,4 @@
--- The kinds of violations. Assumes nothing.
+-- Laws: The kinds of violations. Assumes nothing.
 use Prim.Native.Nat.{_≤_}
 use native.Mathlib.Omega.{arith}
 use Rattle.actions.specs.Actions.{kindOf}

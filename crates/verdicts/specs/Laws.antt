@@ -1,5 +1,5 @@
--- What the answer of the gate says part by part: what stops it, what it is otherwise, and what an empty list of violations says.
--- Assumes nothing.
+-- Laws: What the answer of the gate says part by part: what stops it, what it is otherwise, and what an empty list of violations says. Assumes
+-- nothing.
 use mathlib.Core.Path.{_≡_, refl, ap, sym, _∙_}
 use mathlib.Core.Bool.{Bool, true, false, _&&_, cond}
 use mathlib.Core.List.{List, [], _∷_, _++_, append-assoc}
@@ -10,13 +10,13 @@ use borrow.Author.Tests.{leb-true, ltb-true}
 use lib.Dec.{eqb, leb, ltb}
 use lib.ListN.{length}
 use Rattle.lists.specs.Tests.{cases}
-use Rattle.lists.specs.Lists.{any, every}
-use Rattle.lists.specs.Each.{All, ands-out, list-cases, cons-clash}
+use Rattle.lists.specs.Lists.{any, every, All}
+use Rattle.lists.specs.Each.{ands-out, list-cases, cons-clash}
 use Rattle.rights.specs.Rights.{isRight}
 use Rattle.register.specs.Limits.{idLimit, momentEnd}
 use Rattle.register.specs.Register.{actorsOf}
 use Rattle.register.specs.declared.Register.{Register}
-use Rattle.rules.specs.Sound.{sound, isMachine}
+use Rattle.rules.specs.Sound.{isMachine}
 use Rattle.refusals.specs.Refusals.{outcomeOf}
 use Rattle.refusals.specs.Laws.{outcome-cases, accepted-out, accepted-in}
 use Rattle.refusals.specs.declared.Refusal.{Refusal}
@@ -29,6 +29,7 @@ use Rattle.actions.specs.declared.Violation.the-variants.{NoOwner, MachineGover
 use Rattle.actions.specs.declared.Decision.the-variants.{Permitted, Refused, Stopped}
 use Rattle.verdicts.specs.Gate.{covers, isOwnerless, ownerLacks, flagsSet, governed, useViolation, useViolations, violationsOf, hopCounts, actionTests, gateTests}
 use Rattle.verdicts.specs.Gate.{listed, padded, decided, verdictOn, gated}
+use Rattle.verdicts.specs.Authority.{Passed}
 
 -- a stopped gate call gives no violations and no hop counts
 pub gated-stopped : (r : Register) (a : Action) (why : Refusal) → outcomeOf (gateTests r a) ≡ RefusedFor why
@@ -75,12 +76,6 @@ action-tests-out r a h = let told = accepted-out (actionTests r a) h in record {
 pub action-tests-in : (r : Register) (a : Action) → Fit r a → outcomeOf (actionTests r a) ≡ Accepted
 unfolding actionTests
 action-tests-in r a h = accepted-in (actionTests r a) (h .fits, (h .known, tt))
-
--- tests 1, 2 and 3, passed
-pub record Passed (r : Register) (a : Action) : Type 0 where
-  pub soundly : sound r ≡ true
-  pub fits : actionFits a ≡ true
-  pub known : any (λ b. eqb (a .actor) (b .id)) (actorsOf (r .actors)) ≡ true
 
 pub gate-tests-out : (r : Register) (a : Action) → outcomeOf (gateTests r a) ≡ Accepted → Passed r a
 unfolding gateTests actionTests

@@ -1,4 +1,4 @@
--- The nearest of those that pass a test: the first whose number no other of them exceeds. Assumes nothing.
+-- Laws: The nearest of those that pass a test: the first whose number no other of them exceeds. Assumes nothing.
 use mathlib.Core.Path.{_≡_, refl, sym, _∙_}
 use mathlib.Core.Bool.{Bool, true, false, not, _&&_, _||_, cond, and-true}
 use mathlib.Core.List.{List, [], _∷_}
@@ -7,18 +7,11 @@ use native.Mathlib.Omega.{arith}
 use borrow.Author.Tests.{le-leb, leb-true, leb-false}
 use lib.Dec.{leb}
 use Rattle.lists.specs.Tests.{cases, clash, and-left, and-right, and-both, iff-same}
-use Rattle.lists.specs.Lists.{any, every}
-use Rattle.lists.specs.Each.{All, all-imp, each-all, none-all, none-weaken, every-all, all-every, any-same}
+use Rattle.lists.specs.Lists.{any, every, All}
+use Rattle.lists.specs.Each.{all-imp, each-all, none-all, none-weaken, every-all, all-every, any-same}
 use Rattle.verdicts.specs.Gate.{firstOf, unexceeded, nearestOf}
-use Rattle.verdicts.specs.Places.{IsIn, place-here, place-later, any-place, place-any, all-place, first-hit, first-miss, first-none, first-found}
-
--- the nearest: it stands and passes, none that passes exceeds it, and all that pass before it fall short of it
-pub record Nearest {C : Type 0} (p : C → Bool) (f : C → ℕ) (L : List C) (c : C) : Type 0 where
-  pub place : IsIn L c
-  pub passes : p c ≡ true
-  pub most : All (λ d. p d ≡ true → f d ≤ f c) L
-  pub further : All (λ d. p d ≡ true → f d < f c) (place .before)
-  pub alone : nearestOf p f L ≡ c ∷ []
+use Rattle.verdicts.specs.Places.{place-here, place-later, any-place, place-any, all-place, first-hit, first-miss, first-none, first-found}
+use Rattle.verdicts.specs.Authority.{IsIn, Nearest}
 
 -- tests that agree on a list find the same
 first-agree : {C : Type 0} (p q : C → Bool) (L : List C) → All (λ c. p c ≡ q c) L → firstOf p L ≡ firstOf q L

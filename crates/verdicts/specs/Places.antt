@@ -1,19 +1,14 @@
--- Places of a list, and the first element that passes a test. Assumes nothing.
+-- Laws: Places of a list, and the first element that passes a test. Assumes nothing.
 use mathlib.Core.Path.{_≡_, refl, ap, _∙_}
 use mathlib.Core.Bool.{Bool, true, false}
 use mathlib.Core.List.{List, [], _∷_, _++_, reverse-cons, reverse-append, append-assoc}
 use mathlib.Core.Logic.{_⊎_, inl, inr}
 use Rattle.lists.specs.Tests.{cases, clash, or-left, or-right, or-second}
-use Rattle.lists.specs.Lists.{any, any-append}
-use Rattle.lists.specs.Each.{All, none-all, all-imp, all-append}
+use Rattle.lists.specs.Lists.{any, All}
+use Rattle.lists.specs.Each.{none-all, all-imp, all-append, any-append}
 use Rattle.register.specs.Chain.{latest}
 use Rattle.verdicts.specs.Gate.{firstOf}
-
--- a place of a list: what stands before and after
-pub record IsIn {C : Type 0} (L : List C) (c : C) : Type 0 where
-  pub before : List C
-  pub after : List C
-  pub split : L ≡ before ++ c ∷ after
+use Rattle.verdicts.specs.Authority.{IsIn}
 
 module _ {C : Type 0} where
   abbrev pub place-here : (c : C) (L : List C) → IsIn (c ∷ L) c

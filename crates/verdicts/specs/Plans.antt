@@ -1,4 +1,4 @@
--- The gate for a plan, in 01's words: what stops it, and the verdict on each action.
+-- Believed: The gate for a plan, in 01's words: what stops it, and the verdict on each action.
 use mathlib.Core.Bool.{Bool, false, not, _||_, cond}
 use mathlib.Core.List.{List, [], _∷_, _++_, map}
 use Prim.Native.Nat.{ℕ, suc, _-_}
@@ -11,7 +11,7 @@ use Rattle.refusals.specs.declared.Outcome.{Outcome}
 use Rattle.refusals.specs.declared.Outcome.the-variants.{Accepted, Refused as RefusedFor}
 use Rattle.refusals.specs.declared.Refusal.{Refusal}
 use Rattle.refusals.specs.declared.Refusal.the-variants.{Unsound, OutOfRange}
-use Rattle.actions.specs.Actions.{actionLimit}
+use Rattle.actions.specs.Actions.{actionLimit, SameAction}
 use Rattle.actions.specs.declared.Action.{Action}
 use Rattle.actions.specs.declared.Violation.{Violation}
 use Rattle.actions.specs.declared.Plan.{Plan}
@@ -19,10 +19,22 @@ use Rattle.actions.specs.declared.Judgement.{Judgement}
 use Rattle.actions.specs.declared.Judgement.the-variants.{Permitted, Refused, Cancelled}
 use Rattle.actions.specs.declared.PlanVerdict.{PlanVerdict}
 use Rattle.verdicts.specs.Gate.{actionTests, violationsOf}
+use mathlib.Core.Path.{_≡_}
 
 -- the actions of a plan: entries past its count are ignored
 abbrev pub actionsOf : Plan → List Action
 actionsOf p = take (p .count) (p .actions)
+
+-- Two plans are the same when their counts are, and their actions one by one.
+abbrev pub SameActions : List Action → List Action → Type 0
+SameActions [] [] = Unit {0}
+SameActions [] (b ∷ others) = ⊥
+SameActions (a ∷ actions) [] = ⊥
+SameActions (a ∷ actions) (b ∷ others) = SameAction a b × SameActions actions others
+
+pub record SamePlan (p q : Plan) : Type 0 where
+  pub count : p .count ≡ q .count
+  pub actions : SameActions (actionsOf p) (actionsOf q)
 
 -- the verdict on an action that is not cancelled: permitted, or refused with its number of violations
 abbrev pub judged : List Violation → Judgement

@@ -1,4 +1,4 @@
--- How far a resource reaches to another, by their numbers: in a sound register that is asked of the paths of those that stand. Assumes nothing.
+-- Laws: How far a resource reaches to another, by their numbers: in a sound register that is asked of the paths of those that stand. Assumes nothing.
 use mathlib.Core.Path.{_≡_, refl, sym, ap, _∙_}
 use mathlib.Core.Bool.{true}
 use borrow.Author.Tests.{eqb-true, eq-eqb}
@@ -10,8 +10,9 @@ use Rattle.register.specs.declared.Register.{Register}
 use Rattle.rules.specs.Sound.{sound}
 use Rattle.rules.specs.Registers.{sound-out}
 use Rattle.verdicts.specs.Gate.{pathIn, pathBy, reachOf}
-use Rattle.verdicts.specs.Places.{IsIn, place-any, first-found}
+use Rattle.verdicts.specs.Places.{place-any, first-found}
 use Rattle.verdicts.specs.Trace.{distinct-place}
+use Rattle.verdicts.specs.Authority.{IsIn}
 
 module _ (r : Register) (h : sound r ≡ true) where
   -- the path by a number is that of the resource that has it

@@ -1,5 +1,5 @@
--- Chains of claims that stand in a sound register: each is drawn from the next, up to a root granted by the keeper of the resource.
--- Assumes nothing.
+-- Laws: Chains of claims that stand in a sound register: each is drawn from the next, up to a root granted by the keeper of the resource. Assumes
+-- nothing.
 use mathlib.Core.Path.{_≡_, refl, ap, sym, _∙_}
 use mathlib.Core.Bool.{true, not, _&&_}
 use mathlib.Core.List.{List, [], _∷_, _++_, map}
@@ -9,8 +9,8 @@ use native.Mathlib.Omega.{arith}
 use borrow.Author.Tests.{eqb-true, eqb-false, not-true}
 use lib.Dec.{eqb}
 use Rattle.lists.specs.Tests.{cases, and-left, and-right}
-use Rattle.lists.specs.Lists.{any}
-use Rattle.lists.specs.Each.{All, cons-clash, any-map}
+use Rattle.lists.specs.Lists.{any, All}
+use Rattle.lists.specs.Each.{cons-clash, any-map}
 use Rattle.rights.specs.Rights.{hasRights}
 use Rattle.rights.specs.Laws.{has-rights-reflexive, has-rights-transitive}
 use Rattle.register.specs.Limits.{hopLimit}
@@ -21,22 +21,14 @@ use Rattle.register.specs.declared.Resource.{Resource}
 use Rattle.register.specs.declared.Claim.{Claim}
 use Rattle.register.specs.declared.Register.{Register}
 use Rattle.rules.specs.Sound.{World, worldOf, distinct, rootKept, soundClaims, sound}
-use Rattle.rules.specs.Laws.{DrawnFrom, acceptable-out, drawn-out, root-kept-out}
+use Rattle.rules.specs.Laws.{acceptable-out, drawn-out, root-kept-out}
 use Rattle.rules.specs.Registers.{sound-out, distinct-cons}
 use Rattle.rules.specs.Places.{latest-acceptable, earlier-sound, prefix-sound, place-hops}
-use Rattle.rules.specs.Chains.{Climbs, rootOf, place-climbs, place-root, place-above}
-use Rattle.verdicts.specs.Places.{IsIn, any-place, all-place, none-place, each-place, is-in-cases, all-latest, latest-split}
+use Rattle.rules.specs.Chains.{place-climbs, place-root, place-above}
+use Rattle.rules.specs.Roots.{Climbs, rootOf}
+use Rattle.verdicts.specs.Places.{any-place, all-place, none-place, each-place, is-in-cases, all-latest, latest-split}
 use Rattle.verdicts.specs.Coverage.{sound-place}
-
--- the chain above a claim that stands in a register
-abbrev pub higherThan : Register → Claim → List Claim
-higherThan r c = above (latest (claimsOf (r .claims))) c
-
--- each claim of a chain is drawn from the next: held by the grantor, on the same resource, with DELEGATE, with every right and at least
--- the weight
-abbrev pub Attenuates : Claim → List Claim → Type 0
-Attenuates c [] = Unit {0}
-Attenuates c (p ∷ higher) = DrawnFrom p c × Attenuates p higher
+use Rattle.verdicts.specs.Authority.{IsIn, higherThan, Attenuates}
 
 -- numbers that are distinct tell elements apart
 pub distinct-place : {C : Type 0} (f : C → ℕ) (L : List C) → distinct (map f L) ≡ true → (c d : C) → IsIn L c → IsIn L d → f c ≡ f d → c ≡ d

@@ -7,8 +7,8 @@ use native.Mathlib.Numerals.{add-one}
 use native.Mathlib.Omega.{arith}
 use borrow.Author.Tests.{eq-eqb, ne-eqb}
 use lib.Dec.{eqb}
-use Rattle.lists.specs.Counts.{counted}
-use Rattle.lists.specs.Trims.{filter, filter-nil, filter-hit, filter-miss}
+use Rattle.lists.specs.Trims.{filter-nil, filter-hit, filter-miss}
+use Rattle.lists.specs.Lists.{counted, filter}
 use Rattle.actions.specs.declared.Violation.{Violation}
 use Rattle.actions.specs.declared.Violation.the-variants.{FlagSet, MachineGoverns}
 use Rattle.actions.specs.declared.Violations.{Violations}

@@ -1,5 +1,4 @@
--- What putting violations to the end of a held list is over lists, and how many violations flags and governed entries give. Assumes
--- nothing.
+-- Laws: What putting violations to the end of a held list is over lists, and how many violations flags and governed entries give. Assumes nothing.
 use mathlib.Core.Path.{_≡_, refl, sym, ap, _∙_}
 use mathlib.Core.Bool.{Bool, not}
 use mathlib.Core.List.{List, [], _∷_, _++_, map, map-append, append-assoc, append-nil}
@@ -9,8 +8,8 @@ use borrow.Author.Tests.{lt-ltb}
 use lib.Dec.{eqb}
 use lib.ListN.{length, set, replicate, length-map, length-append}
 use lib.Seq.{set-at}
-use Rattle.lists.specs.Counts.{counted}
-use Rattle.lists.specs.Trims.{filter, trim-length}
+use Rattle.lists.specs.Trims.{trim-length}
+use Rattle.lists.specs.Lists.{counted, filter}
 use Rattle.actions.specs.Actions.{violationLimit, flagCount}
 use Rattle.actions.specs.declared.Violated.{Violated}
 use Rattle.actions.specs.declared.Violation.{Violation}

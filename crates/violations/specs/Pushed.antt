@@ -1,5 +1,4 @@
--- Working definitions: violations put to the end of a list as the answer holds it. What they are over lists is proved in Laws
--- (`pushed-natural`).
+-- Working: Violations put to the end of a list as the answer holds it. What they are over lists is proved in Laws (`pushed-natural`).
 use mathlib.Core.Bool.{cond}
 use mathlib.Core.List.{List, [], _∷_}
 use Prim.Native.Nat.{_+_}

@@ -13,7 +13,7 @@ use Rattle.columns.specs.Columns.{actorId, actorColumns}
 use Rattle.columns.specs.declared.ActorColumns.{ActorColumns}
 use Rattle.rules.specs.Sound.{distinct, human, actorFits, soundActors}
 use Rattle.world.specs.Judged.{humanIn}
-use Rattle.world.specs.Laws.{take-map, same-humans}
+use Rattle.world.proofs.Laws.{take-map, same-humans}
 
 -- the loop has come to place i: every element passes where every one of what is left does
 pub record Judging {A : Type 0} (p : A → Bool) (n : ℕ) (l : List A) (top i : ℕ) : Type 0 where

@@ -9,7 +9,8 @@ use lib.Dec.{eqb, ltb}
 use lib.ListN.{length, take, getD, length-map, length-take, List·getD-map}
 use lib.Seq.{getD-take}
 use Rattle.lists.specs.Tests.{cases, clash}
-use Rattle.lists.specs.Lists.{every, every-at, at-every}
+use Rattle.lists.specs.Lists.{every}
+use Rattle.lists.specs.Each.{every-at, at-every}
 use Rattle.register.specs.Limits.{actorLimit, resourceLimit, claimLimit, isId}
 use Rattle.register.specs.declared.Actor.{Actor}
 use Rattle.register.specs.declared.Resource.{Resource}
@@ -19,7 +20,7 @@ use Rattle.finding.specs.Finding.{placesOf}
 use Rattle.finding.specs.Laws.{places-at}
 use Rattle.rules.specs.Sound.{distinct, human, resourceFits, soundResources}
 use Rattle.world.specs.Judged.{humanId}
-use Rattle.world.specs.Laws.{take-map, human-found, resource-fits-same}
+use Rattle.world.proofs.Laws.{take-map, human-found, resource-fits-same}
 use Rattle.world.proofs.Fits.{resource-keeperless}
 
 -- what a read of a list of resources gives past its end

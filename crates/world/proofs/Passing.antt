@@ -11,7 +11,7 @@ use lib.Seq.{take-suc, take-take, take-length}
 use Rattle.lists.specs.Lists.{any}
 use Rattle.rules.specs.Sound.{distinct}
 use Rattle.rules.specs.Distinct.{distinct-more}
-use Rattle.world.specs.Laws.{distinct-front}
+use Rattle.world.proofs.Laws.{distinct-front}
 
 -- the loop has come to place i: those before it are distinct
 pub record Passing (column : List ℕ) (n top i : ℕ) : Type 0 where

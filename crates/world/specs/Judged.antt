@@ -1,5 +1,4 @@
--- Working definitions: who is a human by columns. They are shaped for the code; what they are in 01's words is `human-natural` and
--- `human-found`.
+-- Working: Who is a human by columns. They are shaped for the code; what they are in 01's words is `human-natural` and `human-found`.
 use mathlib.Core.Bool.{Bool, cond}
 use mathlib.Core.List.{List}
 use Prim.Native.Nat.{ℕ}

@@ -3,7 +3,7 @@
 use mathlib.Core.Path.{_≡_, refl}
 use mathlib.Core.List.{[]}
 use lib.ListN.{replicate, drop}
-use Rattle.lists.specs.Splices.{splice}
+use Rattle.lists.specs.Lists.{splice}
 use Rattle.register.specs.Register.{emptyRegister}
 use Rattle.register.specs.declared.Register.{Register}
 use Rattle.rules.specs.Sound.{distinct, soundActors, soundResources, soundClaims, withinLimits, sound}

@@ -3,11 +3,12 @@ use Prim.Native.Nat.{ℕ, _+_, _≤_}
 use mathlib.Core.Path.{_≡_}
 use mathlib.Core.List.{List, [], _∷_}
 use lib.ListN.{length}
-use Rattle.lists.specs.Splices.{splice}
+use Rattle.lists.specs.Lists.{splice}
 use Rattle.lines.specs.Reading.{Form, formLine}
 use Rattle.texts.specs.Records.{linesText}
-use Rattle.sheets.specs.Sheets.{put, behind}
+use Rattle.sheets.specs.Sheets.{put}
 use Rattle.sheets.specs.Laws.{Writing, writing-start, writing-put, writing-done}
+use Rattle.sheets.specs.Positions.{behind}
 
 -- a text is written but for the lines of these numbers
 pub record Lining (at : ℕ) (whole old : List ℕ) (forms : List Form) (numbers : List ℕ) (end : ℕ) (new : List ℕ) : Type 0 where

@@ -1,4 +1,4 @@
--- What is answered where a text fits and where it does not, and the length of a path. Assumes nothing.
+-- Laws: What is answered where a text fits and where it does not, and the length of a path. Assumes nothing.
 use Prim.Native.Nat.{ℕ, _≤_, _<_}
 use mathlib.Core.Path.{_≡_, refl}
 use mathlib.Core.List.{List}
@@ -9,8 +9,7 @@ use lib.ListN.{length, getD, take}
 use lib.Seq.{getD-take, length-take-le}
 use borrow.Author.Tests.{le-leb, lt-leb, leb-true}
 use Rattle.lists.specs.Tests.{cases}
-use Rattle.lists.specs.Lists.{every-at}
-use Rattle.lists.specs.Each.{all-imp, every-all, all-every}
+use Rattle.lists.specs.Each.{all-imp, every-all, all-every, every-at}
 use Rattle.register.specs.Limits.{pathLimit}
 use Rattle.register.specs.Register.{actorsOf, resourcesOf}
 use Rattle.register.specs.declared.Resource.{Resource}
@@ -23,7 +22,8 @@ use Rattle.refusals.specs.declared.Refusal.the-variants.{Unsound, BufferShort}
 use Rattle.sheets.specs.Sheets.{put}
 use Rattle.texts.specs.Registers.{registerText}
 use Rattle.texts.specs.declared.Written.{Written}
-use Rattle.writing.specs.Writing.{pathsFit, unwritten, delivered, registerWritten, registerBuffer}
+use Rattle.writing.specs.Writing.{unwritten, delivered, registerWritten, registerBuffer}
+use Rattle.writing.specs.Lengths.{pathsFit}
 
 pub delivered-fits : (t old : List ℕ) (n : ℕ) → length t ≤ length old → n ≡ length t →
     _≡_ {A = Written} (record { outcome = Accepted; length = n }) (delivered t old)

@@ -1,3 +1,4 @@
 pub mod Writing
+pub mod Lengths
 pub mod Laws
 pub mod Sections

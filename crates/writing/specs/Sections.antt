@@ -1,5 +1,5 @@
--- The text of a section, a count line and then thing by thing, for any kind of thing: what stands in the buffer after the count line, at
--- each turn of the loop over the things, and behind the last. Assumes nothing.
+-- Laws: The text of a section, a count line and then thing by thing, for any kind of thing: what stands in the buffer after the count line, at each
+-- turn of the loop over the things, and behind the last. Assumes nothing.
 use Prim.Native.Nat.{ℕ, suc, _+_, _≤_, _<_}
 use mathlib.Core.Path.{_≡_, sym, ap, _∙_, subst}
 use mathlib.Core.List.{List, [], _∷_, _++_}
@@ -7,13 +7,14 @@ use native.Mathlib.Omega.{arith}
 use native.Mathlib.Numerals.{add-one}
 use lib.ListN.{length, getD, take, drop, drop-of-length-le}
 use lib.Seq.{drop-cons, getD-take, length-take-le}
-use Rattle.lists.specs.Splices.{splice}
+use Rattle.lists.specs.Lists.{splice}
 use Rattle.lines.specs.Lines.{decimalLine}
 use Rattle.lines.specs.Reading.{count, formLine}
 use Rattle.texts.specs.Records.{texts, sectionText}
 use Rattle.texts.specs.Laws.{texts-none, texts-first}
-use Rattle.sheets.specs.Sheets.{put, behind}
+use Rattle.sheets.specs.Sheets.{put}
 use Rattle.sheets.specs.Laws.{Writing, writing-start, writing-put, writing-next, writing-room, writing-done}
+use Rattle.sheets.specs.Positions.{behind}
 
 module _ {A : Type 0} (text : A → List ℕ) (list : List A) (n : ℕ) where
   -- behind the count line the things are left

@@ -1,13 +1,9 @@
--- What writing a text into a lent buffer answers, and what it leaves there. Assumes nothing.
+-- Believed: What writing a text into a lent buffer answers, and what it leaves there.
 use Prim.Native.Nat.{ℕ}
 use mathlib.Core.List.{List}
-use mathlib.Core.Bool.{Bool, cond}
+use mathlib.Core.Bool.{cond}
 use lib.Dec.{leb}
 use lib.ListN.{length}
-use Rattle.lists.specs.Lists.{every}
-use Rattle.register.specs.Limits.{pathLimit}
-use Rattle.register.specs.Register.{resourcesOf}
-use Rattle.register.specs.declared.Resources.{Resources}
 use Rattle.register.specs.declared.Register.{Register}
 use Rattle.rules.specs.Sound.{sound}
 use Rattle.refusals.specs.declared.Outcome.the-variants.{Accepted, Refused}
@@ -16,10 +12,6 @@ use Rattle.refusals.specs.declared.Refusal.the-variants.{Unsound, BufferShort}
 use Rattle.sheets.specs.Sheets.{put}
 use Rattle.texts.specs.Registers.{registerText}
 use Rattle.texts.specs.declared.Written.{Written}
-
--- every path is as long as it says: what the code needs to look at its bytes
-unfoldable pub pathsFit : Resources → Bool
-pathsFit k = every (λ o. leb (o .len) pathLimit) (resourcesOf k)
 
 -- a refused write gives length 0
 abbrev pub unwritten : Refusal → Written

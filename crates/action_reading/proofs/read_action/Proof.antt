@@ -8,7 +8,8 @@ use lib.ListN.{length, replicate}
 use Rattle.register.specs.Limits.{idLimit, momentEnd}
 use Rattle.actions.specs.Actions.{useLimit, governLimit, flagCount}
 use Rattle.actions.specs.declared.Usage.{Usage}
-use Rattle.lines.specs.Reading.{State, going, number, closed, stateOf, formRefusal}
+use Rattle.lines.specs.Reading.{State, going, number, closed, formRefusal}
+use Rattle.lines.specs.Answers.{stateOf}
 use Rattle.texts.specs.Keys.{nowKey, actorKey, flagsKey}
 use Rattle.texts.specs.Actions.{headForms, noUse, readUses, readGoverns, actionEnding, actionOf, actionRead}
 use Rattle.texts.specs.declared.ActionRead.{ActionRead}

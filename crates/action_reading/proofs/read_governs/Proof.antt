@@ -5,7 +5,8 @@ use native.Mathlib.Omega.{arith}
 use mathlib.Core.Path.{refl}
 use Rattle.register.specs.Limits.{idLimit}
 use Rattle.actions.specs.Actions.{governLimit}
-use Rattle.lines.specs.Reading.{stateOf, countRefusal, formRefusal}
+use Rattle.lines.specs.Reading.{countRefusal, formRefusal}
+use Rattle.lines.specs.Answers.{stateOf}
 use Rattle.texts.specs.Keys.{governsKey, governKey}
 use Rattle.texts.specs.Actions.{readGovern, readGoverns}
 use Rattle.reading.specs.Runs.{field-bound}

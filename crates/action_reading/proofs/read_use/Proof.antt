@@ -6,7 +6,8 @@ use mathlib.Core.List.{[], _∷_}
 use mathlib.Core.Path.{sym}
 use Rattle.rights.specs.Rights.{rightCount}
 use Rattle.register.specs.Limits.{idLimit}
-use Rattle.lines.specs.Reading.{number, stateOf, formRefusal}
+use Rattle.lines.specs.Reading.{number, formRefusal}
+use Rattle.lines.specs.Answers.{stateOf}
 use Rattle.texts.specs.Keys.{useKey, rightKey}
 use Rattle.reading.specs.Runs.{run-none, run-next, field-bound}
 use Rattle.action_reading.proofs.read_use.Statement.{statement}

@@ -4,7 +4,8 @@ use borrow.Author.Needs.{needs}
 use native.Mathlib.Omega.{arith}
 use mathlib.Core.Path.{refl}
 use Rattle.actions.specs.Actions.{useLimit}
-use Rattle.lines.specs.Reading.{stateOf, countRefusal}
+use Rattle.lines.specs.Reading.{countRefusal}
+use Rattle.lines.specs.Answers.{stateOf}
 use Rattle.texts.specs.Keys.{usesKey}
 use Rattle.texts.specs.Actions.{noUse, readUse, readUses}
 use Rattle.reading.specs.Runs.{field-bound}

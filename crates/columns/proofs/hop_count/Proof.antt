@@ -1,36 +1,32 @@
--- `columns::hop_count` meets its contract. The loop's invariant: the steps up are told from those made and the chain still
--- above (Walking), and at most one step more than the limit was made. The measure is the number of steps left. Assumes nothing.
-use mathlib.Core.Path.{sym, _∙_}
-use Prim.Native.Nat.{_+_, _-_, _≤_}
+-- `columns::hop_count` meets its contract. The loop's invariant: the steps up are told from those made, at most as many as the limit, and the
+-- chain still above (Walking). The measure is the number of steps left. Assumes nothing.
+use mathlib.Core.Path.{sym}
+use Prim.Native.Nat.{_-_}
 use native.Mathlib.Omega.{arith}
 use borrow.Author.Needs.{needs}
 use Rattle.register.specs.Limits.{hopLimit}
-use Rattle.columns.specs.Columns.{chainPlaces, stepsUp}
-use Rattle.columns.proofs.Walking.{Climbing, climbing-start, climbing-root, climbing-nowhere, climbing-beyond, climbing-next}
+use Rattle.columns.specs.Columns.{placesUp, stepsUp}
+use Rattle.columns.proofs.Walking.{Climbing, climbing-start, climbing-root, climbing-next, climbing-beyond}
 use Rattle.columns.proofs.hop_count.Statement.{statement}
 use Rattle.columns.proofs.hop_count.Tie as tie
 
 abbrev Inv-loop : tie.InvT-loop
-Inv-loop ids parents n p below₀ next₀ steps₀ below next steps =
-    (steps ≤ hopLimit + 1) × Climbing ids parents steps below next (stepsUp (chainPlaces ids parents n p))
+Inv-loop ups from at₀ up₀ steps₀ at up steps = Climbing ups steps at up (stepsUp (placesUp ups from))
 
 abbrev μ-loop : tie.MeasureT-loop
-μ-loop ids parents n p below₀ next₀ steps₀ below next steps = hopLimit + 1 - steps
+μ-loop ups from at₀ up₀ steps₀ at up steps = hopLimit - steps
+
+place-above-requires : tie.Need-place-above-requires Inv-loop μ-loop
+place-above-requires c κs = search needs
 
 loop-holds : tie.Need-loop-holds Inv-loop μ-loop
-loop-holds c = (omega arith, climbing-start _ _ _ _)
+loop-holds c = climbing-start _ _ (c .place-above .ensures)
 
 returns : tie.Need-returns Inv-loop μ-loop
-returns c = sym (climbing-root (c .before .before .loop .inv .1) (omega arith) (c .if1 .taken))
+returns c = sym (climbing-root (c .before .before .loop .inv) (c .if1 .taken))
 
-latest-place-requires : tie.Need-latest-place-requires Inv-loop μ-loop
-latest-place-requires c κs = search needs
-
-enum-known-place : tie.Need-enum-known-place Inv-loop μ-loop
-enum-known-place c = search needs
-
-number-at-requires : tie.Need-number-at-requires Inv-loop μ-loop
-number-at-requires c κs = search needs
+place-above-requires-2 : tie.Need-place-above-requires-2 Inv-loop μ-loop
+place-above-requires-2 c κs = search needs
 
 add-steps : tie.Need-add-steps Inv-loop μ-loop
 add-steps c = search needs
@@ -40,23 +36,14 @@ loop-less c = search needs
 
 loop-again : tie.Need-loop-again Inv-loop μ-loop
 loop-again c =
-    let step = c .before .before .before .before in
-    let loop = step .before .before .before in (
-      omega arith,
-      climbing-next (loop .loop .inv .1) (step .before .if1 .left) (sym (step .latest-place .ensures) ∙ c .before .before .place .given .1)
-          (c .number-at .ensures),
-    )
-
-enum-told : tie.Need-enum-told Inv-loop μ-loop
-enum-told c = search needs
+    let turn = c .before .before .before in
+    climbing-next (turn .loop .inv) (omega (arith, c .before .if1 .left)) (c .before .before .loop-test .taken) (c .place-above2 .ensures)
 
 returns-2 : tie.Need-returns-2 Inv-loop μ-loop
-returns-2 c =
-    let loop = c .before .before .before .before .before in
-    sym (climbing-nowhere (loop .loop .inv .1) (omega arith) (sym (c .before .before .latest-place .ensures) ∙ c .enum-told .given .1))
+returns-2 c = sym (climbing-root (c .before .before .loop .inv) (c .if2 .taken))
 
 returns-3 : tie.Need-returns-3 Inv-loop μ-loop
-returns-3 c = sym (climbing-beyond (c .before .loop .inv .1) (omega arith))
+returns-3 c = sym (climbing-beyond (c .before .before .loop .inv) (omega (arith, c .if2 .left)) (c .before .loop-test .left))
 
 pub hop-count-spec : {M : Type 1} → statement M
 hop-count-spec =
@@ -64,14 +51,12 @@ hop-count-spec =
     (tie.spec
     Inv-loop
     μ-loop
+    place-above-requires
     loop-holds
     returns
-    latest-place-requires
-    enum-known-place
-    number-at-requires
+    place-above-requires-2
     add-steps
     loop-less
     loop-again
-    enum-told
     returns-2
     returns-3)

@@ -7,8 +7,9 @@ use native.Mathlib.Omega.{arith}
 use lib.ListN.{drop}
 use borrow.Author.Tests.{not-true, not-false}
 use borrow.Author.Needs.{needs}
-use Rattle.decimals.specs.Decimals.{Parsed, Says, parse, judge, value, digitRun, after}
+use Rattle.decimals.specs.Decimals.{Parsed, parse, judge, value, digitRun, after}
 use Rattle.decimals.specs.Walk.{run-stop, run-end, parse-empty, parse-zero, parse-lead, parse-single}
+use Rattle.decimals.specs.Answers.{Says}
 use Rattle.decimals.proofs.read_number.Statement.{statement}
 use Rattle.decimals.proofs.read_number.Tie as tie
 

@@ -4,9 +4,9 @@ use mathlib.Core.Path.{_≡_, refl}
 use Prim.Native.Nat.{_-_}
 use lib.ListN.{length}
 use borrow.Author.Needs.{needs}
-use Rattle.lists.specs.Each.{All}
 use Rattle.flat_paths.proofs.Owned.{each-told}
 use Rattle.lists.specs.Loops.{length-mapped}
+use Rattle.lists.specs.Lists.{All}
 use Rattle.register.specs.Limits.{resourceLimit, pathLimit}
 use Rattle.flat_paths.proofs.Laying.{Laying, laying-start, laying-room, laying-next, laying-done}
 use Rattle.flat_paths.proofs.lay.Statement.{statement}

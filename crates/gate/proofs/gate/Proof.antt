@@ -3,8 +3,8 @@
 use mathlib.Core.Path.{_≡_, sym, _∙_}
 use lib.ListN.{length}
 use borrow.Author.Tests.{not-true, not-false}
-use Rattle.lists.specs.Each.{All}
 use Rattle.lists.specs.Loops.{length-mapped}
+use Rattle.lists.specs.Lists.{All}
 use Rattle.register.specs.Limits.{actorLimit, resourceLimit, claimLimit, pathLimit}
 use Rattle.register.specs.Register.{Shaped}
 use Rattle.gate.proofs.Assembling.{outcome-seen, judged-seen, gate-judged, gate-unsound, gate-stopped}
@@ -69,7 +69,7 @@ returns-2 c =
 
 returns-3 : tie.Need-returns-3
 returns-3 c =
-    let told = c .before .before .before .before .before .before .before .before .before .before .before .before .before .before .before .before .before .before .before .before .before .before .before .before .before .before .before .before .before in
+    let told = c .before .before .before .before .before .before .before .before .before .before .before .before .before .before .before .before .before .before .before .before .before .before .before .before .before .before .before in
     let looking = told .before .before .before .before .before .before in
     let asked = looking .before .before in
     let s = asked .before in

@@ -9,10 +9,11 @@ use borrow.Author.Tests.{not-true, not-false, lt-ltb, le-ltb}
 use Rattle.lists.specs.Loops.{length-mapped}
 use Rattle.register.specs.Register.{claimsOf, noClaim}
 use Rattle.register.specs.Chain.{latest, above}
+use Rattle.rules.specs.Sound.{withinHops}
 use Rattle.refusals.specs.Refusals.{outcomeOf}
 use Rattle.granting.specs.Drawn.{drawnTests, chainTests}
 use Rattle.granting.proofs.Columns.{stands-asked, parent-nowhere, parent-inside, parent-stands, chain-asked, source-asked}
-use Rattle.granting.proofs.Deciding.{unsound, claim-unfit, moment-past, world-refuses, root-granted, parent-decides, parent-absent, parent-present}
+use Rattle.granting.proofs.Deciding.{unsound, claim-unfit, moment-past, world-refuses, root-granted, parent-decides, parent-absent, parent-present, decided-after}
 use borrow.Author.Needs.{needs}
 use Rattle.granting.proofs.grant_outcome.Statement.{statement}
 use Rattle.granting.proofs.grant_outcome.Tie as tie
@@ -106,6 +107,9 @@ element-copy-out-p c = found-inside c
 all-current-requires : tie.Need-all-current-requires
 all-current-requires c κs = search needs
 
+drawn-outcome-requires : tie.Need-drawn-outcome-requires
+drawn-outcome-requires c κs = search needs
+
 parent-outcome-requires : tie.Need-parent-outcome-requires
 parent-outcome-requires c κs = search needs
 
@@ -136,7 +140,8 @@ returns-6 c =
 
 returns-7 : tie.Need-returns-7
 returns-7 c =
-    let lived = c .before .before .before .before .before .before .before .before .before .before in
+    let asked = c .before .before .before .before .before .before .before .before .before .before in
+    let lived = asked .before in
     let placed = lived .before .before .before .before .before .before .before .before .before .before .before .before in
     let looked = placed .before .before in
     let judged = looked .before .before .before .before .before .before in
@@ -156,10 +161,14 @@ returns-7 c =
     (parent-present (given .now) (above (latest (claimsOf k)) (given .c)) (given .c)
     (parent-stands k (given .c) (taken .claim-columns .ensures) (sym (looked .latest-place .ensures) ∙ placed .place .given .1)
     (looked .before .before .before .before .if4 .left))
-    ∙ ap (λ lives. outcomeOf (drawnTests lives p (given .c) ++ chainTests (λ d. d .grantor) (λ d. d .holder) (above (latest (claimsOf k)) (given .c)) (given .c .holder)))
+    ∙ ap (λ lives. outcomeOf (drawnTests lives p (given .c) ++ chainTests (λ d. d .grantor) (λ d. d .holder) (withinHops (above (latest (claimsOf k)) (given .c)))
+    (above (latest (claimsOf k)) (given .c)) (given .c .holder)))
     (sym (source-asked k (given .c) (taken .claim-columns .ensures) (given .now) (lived .all-current .ensures)))
-    ∙ ap (λ tests. outcomeOf (drawnTests (lived .all-current .result) p (given .c) ++ tests)) (sym (chain-asked k (given .c) (taken .claim-columns .ensures)))
-    ∙ sym (c .parent-outcome .ensures)))
+    ∙ ap (λ tests. outcomeOf (drawnTests (lived .all-current .result) p (given .c) ++ tests)) (sym (chain-asked (given .r)
+    (sym (timed .before .before .before .before .is-sound .ensures) ∙ not-false _ (timed .before .before .before .if1 .left))
+    (places (timed .before .before .before .before .before)) (given .c) (looked .before .before .before .before .if4 .left)
+    (taken .claim-columns .ensures) (sym (looked .latest-place .ensures) ∙ placed .place .given .1)))
+    ∙ decided-after _ _ (asked .drawn-outcome .ensures) (c .parent-outcome .ensures)))
 
 pub grant-outcome-spec : {M : Type 1} → statement M
 grant-outcome-spec =
@@ -182,6 +191,7 @@ grant-outcome-spec =
     mul-p
     element-copy-out-p
     all-current-requires
+    drawn-outcome-requires
     parent-outcome-requires
     returns-5
     returns-6

@@ -3,9 +3,10 @@ use mathlib.Core.Path.{_≡_, ap, subst}
 use native.Mathlib.Omega.{arith}
 use borrow.Author.Needs.{needs}
 use Rattle.register.specs.Limits.{idLimit}
-use Rattle.decimals.specs.Decimals.{parse, Says}
+use Rattle.decimals.specs.Decimals.{parse}
 use Rattle.decimals.specs.Laws.{digits-parse}
 use Rattle.decimals.specs.declared.Number.{Number}
+use Rattle.decimals.specs.Answers.{Says}
 use Rattle.json_actions.specs.Members.{isExact}
 use Rattle.json_reading.proofs.Lists.{exact-whole, exact-behind}
 use Rattle.json_reading.proofs.number_in.Statement.{statement}

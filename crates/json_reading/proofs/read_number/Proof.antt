@@ -10,7 +10,7 @@ use Rattle.json_tokens.specs.Answers.{part, TokenSays}
 use Rattle.json_tokens.specs.declared.TokenAt.{TokenAt}
 use Rattle.json_actions.specs.Members.{takeNumber}
 use Rattle.json_reading.specs.Answers.{ExactSays}
-use Rattle.json_reading.specs.Laws.{number-noToken}
+use Rattle.json_reading.proofs.Laws.{number-noToken}
 use Rattle.json_reading.specs.declared.Exact.{Exact}
 use Rattle.json_reading.proofs.Lists.{number-taken, number-inexact, number-mark, number-nil}
 use Rattle.json_reading.proofs.read_number.Statement.{statement}

@@ -6,7 +6,7 @@ use Rattle.json_tokens.specs.Tokens.{tokens}
 use Rattle.json_tokens.specs.Answers.{TokenSays}
 use Rattle.json_tokens.specs.declared.TokenAt.{TokenAt}
 use Rattle.json_reading.specs.Answers.{separation}
-use Rattle.json_reading.specs.Laws.{separation-comma, separation-close, separation-other}
+use Rattle.json_reading.proofs.Laws.{separation-comma, separation-close, separation-other}
 use Rattle.json_reading.proofs.read_separator.Statement.{statement}
 use Rattle.json_reading.proofs.read_separator.Tie as tie
 

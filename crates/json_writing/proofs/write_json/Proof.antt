@@ -12,7 +12,7 @@ use lib.Seq.{length-take-le}
 use Rattle.sheets.specs.Sheets.{put}
 use Rattle.writing.specs.Writing.{delivered}
 use Rattle.json_actions.specs.Actions.{jsonText, jsonFits, jsonHolds, jsonLimit}
-use Rattle.json_writing.specs.Answers.{json-unfit, json-unheld, json-held}
+use Rattle.json_writing.proofs.Answers.{json-unfit, json-unheld, json-held}
 use Rattle.json_writing.proofs.Composing.{fits-tested, head-room, tail-room, sheet-inside, sheet-front}
 use Rattle.json_writing.proofs.write_json.Statement.{statement}
 use Rattle.json_writing.proofs.write_json.Tie as tie

@@ -7,8 +7,9 @@ use native.Mathlib.Omega.{arith}
 use lib.ListN.{length, drop}
 use borrow.Author.Tests.{not-true, not-false}
 use borrow.Author.Needs.{needs}
-use Rattle.decimals.specs.Decimals.{Parsed, parse, Says}
+use Rattle.decimals.specs.Decimals.{Parsed, parse}
 use Rattle.decimals.specs.declared.Number.{Number}
+use Rattle.decimals.specs.Answers.{Says}
 use Rattle.lines.specs.Lines.{begins, ended, parseLimited}
 use Rattle.lines.proofs.Walks.{limited-none, limited-on, limited-behind, ended-got, ended-got-other, ended-got-past}
 use Rattle.lines.proofs.Walks.{ended-large, ended-large-other, ended-large-past, ended-bad}

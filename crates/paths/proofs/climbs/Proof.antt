@@ -2,7 +2,7 @@
 -- answers. Assumes nothing.
 use mathlib.Core.Path.{sym, _∙_}
 use borrow.Author.Needs.{needs}
-use Rattle.paths.specs.Pairs.{paired-clean}
+use Rattle.paths.proofs.Pairs.{paired-clean}
 use Rattle.paths.proofs.climbs.Statement.{statement}
 use Rattle.paths.proofs.climbs.Tie as tie
 

@@ -5,8 +5,8 @@ use mathlib.Core.Bool.{_||_, or-assoc, or-false}
 use Prim.Native.Nat.{_-_, _<_}
 use native.Mathlib.Omega.{arith}
 use lib.ListN.{length, drop}
+use Rattle.paths.specs.Lent.{paired}
 use borrow.Author.Needs.{needs}
-use Rattle.paths.specs.Pairs.{paired}
 use Rattle.paths.proofs.Walks.{paired-end, paired-next}
 use Rattle.paths.proofs.has_paired_dots.Statement.{statement}
 use Rattle.paths.proofs.has_paired_dots.Tie as tie

@@ -8,7 +8,7 @@ use Rattle.plans.proofs.judge_all.Statement.{statement}
 use Rattle.plans.proofs.judge_all.Tie as tie
 
 abbrev Inv-loop : tie.InvT-loop
-Inv-loop names kinds owners actors reports publics resources bytes lens parents holders rights ends spots ups claims p top list₀ flagged₀ i₀ list flagged i =
+Inv-loop names kinds owners actors reports publics resources bytes lens holders rights ends spots ups claims p top list₀ flagged₀ i₀ list flagged i =
     Judging (record {
       names = names;
       kinds = kinds;
@@ -19,7 +19,6 @@ Inv-loop names kinds owners actors reports publics resources bytes lens parents 
       resources = resources;
       bytes = bytes;
       lens = lens;
-      parents = parents;
       holders = holders;
       rights = rights;
       ends = ends;
@@ -30,7 +29,7 @@ Inv-loop names kinds owners actors reports publics resources bytes lens parents 
     p top list flagged i
 
 abbrev μ-loop : tie.MeasureT-loop
-μ-loop names kinds owners actors reports publics resources bytes lens parents holders rights ends spots ups claims p top list₀ flagged₀ i₀ list flagged i =
+μ-loop names kinds owners actors reports publics resources bytes lens holders rights ends spots ups claims p top list₀ flagged₀ i₀ list flagged i =
     top - i
 
 least-requires : tie.Need-least-requires Inv-loop μ-loop

@@ -3,8 +3,8 @@
 use mathlib.Core.Path.{_≡_, sym, _∙_}
 use lib.ListN.{length}
 use borrow.Author.Tests.{not-true, not-false}
-use Rattle.lists.specs.Each.{All}
 use Rattle.lists.specs.Loops.{length-mapped}
+use Rattle.lists.specs.Lists.{All}
 use Rattle.register.specs.Limits.{actorLimit, resourceLimit, claimLimit, pathLimit}
 use Rattle.register.specs.Register.{Shaped}
 use Rattle.plans.proofs.Stopping.{stop-unsound, stop-many, stop-found, found-runs, found-halts}
@@ -78,7 +78,7 @@ returns-3 c =
 
 returns-4 : tie.Need-returns-4
 returns-4 c =
-    let told = c .before .before .before .before .before .before .before .before .before .before .before .before .before .before .before .before .before .before .before .before .before .before .before .before .before .before .before .before in
+    let told = c .before .before .before .before .before .before .before .before .before .before .before .before .before .before .before .before .before .before .before .before .before .before .before .before .before .before in
     let found = told .before .before in
     let looking = found .before .before .before .before in
     let asked = looking .before .before .before .before in

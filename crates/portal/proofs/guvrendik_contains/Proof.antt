@@ -1,8 +1,7 @@
 -- `portal::guvrendik_contains` meets its contract: the numbers are those of the inner answer. Assumes nothing.
 use mathlib.Core.Path.{ap, _∙_}
 use borrow.Author.Needs.{needs}
-use Rattle.answers.specs.Answers.{containmentOf}
-use Rattle.answers.specs.Laws.{containment-told}
+use Rattle.answers.specs.Laws.{containment-told, containmentOf}
 use Rattle.portal.proofs.guvrendik_contains.Statement.{statement}
 use Rattle.portal.proofs.guvrendik_contains.Tie as tie
 

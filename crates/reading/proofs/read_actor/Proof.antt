@@ -4,7 +4,8 @@ use native.Mathlib.Omega.{arith}
 use mathlib.Core.List.{[], _∷_}
 use mathlib.Core.Path.{ap, sym}
 use Rattle.register.specs.Limits.{idLimit}
-use Rattle.lines.specs.Reading.{number, kind, stateOf, formRefusal}
+use Rattle.lines.specs.Reading.{number, kind, formRefusal}
+use Rattle.lines.specs.Answers.{stateOf}
 use Rattle.texts.specs.Keys.{actorKey, ownerKey}
 use Rattle.texts.specs.Registers.{actorForms, actorFrom}
 use Rattle.reading.specs.Runs.{Run, run-none, run-next, field-bound, kind-field-bound}

@@ -7,10 +7,11 @@ use mathlib.Core.List.{List, _++_}
 use lib.ListN.{length, replicate}
 use Rattle.register.specs.Limits.{actorLimit}
 use Rattle.register.specs.Register.{noActor}
-use Rattle.lines.specs.Reading.{stateOf, countRefusal}
+use Rattle.lines.specs.Reading.{countRefusal}
 use Rattle.texts.specs.Keys.{actorsKey}
 use Rattle.texts.specs.Records.{many}
 use Rattle.register.specs.declared.Actor.{Actor}
+use Rattle.lines.specs.Answers.{stateOf}
 use Rattle.texts.specs.Registers.{readActor, readActors, heldActors}
 use Rattle.reading.specs.Runs.{field-bound}
 use Rattle.reading.specs.Filling.{Filling, filling-start, filling-next, filling-done}

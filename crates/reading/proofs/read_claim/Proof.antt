@@ -6,7 +6,8 @@ use mathlib.Core.List.{[], _∷_}
 use mathlib.Core.Path.{sym}
 use Rattle.rights.specs.Rights.{rightCount}
 use Rattle.register.specs.Limits.{idLimit, weightLimit, momentEnd}
-use Rattle.lines.specs.Reading.{number, stateOf, formRefusal}
+use Rattle.lines.specs.Reading.{number, formRefusal}
+use Rattle.lines.specs.Answers.{stateOf}
 use Rattle.texts.specs.Keys.{claimKey, parentKey, grantorKey, holderKey, resourceKey, rightsKey, weightKey, expiryKey}
 use Rattle.texts.specs.Registers.{claimForms}
 use Rattle.reading.specs.Runs.{Run, run-none, run-next, field-bound}

@@ -6,7 +6,8 @@ use Prim.Native.Nat.{ℕ}
 use Rattle.register.specs.declared.Actors.{Actors}
 use Rattle.register.specs.declared.Resources.{Resources}
 use Rattle.register.specs.declared.Claims.{Claims}
-use Rattle.lines.specs.Reading.{State, going, readForm, closed, stateOf}
+use Rattle.lines.specs.Reading.{State, going, readForm, closed}
+use Rattle.lines.specs.Answers.{stateOf}
 use Rattle.texts.specs.Registers.{versionForm, readActors, readResources, readClaims, heldActors, heldResources, heldClaims, registerEnding, registerRead, registerFrom}
 use Rattle.texts.specs.declared.RegisterRead.{RegisterRead}
 use Rattle.reading.specs.Runs.{run-start}

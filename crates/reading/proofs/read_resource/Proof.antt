@@ -6,7 +6,8 @@ use native.Mathlib.Omega.{arith}
 use mathlib.Core.List.{[], _∷_}
 use mathlib.Core.Path.{sym}
 use Rattle.register.specs.Limits.{idLimit}
-use Rattle.lines.specs.Reading.{number, stateOf, formRefusal}
+use Rattle.lines.specs.Reading.{number, formRefusal}
+use Rattle.lines.specs.Answers.{stateOf}
 use Rattle.texts.specs.Keys.{resourceKey, publicKey, keeperKey}
 use Rattle.texts.specs.Registers.{resourceForms}
 use Rattle.reading.specs.Runs.{Run, run-none, run-next, field-bound}

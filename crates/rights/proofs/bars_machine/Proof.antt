@@ -1,44 +1,103 @@
--- `rights::bars_machine` meets its contract. The three rights asked for are those that the table keeps from machines: one that is had
--- bars the machine (`bars-machine-complete`), and where two are not had the third decides (`bars-machine-natural`). Assumes nothing.
-use mathlib.Core.Path.{_≡_, refl, sym, _∙_}
-use mathlib.Core.Bool.{Bool, false}
-use Prim.Native.Nat.{ℕ}
+-- `rights::bars_machine` meets its contract. The loop's invariant: the table is the ruled one, and `kept` is the sum of the worths below `b`
+-- that it keeps from machines (Kept). The measure is the number of rows left. What has a digit in common with the whole sum bars a machine
+-- (`bars-mask`). Assumes nothing.
+use mathlib.Core.Path.{_≡_, refl, sym, ap, _∙_}
+use mathlib.Core.Bool.{Bool, not}
+use mathlib.Core.List.{List}
+use Prim.Native.Nat.{ℕ, _-_, _^_, _<_}
 use borrow.Author.Needs.{needs}
-use Rattle.rights.specs.Rights.{auditWriting, registryModifying, policyModifying, hasRight, barsMachine}
-use Rattle.rights.specs.Laws.{bars-machine-complete, bars-machine-natural}
+use lib.Dec.{eqb}
+use lib.Bits.{bitAnd}
+use lib.ListN.{getD}
+use Rattle.rights.specs.declared.Right.{Right}
+use Rattle.rights.specs.Rights.{rightCount, machineGrants}
+use Rattle.rights.specs.Table.{theTable, noRow}
+use Rattle.rights.proofs.Table.{table-worth, table-machine}
+use Rattle.rights.proofs.Kept.{Summing, summing-start, summing-free, summing-kept, summing-fits, summing-done, bars-mask}
 use Rattle.rights.proofs.bars_machine.Statement.{statement}
 use Rattle.rights.proofs.bars_machine.Tie as tie
 
-third-decides : (n : ℕ) (third : Bool) → hasRight n auditWriting ≡ false → hasRight n registryModifying ≡ false →
-    third ≡ hasRight n policyModifying → third ≡ barsMachine n
-third-decides n third audit registry policy = rw (bars-machine-natural, audit, registry) policy
+-- a row of the table
+module _ {table : List Right} (ruled : table ≡ theTable) {b : ℕ} (h : b < rightCount) where
+  worth-at : getD table b noRow .worth ≡ 2 ^ b
+  worth-at = ap (λ (t : List Right). getD t b noRow .worth) ruled ∙ table-worth b h
 
-has-requires : tie.Need-has-requires
-has-requires c κs = search needs
+  machine-at : {told : Bool} → getD table b noRow .machine ≡ told → machineGrants b ≡ told
+  machine-at e = sym (ap (λ (t : List Right). getD t b noRow .machine) ruled ∙ table-machine b h) ∙ e
 
-returns : tie.Need-returns
+abbrev Inv-loop : tie.InvT-loop
+Inv-loop n table kept₀ b₀ kept b = (table ≡ theTable) × Summing kept b
+
+abbrev μ-loop : tie.MeasureT-loop
+μ-loop n table kept₀ b₀ kept b = rightCount - b
+
+loop-holds : tie.Need-loop-holds Inv-loop μ-loop
+loop-holds c = (refl, summing-start)
+
+mul-if1 : tie.Need-mul-if1 Inv-loop μ-loop
+mul-if1 c = search needs
+
+element-copy-out-if1 : tie.Need-element-copy-out-if1 Inv-loop μ-loop
+element-copy-out-if1 c = search needs
+
+add-b : tie.Need-add-b Inv-loop μ-loop
+add-b c = search needs
+
+loop-less : tie.Need-loop-less Inv-loop μ-loop
+loop-less c = search needs
+
+loop-again : tie.Need-loop-again Inv-loop μ-loop
+loop-again c =
+    let inv = c .before .before .loop .inv in
+    let h = c .before .loop-test .taken in
+    (inv .0, summing-free (inv .1) h (machine-at (inv .0) h (c .if1 .taken)))
+
+mul-kept : tie.Need-mul-kept Inv-loop μ-loop
+mul-kept c = search needs
+
+element-copy-out-kept : tie.Need-element-copy-out-kept Inv-loop μ-loop
+element-copy-out-kept c = search needs
+
+add-kept : tie.Need-add-kept Inv-loop μ-loop
+add-kept c =
+    let inv = c .before .before .loop .inv in
+    let h = c .before .loop-test .taken in
+    let fits = summing-fits (inv .1) h (machine-at (inv .0) h (c .if1 .left)) (worth-at (inv .0) h) in
+    search needs
+
+add-b-2 : tie.Need-add-b-2 Inv-loop μ-loop
+add-b-2 c = search needs
+
+loop-less-2 : tie.Need-loop-less-2 Inv-loop μ-loop
+loop-less-2 c = search needs
+
+loop-again-2 : tie.Need-loop-again-2 Inv-loop μ-loop
+loop-again-2 c =
+    let inv = c .before .before .loop .inv in
+    let h = c .before .loop-test .taken in
+    (inv .0, summing-kept (inv .1) h (machine-at (inv .0) h (c .if1 .left)) (worth-at (inv .0) h))
+
+returns : tie.Need-returns Inv-loop μ-loop
 returns c =
     let n = c .before .before .args .n in
-    sym (bars-machine-complete n auditWriting (sym (c .before .has .ensures) ∙ c .if1 .taken) refl)
-
-has-requires-2 : tie.Need-has-requires-2
-has-requires-2 c κs = search needs
-
-returns-2 : tie.Need-returns-2
-returns-2 c =
-    let n = c .before .before .before .before .args .n in
-    sym (bars-machine-complete n registryModifying (sym (c .before .has2 .ensures) ∙ c .if2 .taken) refl)
-
-has-requires-3 : tie.Need-has-requires-3
-has-requires-3 c κs = search needs
-
-returns-3 : tie.Need-returns-3
-returns-3 c =
-    let n = c .before .before .before .before .before .args .n in
-    third-decides n (c .has3 .result)
-    (sym (c .before .before .before .before .has .ensures) ∙ c .before .before .before .if1 .left)
-    (sym (c .before .before .has2 .ensures) ∙ c .before .if2 .left)
-    (c .has3 .ensures)
+    ap (λ (m : ℕ). not (eqb (bitAnd n m) 0)) (summing-done (c .before .loop .inv .1) (c .loop-test .left)) ∙ bars-mask n
 
 pub bars-machine-spec : {M : Type 1} → statement M
-bars-machine-spec = tie.close (tie.spec has-requires returns has-requires-2 returns-2 has-requires-3 returns-3)
+bars-machine-spec =
+    tie.close
+    (tie.spec
+    Inv-loop
+    μ-loop
+    loop-holds
+    mul-if1
+    element-copy-out-if1
+    add-b
+    loop-less
+    loop-again
+    mul-kept
+    element-copy-out-kept
+    add-kept
+    add-b-2
+    loop-less-2
+    loop-again-2
+    returns)

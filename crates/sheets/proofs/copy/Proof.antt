@@ -6,7 +6,8 @@ use native.Mathlib.Omega.{arith}
 use native.Mathlib.Numerals.{add-one}
 use lib.ListN.{length, take, getD, length-set}
 use lib.Seq.{length-take-le, take-suc, take-all}
-use Rattle.lists.specs.Splices.{splice, splice-nil, splice-snoc}
+use Rattle.lists.specs.Splices.{splice-nil, splice-snoc}
+use Rattle.lists.specs.Lists.{splice}
 use Rattle.sheets.proofs.copy.Statement.{statement}
 use Rattle.sheets.proofs.copy.Tie as tie
 

@@ -9,7 +9,7 @@ use Rattle.uses_judging.proofs.judge_uses.Statement.{statement}
 use Rattle.uses_judging.proofs.judge_uses.Tie as tie
 
 abbrev Inv-loop : tie.InvT-loop
-Inv-loop own owns theirs has owned rights spots bytes lens publics reports m parents ups a top violations₀ hops₀ position₀ i₀ violations hops position i =
+Inv-loop own owns theirs has owned rights spots bytes lens publics reports m ups a top violations₀ hops₀ position₀ i₀ violations hops position i =
     Turning (record {
       own = take owns own;
       theirs = take has theirs;
@@ -19,13 +19,12 @@ Inv-loop own owns theirs has owned rights spots bytes lens publics reports m par
       bytes = bytes;
       lens = lens;
       publics = publics;
-      parents = parents;
       ups = ups;
     })
     reports m a violations₀ top violations hops position i
 
 abbrev μ-loop : tie.MeasureT-loop
-μ-loop own owns theirs has owned rights spots bytes lens publics reports m parents ups a top violations₀ hops₀ position₀ i₀ violations hops position i =
+μ-loop own owns theirs has owned rights spots bytes lens publics reports m ups a top violations₀ hops₀ position₀ i₀ violations hops position i =
     top - i
 
 least-requires : tie.Need-least-requires Inv-loop μ-loop

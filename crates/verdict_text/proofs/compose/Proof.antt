@@ -4,7 +4,7 @@ use native.Mathlib.Omega.{arith}
 use borrow.Author.Needs.{needs}
 use Rattle.texts.specs.Actions.{actionRead}
 use Rattle.verdict_text.specs.Printed.{stoppedText, actionLines, printed}
-use Rattle.verdict_text.specs.Lengths.{stopped-length}
+use Rattle.verdict_text.proofs.Lengths.{stopped-length}
 use Rattle.verdict_text.proofs.Joining.{same-written}
 use Rattle.verdict_text.proofs.Composing.{accepted-printed, refused-printed}
 use Rattle.verdict_text.proofs.compose.Statement.{statement}

@@ -8,12 +8,13 @@ use borrow.Author.Needs.{needs}
 use borrow.Author.Tests.{eq-eqb, ne-eqb}
 use Rattle.register.specs.Limits.{momentEnd}
 use Rattle.refusals.specs.declared.Refusal.the-variants.{OutOfRange, BadForm}
-use Rattle.lines.specs.Reading.{State, count, countRefusal, readForm, closed, stateOf}
+use Rattle.lines.specs.Reading.{State, count, countRefusal, readForm, closed}
+use Rattle.lines.specs.Answers.{stateOf}
 use Rattle.texts.specs.Keys.{nowKey}
 use Rattle.reading.specs.Runs.{run-start, stands-failed, stands-going}
 use Rattle.json_actions.specs.Actions.{jsonRead}
 use Rattle.verdict_text.specs.Printed.{stoppedText, jsonLines, clockRefusal, clockRead, clockLines}
-use Rattle.verdict_text.specs.Lengths.{stopped-length}
+use Rattle.verdict_text.proofs.Lengths.{stopped-length}
 use Rattle.verdict_text.proofs.Joining.{same-written}
 use Rattle.verdict_text.proofs.Composing.{clock-going, clock-failed}
 use Rattle.verdict_text.proofs.compose_clock.Statement.{statement}

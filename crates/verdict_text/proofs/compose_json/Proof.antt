@@ -4,7 +4,7 @@ use native.Mathlib.Omega.{arith}
 use borrow.Author.Needs.{needs}
 use Rattle.json_actions.specs.Actions.{jsonRead}
 use Rattle.verdict_text.specs.Printed.{stoppedText, verdictText, jsonLines}
-use Rattle.verdict_text.specs.Lengths.{stopped-length}
+use Rattle.verdict_text.proofs.Lengths.{stopped-length}
 use Rattle.verdict_text.proofs.Joining.{same-written}
 use Rattle.verdict_text.proofs.Composing.{judged-fits, judged-json, refused-json}
 use Rattle.verdict_text.proofs.compose_json.Statement.{statement}

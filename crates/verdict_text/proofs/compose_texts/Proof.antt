@@ -4,7 +4,7 @@ use native.Mathlib.Omega.{arith}
 use borrow.Author.Needs.{needs}
 use Rattle.lines.specs.Reading.{closed}
 use Rattle.verdict_text.specs.Printed.{stoppedText, clockRead, clockLines, jsonPrinted}
-use Rattle.verdict_text.specs.Lengths.{stopped-length}
+use Rattle.verdict_text.proofs.Lengths.{stopped-length}
 use Rattle.verdict_text.proofs.Joining.{same-written}
 use Rattle.verdict_text.proofs.Composing.{accepted-json, stopped-json}
 use Rattle.verdict_text.proofs.compose_texts.Statement.{statement}

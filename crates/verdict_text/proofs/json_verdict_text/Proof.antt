@@ -11,7 +11,7 @@ use Rattle.sheets.specs.Sheets.{put}
 use Rattle.sheets.specs.Laws.{splice-front}
 use Rattle.writing.specs.Writing.{delivered}
 use Rattle.verdict_text.specs.Printed.{jsonPrinted, printedLimit}
-use Rattle.verdict_text.specs.Lengths.{json-printed-length}
+use Rattle.verdict_text.proofs.Lengths.{json-printed-length}
 use Rattle.verdict_text.proofs.json_verdict_text.Statement.{statement}
 use Rattle.verdict_text.proofs.json_verdict_text.Tie as tie
 

@@ -11,7 +11,7 @@ use Rattle.sheets.specs.Sheets.{put}
 use Rattle.sheets.specs.Laws.{splice-front}
 use Rattle.writing.specs.Writing.{delivered}
 use Rattle.verdict_text.specs.Printed.{printed, printedLimit}
-use Rattle.verdict_text.specs.Lengths.{printed-length}
+use Rattle.verdict_text.proofs.Lengths.{printed-length}
 use Rattle.verdict_text.proofs.verdict_text.Statement.{statement}
 use Rattle.verdict_text.proofs.verdict_text.Tie as tie
 

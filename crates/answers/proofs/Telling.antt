@@ -1,0 +1,40 @@
+-- What the numbers of an exported answer tell, answer by answer. Assumes nothing.
+use mathlib.Core.Path.{_≡_, refl}
+use native.Mathlib.Omega.{arith}
+use Rattle.refusals.specs.Laws.{number-bounds}
+use Rattle.refusals.specs.declared.Outcome.{Outcome}
+use Rattle.refusals.specs.declared.Outcome.the-variants.{Accepted, Refused as RefusedFor}
+use Rattle.actions.specs.Actions.{judgementNumber}
+use Rattle.actions.specs.declared.Decision.{Decision}
+use Rattle.actions.specs.declared.Decision.the-variants.{Permitted, Refused, Stopped}
+use Rattle.actions.specs.declared.Judgement.{Judgement}
+use Rattle.actions.specs.declared.Judgement.the-variants.{Permitted as Agreed, Refused as Denied, Cancelled}
+use Rattle.answers.specs.Answers.{acceptedNumber, refusalNumber, decisionNumber}
+
+-- only what is accepted has the number 1
+pub accepted-alone : (o : Outcome) → acceptedNumber o ≡ 1 → o ≡ Accepted
+accepted-alone Accepted one = refl
+accepted-alone (RefusedFor why) one = absurd (omega arith)
+
+-- only the permitted action has the number 1
+pub permitted-alone : (d : Decision) → decisionNumber d ≡ 1 → d ≡ Permitted
+permitted-alone Permitted one = refl
+permitted-alone Refused one = absurd (omega arith)
+permitted-alone (Stopped why) one = absurd (omega arith)
+
+-- only the permitted action of a plan has the number 1
+pub agreed-alone : (j : Judgement) → judgementNumber j ≡ 1 → j ≡ Agreed
+agreed-alone Agreed one = refl
+agreed-alone (Denied violations) one = absurd (omega arith)
+agreed-alone Cancelled one = absurd (omega arith)
+
+-- no outcome is told by zeros alone
+pub outcome-zero-clash : (o : Outcome) → acceptedNumber o ≡ 0 → refusalNumber o ≡ 0 → ⊥
+outcome-zero-clash Accepted accepted refused = omega arith
+outcome-zero-clash (RefusedFor why) accepted refused = omega (arith, number-bounds why .0)
+
+-- no decision is told by 0
+pub decision-zero-clash : (d : Decision) → decisionNumber d ≡ 0 → ⊥
+decision-zero-clash Permitted zero = omega arith
+decision-zero-clash Refused zero = omega arith
+decision-zero-clash (Stopped why) zero = omega arith

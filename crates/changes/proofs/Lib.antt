@@ -1,0 +1,3 @@
+pub mod Sameness
+pub mod Theorems
+pub mod Cases

@@ -1,0 +1,24 @@
+-- `columns::place_above` meets its contract: inside the column the place is read, past its end there is the default. Assumes nothing.
+use mathlib.Core.Path.{sym}
+use borrow.Author.Needs.{needs}
+use lib.ListN.{List·getD-eq-default}
+use Rattle.columns.specs.Laws.{getD-inside}
+use Rattle.columns.proofs.place_above.Statement.{statement}
+use Rattle.columns.proofs.place_above.Tie as tie
+
+mul-result : tie.Need-mul-result
+mul-result c = search needs
+
+shared-slice-read-result : tie.Need-shared-slice-read-result
+shared-slice-read-result c = search needs
+
+returns : tie.Need-returns
+returns c =
+    let a = c .before .before .args in
+    getD-inside (a .ups .now) (a .at) 0 (a .at) (c .before .if1 .taken)
+
+returns-2 : tie.Need-returns-2
+returns-2 c = sym (List·getD-eq-default (c .before .args .ups .now) (c .before .args .at) (c .if1 .left))
+
+pub place-above-spec : {M : Type 1} → statement M
+place-above-spec = tie.close (tie.spec mul-result shared-slice-read-result returns returns-2)

@@ -1,0 +1,39 @@
+-- A machine without an owner is never permitted, and neither is one that governs. Assumes nothing.
+use mathlib.Core.Path.{_≡_, ap}
+use mathlib.Core.Bool.{true, false}
+use Prim.Native.Nat.{_<_}
+use native.Mathlib.Omega.{arith}
+use lib.ListN.{length, length-take}
+use Rattle.lists.specs.Tests.{clash}
+use Rattle.register.specs.Register.{actorsOf}
+use Rattle.register.specs.declared.Register.{Register}
+use Rattle.rules.specs.Sound.{isMachine}
+use Rattle.actions.specs.Actions.{governsOf}
+use Rattle.actions.specs.declared.Action.{Action}
+use Rattle.actions.specs.declared.Decision.the-variants.{Permitted, Refused}
+use Rattle.verdicts.specs.Gate.{isOwnerless, gated}
+use Rattle.verdicts.specs.Laws.{permitted-out, refused-in, violations-none-out}
+use Rattle.verdicts.specs.Authority.{Passed}
+
+-- a machine without an owner that is not stopped is refused, so it is never permitted
+pub ownerless-refused : (r : Register) (a : Action) → Passed r a → isOwnerless r (a .actor) ≡ true → gated r a .decision ≡ Refused
+ownerless-refused r a passed e =
+    refused-in r a passed (λ none. clash (isOwnerless r (a .actor)) e (violations-none-out r a none .owned))
+
+pub permitted-owned : (r : Register) (a : Action) → gated r a .decision ≡ Permitted → isOwnerless r (a .actor) ≡ false
+permitted-owned r a h = permitted-out r a h .clean .owned
+
+pub ownerless-never : (r : Register) (a : Action) → isOwnerless r (a .actor) ≡ true → gated r a .decision ≡ Permitted → ⊥
+ownerless-never r a e h = clash (isOwnerless r (a .actor)) e (permitted-owned r a h)
+
+-- a machine that governs and is not stopped is refused, so it is never permitted
+pub governing-refused : (r : Register) (a : Action) → Passed r a → isMachine (actorsOf (r .actors)) (a .actor) ≡ true → 0 < length (governsOf a) → gated r a .decision ≡ Refused
+governing-refused r a passed e some =
+    refused-in r a passed (λ none. omega (arith, ap length (violations-none-out r a none .ungoverning e)))
+
+pub governing-never : (r : Register) (a : Action) → isMachine (actorsOf (r .actors)) (a .actor) ≡ true → 0 < length (governsOf a) → gated r a .decision ≡ Permitted → ⊥
+governing-never r a e some h = omega (arith, ap length (permitted-out r a h .clean .ungoverning e))
+
+-- a count above 0 is a governed entry, where the list has room for it
+pub governing-entries : (a : Action) → 0 < a .governed → 0 < length (a .governs) → 0 < length (governsOf a)
+governing-entries a some room = omega (arith, length-take (a .governed) (a .governs))
