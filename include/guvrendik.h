@@ -1,5 +1,5 @@
-/* Guvrendik: a proved authority gate. Link target/staticlib/libportal.a, or libportal.so beside it, which `./library`
- * makes for x86-64.
+/* Guvrendik: a proved authority gate, for x86-64. `./install PREFIX` puts libguvrendik.a and libguvrendik.so.1, this header and
+ * guvrendik.pc in place; `pkg-config --cflags --libs guvrendik` says how to build with them.
  *
  * No call allocates, keeps a pointer, writes a global or touches errno: any number of threads may call at once, also on the same
  * register. Structs pass by value; a register is 16,664 bytes. What a call lends with a pointer and a length belongs to the
@@ -14,7 +14,17 @@
  *
  * Proved, of every call: it equals a definition in the rule book's words, for all inputs (docs/CONTRACTS.md names each one); it
  * never reads or writes out of range, overflows or runs on for ever. Not proved: that the caller's pointers and lengths are good,
- * and how C and the library pass structs to each other; the second is tested. */
+ * and how C and the library pass structs to each other; the second is tested.
+ *
+ * What your portal must do (docs/PORTAL.md says why and how):
+ *  - Serialise changes. A grant or revocation answers a new register: one that was computed on an old copy and stored after
+ *    another change undoes that change, and brings a revoked claim back. Hold one lock from reading the register to storing it.
+ *  - Give now, the actor, the grantor, the revoker and the flags itself, never from what a visitor sent: the gate believes them.
+ *  - Keep and compare registers by their text (guvrendik_write_register), not by the struct's bytes.
+ *  - Mind outer paths: who holds a claim on an outer or empty path may use what other keepers have inside it.
+ *  - Give each thread the stack that its calls need, and its own copies of the structs beside it.
+ *  - Tell a visitor no more than the gate's verdict: an absent report and one that is not held look alike there, and not in a
+ *    grant. */
 #ifndef GUVRENDIK_H
 #define GUVRENDIK_H
 
@@ -24,6 +34,12 @@
 #ifdef __cplusplus
 extern "C" {
 #endif
+
+/* The version of this header. guvrendik_version answers that of the library; the shared object is named by the first number. That one
+ * changes where a caller must be changed or compiled anew, the second where a call is new. */
+#define GUVRENDIK_VERSION_MAJOR 1
+#define GUVRENDIK_VERSION_MINOR 0
+#define GUVRENDIK_VERSION_PATCH 0
 
 /* Limits. */
 #define GUVRENDIK_ACTORS 64
@@ -39,6 +55,7 @@ extern "C" {
 #define GUVRENDIK_VERDICT_TEXT 1103   /* no verdict's text is longer */
 #define GUVRENDIK_JSON_TEXT 807       /* no action that is written as JSON is longer */
 #define GUVRENDIK_JSON_ID 64          /* bytes of a JSON action's id */
+#define GUVRENDIK_WORD_TEXT 128       /* no text of a number is longer */
 
 /* The largest numbers of the fields. */
 #define GUVRENDIK_ID_MAX UINT32_C(65535)
@@ -85,7 +102,7 @@ extern "C" {
 #define GUVRENDIK_COALITION_REDUCES_FREEDOM 9
 #define GUVRENDIK_FLAGS 10
 
-/* The numbers that a call refuses with. */
+/* The numbers that a call refuses with. guvrendik_refusal_text has words for them. */
 #define GUVRENDIK_UNSOUND 1         /* register not sound */
 #define GUVRENDIK_RANGE 2           /* field or count of the call out of range */
 #define GUVRENDIK_ABSENT 3          /* grantor, holder, granted or cleared resource, revoker, clearing caller or acting actor not in the
@@ -162,6 +179,42 @@ typedef struct guvrendik_register {
     guvrendik_resources resources;
     guvrendik_claims claims;
 } guvrendik_register;
+
+/* The three functions below put an entry at the end of its list in a register that is being built, and answer 1; or 0, and change
+ * nothing, where the list is full or the path is longer than 64 bytes. They judge nothing else: guvrendik_sound does. They are part
+ * of this header and not of the library: tested, not proved. */
+static inline int guvrendik_put_actor(guvrendik_register *r, uint32_t id, uint32_t kind, uint32_t owner) {
+    guvrendik_actor *a;
+    if (r->actors.count >= GUVRENDIK_ACTORS) return 0;
+    a = &r->actors.list[r->actors.count++];
+    a->id = id;
+    a->kind = kind;
+    a->owner = owner;
+    return 1;
+}
+
+/* path/path_len: the bytes of the path, read during the call only. May be NULL where path_len is 0. */
+static inline int guvrendik_put_resource(guvrendik_register *r, uint32_t id, uint32_t is_public, uint32_t keeper,
+                                         const void *path, size_t path_len) {
+    const uint8_t *bytes = (const uint8_t *)path;
+    guvrendik_resource *o;
+    size_t i;
+    if (r->resources.count >= GUVRENDIK_RESOURCES || path_len > GUVRENDIK_PATH) return 0;
+    o = &r->resources.list[r->resources.count++];
+    o->id = id;
+    o->is_public = is_public;
+    o->keeper = keeper;
+    o->len = path_len;
+    for (i = 0; i < GUVRENDIK_PATH; i++) o->path[i] = (uint8_t)(i < path_len ? bytes[i] : 0);
+    return 1;
+}
+
+/* To a register in use, claims come by guvrendik_grant alone. */
+static inline int guvrendik_put_claim(guvrendik_register *r, guvrendik_claim c) {
+    if (r->claims.count >= GUVRENDIK_CLAIMS) return 0;
+    r->claims.list[r->claims.count++] = c;
+    return 1;
+}
 
 /* The answer of guvrendik_sound. */
 typedef struct guvrendik_soundness {
@@ -258,7 +311,7 @@ typedef struct guvrendik_action {
     size_t governed;                     /* 0 to 8 */
 } guvrendik_action;
 
-/* Kinds of violation, in the order of a verdict's list. */
+/* Kinds of violation, in the order of a verdict's list. guvrendik_violation_text has words for them. */
 #define GUVRENDIK_FLAG 1               /* value: the flag, lowest first */
 #define GUVRENDIK_MACHINE_OWNERLESS 2  /* value: the actor's id */
 #define GUVRENDIK_MACHINE_GOVERNS 3    /* value: the governed entry's position, from 0 */
@@ -274,8 +327,8 @@ typedef struct guvrendik_violation {
 /* Decisions. */
 #define GUVRENDIK_PERMITTED UINT32_C(1)
 #define GUVRENDIK_REFUSED UINT32_C(2)   /* there are violations */
-#define GUVRENDIK_STOPPED UINT32_C(3)   /* of a verdict: the call was refused */
-#define GUVRENDIK_CANCELLED UINT32_C(3) /* of a judgement: an action before it has a flag set */
+#define GUVRENDIK_STOPPED UINT32_C(3)   /* of a verdict: the call was refused. The same number as CANCELLED */
+#define GUVRENDIK_CANCELLED UINT32_C(3) /* of a judgement: an action before it has a flag set. The same number as STOPPED */
 
 /* The answer of guvrendik_gate. */
 typedef struct guvrendik_verdict {
@@ -460,6 +513,40 @@ guvrendik_json_read guvrendik_read_json(const uint8_t *text, size_t text_len, ui
  * Stack: 3,000 bytes. */
 guvrendik_written guvrendik_write_json(guvrendik_action a, const uint8_t *id, size_t id_len, uint32_t kind, uint8_t *buffer,
                                        size_t buffer_len);
+
+/* ---- Words ----
+ * Each call writes the words for a number, any number: one that stands for nothing has its own, `unknown refusal` and the like.
+ *  buffer/buffer_len  where to, as for guvrendik_write_register. GUVRENDIK_WORD_TEXT bytes are enough for every number.
+ * Refusal: 21 buffer too short. Then the buffer keeps every byte. No zero byte is added. */
+
+/* What a refusal's number says. 0 is `not refused`.
+ * Stack: 2,000 bytes. */
+guvrendik_written guvrendik_refusal_text(uint32_t number, uint8_t *buffer, size_t buffer_len);
+
+/* What a violation's kind says. 0 and 6 are none.
+ * Stack: 1,000 bytes. */
+guvrendik_written guvrendik_violation_text(uint32_t kind, uint8_t *buffer, size_t buffer_len);
+
+/* The name of a right, 0 to 16: READ to POLICY_MODIFY.
+ * Stack: 1,000 bytes. */
+guvrendik_written guvrendik_right_name(uint32_t right, uint8_t *buffer, size_t buffer_len);
+
+/* The name of a flag, 0 to 9, as in a JSON action: increases_machine_sovereignty to machine_coalition_reduces_freedom.
+ * Stack: 1,000 bytes. */
+guvrendik_written guvrendik_flag_name(uint32_t flag, uint8_t *buffer, size_t buffer_len);
+
+/* ---- The library ---- */
+
+/* The answer of guvrendik_version. */
+typedef struct guvrendik_version_numbers {
+    uint32_t major;
+    uint32_t minor;
+    uint32_t patch;
+} guvrendik_version_numbers;
+
+/* The version of the library. With this header it is GUVRENDIK_VERSION_MAJOR, _MINOR and _PATCH.
+ * Stack: 128 bytes. */
+guvrendik_version_numbers guvrendik_version(void);
 
 #ifdef __cplusplus
 }

@@ -20,7 +20,7 @@ with commas between (`rules/Sound: alone, over`), and a file alone as `crate/Fil
 below tests/cases, as `cases/name`, or the beginning of a line that tests/calls prints, in quotes.
 
 The lines that are counted are those of definitions, without comments, blank lines and `use`. The bar is for what the base's exported calls, `History`
-and `Authority` rest on; what the other theorems' statements add, and what only T-04's JSON does, are counted apart.
+and `Authority` rest on; what the other theorems' statements add, and what only T-04's JSON, the words for numbers and the version do, are counted apart.
 """
 import functools
 import os
@@ -32,7 +32,7 @@ import tempfile
 BAR = 1200
 THEOREM_LINES = 100
 MARKS = ("Believed", "Working", "Laws")
-JSON = re.compile(r"json")
+APART = re.compile(r"json|words|refusal_text|violation_text|right_name|flag_name|version")
 RULES = "docs/RULES.md"
 REPOSITORY = os.path.dirname(os.path.dirname(os.path.dirname(os.path.abspath(__file__))))
 EXPORTED, PRINTED = "portal", "verdict_text"
@@ -487,8 +487,8 @@ class Belief:
         self.calls = [name for name, _ in calls]
         for name, roots in calls:
             self.holds(any(kind == "item" for (kind, _), _ in roots), f"{name} has no contract that names a definition")
-        base = [r for name, roots in calls if not JSON.search(name) for r in roots]
-        json = [r for name, roots in calls if JSON.search(name) for r in roots]
+        base = [r for name, roots in calls if not APART.search(name) for r in roots]
+        apart = [r for name, roots in calls if APART.search(name) for r in roots]
         for crate, file, name in DEMANDS:
             known = tree.files.get((crate, "specs", file))
             items = known.owner.get(name) if known else None
@@ -496,10 +496,10 @@ class Belief:
             base += [(("item", item), name) for item in items or []]
         stated = []
         for file in tree.theorem_files():
-            (json if JSON.search(file.crate) else stated).extend(tree.theorem_roots(file))
+            (apart if APART.search(file.crate) else stated).extend(tree.theorem_roots(file))
         self.base, base_types, _ = tree.closure(base)
         self.stated, stated_types, _ = tree.closure(base + stated)
-        self.reached, self.types, lost = tree.closure(base + stated + json)
+        self.reached, self.types, lost = tree.closure(base + stated + apart)
         for what, via in sorted(lost.items()):
             self.faults.append(f"{via} names {what}, which stands nowhere")
         self.check_marks()
@@ -604,7 +604,7 @@ class Belief:
         for title, items in (
                 ("the base: exported calls, History and Authority", [i for i in self.reached if self.group(i) == ""]),
                 ("the statements of the other theorems, besides", [i for i in self.reached if self.group(i) == "theorems"]),
-                ("T-04's JSON, besides", [i for i in self.reached if self.group(i) == "T-04"]),
+                ("T-04's JSON, and the words for numbers, besides", [i for i in self.reached if self.group(i) == "T-04"]),
                 ("all", list(self.reached))):
             yield f"{title}: {len(items)} definitions, {lines_of(items)} lines, {len({i.file for i in items})} files"
 

@@ -184,5 +184,6 @@ void change_lines(void);
 void order_lines(void);
 void gate_lines(void);
 void plan_lines(void);
+void word_lines(void);
 
 #endif

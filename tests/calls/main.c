@@ -7,5 +7,6 @@ int main(void) {
     order_lines();
     gate_lines();
     plan_lines();
+    word_lines();
     return 0;
 }

@@ -47,6 +47,8 @@ enum {
     THREADS,
     STACK,
     LENT_STACK,
+    WORDS,
+    WORD_STACK,
 };
 
 /* Marks: what was noticed beside an answer. */
@@ -810,6 +812,11 @@ static void pass_nulls(void) {
     expect(n.accepted == 0 && n.refusal == GUVRENDIK_BUFFER && n.length == 0, "no id, and no buffer for a JSON action");
     guvrendik_containment empty = guvrendik_contains(NULL, 0, NULL, 0);
     expect(empty.contained == 1 && empty.length == 0, "the empty path in itself");
+    guvrendik_written t = guvrendik_refusal_text(1, NULL, 0);
+    expect(t.accepted == 0 && t.refusal == GUVRENDIK_BUFFER && t.length == 0, "no buffer for a refusal's words");
+    guvrendik_version_numbers of = guvrendik_version();
+    expect(of.major == GUVRENDIK_VERSION_MAJOR && of.minor == GUVRENDIK_VERSION_MINOR && of.patch == GUVRENDIK_VERSION_PATCH,
+           "the library has the header's version");
 }
 
 static char *text_of(payload *p, size_t length) {
@@ -1181,6 +1188,51 @@ static void do_lent_stack(payload *p) {
     errno = 0;
 }
 
+/* ---- Words ---- */
+
+enum { WORD_CALLS = 4 };
+
+/* The calls, in the order of src/model/words.rs. */
+static guvrendik_written (*const word_calls[WORD_CALLS])(uint32_t, uint8_t *, size_t) = {
+    guvrendik_refusal_text,
+    guvrendik_violation_text,
+    guvrendik_right_name,
+    guvrendik_flag_name,
+};
+
+/* The words for each of so many numbers from the first on, into a buffer of that room: for each the marks, the answer and the buffer. */
+static void do_words(payload *p) {
+    static uint8_t first[ROOM];
+    uint32_t call = take32(p), number = take32(p), count = take32(p), room = take32(p);
+    uint8_t fill = (uint8_t)take32(p);
+    for (; count > 0; count--, number++) {
+        guvrendik_written got[2];
+        uint32_t marks = 0;
+        for (placement where = AT_END; where <= AT_START; where++) {
+            uint8_t *buffer = lend_buffer(arena_one, room, fill, where);
+            got[where] = word_calls[call](number, buffer, room);
+            marks |= buffer_mark(arena_one, buffer, room, where) | written_mark(first, buffer, room, where);
+        }
+        answer_written(marks, got, first, room);
+    }
+}
+
+static size_t word_call;
+
+static void stack_words(void) {
+    stack_answers.json_written = word_calls[word_call](UINT32_MAX, stack_answers.page, sizeof stack_answers.page);
+}
+
+/* The stack of each of the calls on a number that the whole table is walked through for. */
+static void do_word_stack(void) {
+    uint64_t idle = stack_of(no_call), used[WORD_CALLS];
+    for (word_call = 0; word_call < WORD_CALLS; word_call++) {
+        used[word_call] = stack_of(stack_words) - idle;
+    }
+    answer_marked(0, used, sizeof used);
+    errno = 0;
+}
+
 int main(void) {
     /* Larger pipes save waits; smaller ones do as well. */
     fcntl(STDIN_FILENO, F_SETPIPE_SZ, CHUNK);
@@ -1225,6 +1277,8 @@ int main(void) {
         case THREADS: do_threads(&p); break;
         case STACK: do_stack(&p); break;
         case LENT_STACK: do_lent_stack(&p); break;
+        case WORDS: do_words(&p); break;
+        case WORD_STACK: do_word_stack(); break;
         default: fprintf(stderr, "driver: unknown request %u\n", (unsigned)header[0]); return 1;
         }
     }

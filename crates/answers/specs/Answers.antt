@@ -34,6 +34,7 @@ use Rattle.answers.specs.declared.RegisterAnswer.{RegisterAnswer}
 use Rattle.answers.specs.declared.ActionAnswer.{ActionAnswer}
 use Rattle.answers.specs.declared.WrittenAnswer.{WrittenAnswer}
 use Rattle.answers.specs.declared.JsonAnswer.{JsonAnswer}
+use Rattle.answers.specs.declared.VersionNumbers.{VersionNumbers}
 
 -- a yes is 1 and a no is 0
 abbrev pub yesNumber : Bool → ℕ
@@ -160,3 +161,7 @@ jsonAnswer r = record {
   len = r .len;
   id = r .id;
 }
+
+-- the version of the calls, as the header has it
+abbrev pub versionNumbers : VersionNumbers
+versionNumbers = record { major = 1; minor = 0; patch = 0 }

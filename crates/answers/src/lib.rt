@@ -2,7 +2,7 @@
 // caller, and no answer whose numbers are all zero is a yes.
 ghost use mathlib.Core.Path.{_≡_};
 ghost use Rattle.answers.specs.Answers.{yesNumber, acceptedNumber, refusalNumber, decisionNumber, stopNumber, violationNumbers, violationList, judgementNumbers};
-ghost use Rattle.answers.specs.Answers.{judgementList, writtenAnswer};
+ghost use Rattle.answers.specs.Answers.{judgementList, writtenAnswer, versionNumbers};
 ghost use Rattle.answers.specs.Laws.{containmentOf};
 use actions::Action;
 use actions::Decision;
@@ -121,6 +121,25 @@ pub struct WrittenAnswer {
     pub accepted: u32,
     pub refusal: u32,
     pub length: usize,
+}
+
+// The version of the calls: another first number where a caller must be changed or compiled anew, another second one where a call is new.
+#[repr(C)]
+pub struct VersionNumbers {
+    pub major: u32,
+    pub minor: u32,
+    pub patch: u32,
+}
+
+// The version of these calls.
+pub fn version() -> VersionNumbers
+    ensures { λ y. ⌜ y ≡ versionNumbers ⌝ }
+{
+    VersionNumbers {
+        major: 1,
+        minor: 0,
+        patch: 0,
+    }
 }
 
 // A yes is 1 and a no is 0.

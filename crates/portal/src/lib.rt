@@ -13,6 +13,8 @@ ghost use Rattle.writing.specs.Writing.{delivered, registerWritten, registerBuf
 ghost use Rattle.verdict_text.specs.Printed.{printed};
 ghost use Rattle.json_actions.specs.Actions.{jsonRead, jsonWritten, jsonBuffer};
 ghost use Rattle.answers.specs.Answers.{containment, soundness, grantAnswer, revokeAnswer, gateAnswer, planAnswer, registerAnswer, actionAnswer, writtenAnswer, jsonAnswer};
+ghost use Rattle.answers.specs.Answers.{versionNumbers};
+ghost use Rattle.words.specs.Words.{refusalText, violationText, rightName, flagName};
 use actions::Action;
 use actions::Plan;
 use answers::ActionAnswer;
@@ -24,6 +26,7 @@ use answers::PlanAnswer;
 use answers::RegisterAnswer;
 use answers::RevokeAnswer;
 use answers::Soundness;
+use answers::VersionNumbers;
 use answers::WrittenAnswer;
 use register::Claim;
 use register::Register;
@@ -236,4 +239,48 @@ pub extern "C" fn guvrendik_write_json(
     ensures buffer { λ _. ⌜ now (buffer .exit) ≡ jsonBuffer a (now (id .entry)) kind (now (buffer .entry)) ⌝ }
 {
     answers::written(json_writing::write_json(a, id, kind, buffer))
+}
+
+// Puts what a refusal's number says into the buffer.
+#[no_mangle]
+pub extern "C" fn guvrendik_refusal_text(number: u32, buffer: &mut [u8]) -> WrittenAnswer
+    ensures answer { λ y. ⌜ y ≡ writtenAnswer (delivered (refusalText number) (now (buffer .entry))) ⌝ }
+    ensures buffer { λ _. ⌜ now (buffer .exit) ≡ put 0 (refusalText number) (now (buffer .entry)) ⌝ }
+{
+    answers::written(words::refusal_text(number, buffer))
+}
+
+// Puts what a violation's kind says into the buffer.
+#[no_mangle]
+pub extern "C" fn guvrendik_violation_text(kind: u32, buffer: &mut [u8]) -> WrittenAnswer
+    ensures answer { λ y. ⌜ y ≡ writtenAnswer (delivered (violationText kind) (now (buffer .entry))) ⌝ }
+    ensures buffer { λ _. ⌜ now (buffer .exit) ≡ put 0 (violationText kind) (now (buffer .entry)) ⌝ }
+{
+    answers::written(words::violation_text(kind, buffer))
+}
+
+// Puts a right's name into the buffer.
+#[no_mangle]
+pub extern "C" fn guvrendik_right_name(right: u32, buffer: &mut [u8]) -> WrittenAnswer
+    ensures answer { λ y. ⌜ y ≡ writtenAnswer (delivered (rightName right) (now (buffer .entry))) ⌝ }
+    ensures buffer { λ _. ⌜ now (buffer .exit) ≡ put 0 (rightName right) (now (buffer .entry)) ⌝ }
+{
+    answers::written(words::right_name(right, buffer))
+}
+
+// Puts a flag's name into the buffer.
+#[no_mangle]
+pub extern "C" fn guvrendik_flag_name(flag: u32, buffer: &mut [u8]) -> WrittenAnswer
+    ensures answer { λ y. ⌜ y ≡ writtenAnswer (delivered (flagName flag) (now (buffer .entry))) ⌝ }
+    ensures buffer { λ _. ⌜ now (buffer .exit) ≡ put 0 (flagName flag) (now (buffer .entry)) ⌝ }
+{
+    answers::written(words::flag_name(flag, buffer))
+}
+
+// The version of these calls.
+#[no_mangle]
+pub extern "C" fn guvrendik_version() -> VersionNumbers
+    ensures { λ y. ⌜ y ≡ versionNumbers ⌝ }
+{
+    answers::version()
 }

@@ -6,6 +6,7 @@ use crate::generate::random::Random;
 use crate::generate::{actions, changes, json, registers, texts};
 use crate::pairs::{Answers, Pair, DEMANDED};
 use crate::{saved, shrink};
+use guvrendik_model::model::words::Words;
 use guvrendik_model::model::Model;
 use guvrendik_model::requests::{put_request, Request, STACK_ORDER};
 use guvrendik_model::shapes::*;
@@ -411,6 +412,52 @@ impl<'c> Comparison<'c> {
             let said = said_stack(name);
             println!("stack of guvrendik_{name}: {used} bytes, and the header says {said}");
             self.tally.count(used <= said);
+        }
+        Ok(())
+    }
+
+    /// The words for every number up to `MOST_NUMBER`, and for the first ones into every buffer that is shorter than the longest; then the
+    /// stack of each call.
+    pub fn words(&mut self) -> io::Result<()> {
+        const MOST_NUMBER: u32 = 70_000;
+        const FIRST_NUMBERS: u32 = 40;
+        for (name, words) in Words::ALL {
+            let failed = self.tally.failed;
+            self.words_among(words, MOST_NUMBER + 1, WORD_TEXT)?;
+            for room in 0..WORD_TEXT {
+                self.words_among(words, FIRST_NUMBERS, room)?;
+            }
+            println!("words of guvrendik_{name}: {} differ", self.tally.failed - failed);
+        }
+        let answer = self.special(Request::WordStack, Words::ALL.len() * size_of::<u64>(), |_| ())?;
+        let used = <[u64; Words::ALL.len()]>::take(&mut &answer[..]);
+        for ((name, _), used) in Words::ALL.iter().zip(used) {
+            let said = said_stack(name);
+            println!("stack of guvrendik_{name}: {used} bytes, and the header says {said}");
+            self.tally.count(used <= said);
+        }
+        Ok(())
+    }
+
+    /// The words for so many numbers from 0 on, into a buffer of that room: each answer, what was noticed beside it, and the whole buffer.
+    fn words_among(&mut self, words: Words, count: u32, room: usize) -> io::Result<()> {
+        const FILL: u8 = 0x5A;
+        let mut request = Vec::new();
+        put_request(&mut request, Request::Words, |out| [words as u32, 0, count, room as u32, FILL.into()].put(out));
+        self.driver.send(request);
+        let (mut expected, mut got) = (Vec::new(), Vec::new());
+        for number in 0..count {
+            let mut buffer = vec![FILL; room];
+            let written = Written::from(words.write(number, &mut buffer));
+            expected.clear();
+            0u32.put(&mut expected);
+            written.put(&mut expected);
+            expected.extend(buffer);
+            self.driver.receive(expected.len(), &mut got)?;
+            if expected != got && self.tally.failed < SHOWN as u64 {
+                println!("{words:?} {number} in {room} bytes: {:?}", String::from_utf8_lossy(&got));
+            }
+            self.tally.count(expected == got);
         }
         Ok(())
     }

@@ -1,5 +1,6 @@
 //! The model under the names and the calling convention of `include/guvrendik.h`.
 
+use crate::model::words::Words;
 use crate::model::{Model, Refusal};
 use crate::types::*;
 use std::slice;
@@ -159,4 +160,37 @@ pub unsafe extern "C" fn guvrendik_verdict_text(
 ) -> Written {
     let (register, action) = (lent(register_text, register_len), lent(action_text, action_len));
     MODEL.verdict_text(register, action, lent_mut(buffer, buffer_len)).into()
+}
+
+/// # Safety
+/// The pointer and length are good, as the header says.
+#[no_mangle]
+pub unsafe extern "C" fn guvrendik_refusal_text(number: u32, buffer: *mut u8, buffer_len: usize) -> Written {
+    Words::Refusal.write(number, lent_mut(buffer, buffer_len)).into()
+}
+
+/// # Safety
+/// The pointer and length are good, as the header says.
+#[no_mangle]
+pub unsafe extern "C" fn guvrendik_violation_text(number: u32, buffer: *mut u8, buffer_len: usize) -> Written {
+    Words::Violation.write(number, lent_mut(buffer, buffer_len)).into()
+}
+
+/// # Safety
+/// The pointer and length are good, as the header says.
+#[no_mangle]
+pub unsafe extern "C" fn guvrendik_right_name(number: u32, buffer: *mut u8, buffer_len: usize) -> Written {
+    Words::Right.write(number, lent_mut(buffer, buffer_len)).into()
+}
+
+/// # Safety
+/// The pointer and length are good, as the header says.
+#[no_mangle]
+pub unsafe extern "C" fn guvrendik_flag_name(number: u32, buffer: *mut u8, buffer_len: usize) -> Written {
+    Words::Flag.write(number, lent_mut(buffer, buffer_len)).into()
+}
+
+#[no_mangle]
+pub extern "C" fn guvrendik_version() -> VersionNumbers {
+    VersionNumbers { major: 1, minor: 0, patch: 0 }
 }

@@ -40,6 +40,7 @@ layout! {
     "action_read" ActionRead { action, accepted, refusal, line }
     "json_read" JsonRead { action, accepted, refusal, kind, id_len, id }
     "written" Written { accepted, refusal, length }
+    "version_numbers" VersionNumbers { major, minor, patch }
 }
 
 /// The first line where the two differ, as (the header's, the model's).

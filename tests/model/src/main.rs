@@ -116,6 +116,7 @@ fn run(options: &Options) -> io::Result<(u64, u64)> {
     comparison.threads(&mut random)?;
     comparison.stack(&mut random)?;
     comparison.lent_stack(options.lent_stack)?;
+    comparison.words()?;
     println!("{:.1} s until here", clock.elapsed().as_secs_f64());
 
     let mut generator = Generator::new(options.seed);

@@ -25,6 +25,8 @@ pub enum Request {
     Threads,
     Stack,
     LentStack,
+    Words,
+    WordStack,
 }
 
 /// Appends a request whose bytes the closure puts.

@@ -16,6 +16,8 @@ pub const REGISTER_TEXT: usize = 37_741;
 pub const JSON_TEXT: usize = 807;
 /// Bytes of a JSON action's id.
 pub const JSON_ID: usize = 64;
+/// No text of a number is longer than this.
+pub const WORD_TEXT: usize = 128;
 
 pub const ID_MAX: u32 = 65_535;
 pub const RIGHTS_MAX: u32 = 131_071;
@@ -290,4 +292,13 @@ pub struct Written {
     pub accepted: u32,
     pub refusal: u32,
     pub length: usize,
+}
+
+/// The version of the calls.
+#[repr(C)]
+#[derive(Clone, Debug, PartialEq, Eq)]
+pub struct VersionNumbers {
+    pub major: u32,
+    pub minor: u32,
+    pub patch: u32,
 }

@@ -9,6 +9,7 @@ mod plan;
 mod rules;
 pub mod text;
 mod withdraw;
+pub mod words;
 
 #[cfg(test)]
 mod json_tests;

@@ -342,7 +342,16 @@ fn hops_among(paths: &[&str], used: &str) -> usize {
         let mut resource = Resource { id: 20 + at, is_public: 0, keeper: 1, len: path.len(), path: [0; PATH] };
         resource.path[..path.len()].copy_from_slice(path.as_bytes());
         register.resources.push(resource);
-        let root = Claim { id: 100 + at, parent: 0, grantor: 1, holder: 2, resource: 20 + at, rights: 1, weight: 9, expiry: 0 };
+        let root = Claim {
+            id: 100 + at,
+            parent: 0,
+            grantor: 1,
+            holder: 2,
+            resource: 20 + at,
+            rights: 1,
+            weight: 9,
+            expiry: 0,
+        };
         if at as usize == paths.len() {
             continue;
         }

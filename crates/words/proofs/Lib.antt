@@ -1,0 +1,4 @@
+pub mod Seeking
+pub mod Delivering
+pub mod Telling
+pub mod Theorems

@@ -1,0 +1,24 @@
+-- `words::flag_name` meets its contract: the bytes are those of the table of the flags, and the text found there is delivered. Assumes nothing.
+use borrow.Author.Needs.{needs}
+use Rattle.words.proofs.Delivering.{delivering, flag-found}
+use Rattle.words.proofs.flag_name.Statement.{statement}
+use Rattle.words.proofs.flag_name.Tie as tie
+
+slice-aggregate-write-text : tie.Need-slice-aggregate-write-text
+slice-aggregate-write-text c = search needs
+
+write-text-requires : tie.Need-write-text-requires
+write-text-requires c κs = search needs
+
+same-length : tie.Need-same-length
+same-length c = search needs
+
+returns : tie.Need-returns
+returns c =
+    let call = c .before .before .write-text in
+    let a = c .before .before .before .before .before .before .args in
+    delivering (a .buf .now) (flag-found (a .flag)) (call .ensures .0) (call .ensures .1)
+
+pub flag-name-spec : {M : Type 1} → statement M
+flag-name-spec =
+    tie.close (tie.spec slice-aggregate-write-text write-text-requires same-length returns)

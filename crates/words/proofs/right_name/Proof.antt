@@ -1,0 +1,24 @@
+-- `words::right_name` meets its contract: the bytes are those of the table of the rights, and the text found there is delivered. Assumes nothing.
+use borrow.Author.Needs.{needs}
+use Rattle.words.proofs.Delivering.{delivering, right-found}
+use Rattle.words.proofs.right_name.Statement.{statement}
+use Rattle.words.proofs.right_name.Tie as tie
+
+slice-aggregate-write-text : tie.Need-slice-aggregate-write-text
+slice-aggregate-write-text c = search needs
+
+write-text-requires : tie.Need-write-text-requires
+write-text-requires c κs = search needs
+
+same-length : tie.Need-same-length
+same-length c = search needs
+
+returns : tie.Need-returns
+returns c =
+    let call = c .before .before .write-text in
+    let a = c .before .before .before .before .before .before .args in
+    delivering (a .buf .now) (right-found (a .right)) (call .ensures .0) (call .ensures .1)
+
+pub right-name-spec : {M : Type 1} → statement M
+right-name-spec =
+    tie.close (tie.spec slice-aggregate-write-text write-text-requires same-length returns)

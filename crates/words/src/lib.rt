@@ -1,0 +1,169 @@
+// Words for the numbers that the calls answer with and take: refusals and kinds of violation in 01's and 02's words, rights and flags by their
+// names in the builder's form. Every number is answered; one that stands for nothing has a text of its own.
+ghost use mathlib.Core.Path.{_≡_};
+ghost use mathlib.Core.List.{[]};
+ghost use Prim.Native.Nat.{min};
+ghost use Rattle.sheets.specs.Sheets.{put};
+ghost use Rattle.writing.specs.Writing.{delivered};
+ghost use Rattle.words.specs.Tables.{textAt};
+ghost use Rattle.words.specs.Words.{refusalText, violationText, rightName, flagName};
+use texts::Written;
+
+// The byte that ends each text of a table.
+const LINE_FEED: u8 = 10;
+
+// How many numbers each table has a text for, from 0 on. Behind those stands the text of every other number.
+const REFUSALS: usize = 26;
+
+const VIOLATIONS: usize = 6;
+
+const RIGHTS: usize = 17;
+
+const FLAGS: usize = 10;
+
+// The text at a place of a table, in which a line feed ends each text. Past the last text it is empty.
+fn text_at(table: &[u8], place: usize) -> &[u8]
+    ensures { λ r. ⌜ now r ≡ textAt place [] (now (table .entry)) ⌝ }
+{
+    let mut left = place;
+    let mut from: usize = 0;
+    let mut i: usize = 0;
+    while i < table.len() {
+        if table[i] == LINE_FEED {
+            if left == 0 {
+                return &table[from..i];
+            }
+            left -= 1;
+            i += 1;
+            from = i;
+        } else {
+            i += 1;
+        }
+    }
+    &table[..0]
+}
+
+// Writes the text of a number into the buffer: the one at its place among the first `count` of a table, and the one behind them for every
+// other number.
+fn write_text(buf: &mut [u8], table: &[u8], number: u32, count: usize) -> Written
+    ensures answer { λ r. ⌜ r ≡ delivered (textAt (min number count) [] (now (table .entry))) (now (buf .entry)) ⌝ }
+    ensures buffer { λ _. ⌜ now (buf .exit) ≡ put 0 (textAt (min number count) [] (now (table .entry))) (now (buf .entry)) ⌝ }
+{
+    let place = columns::least(number as usize, count);
+    writing::deliver(buf, text_at(table, place))
+}
+
+// Writes what a refusal's number says.
+pub fn refusal_text(number: u32, buf: &mut [u8]) -> Written
+    ensures answer { λ r. ⌜ r ≡ delivered (refusalText number) (now (buf .entry)) ⌝ }
+    ensures buffer { λ _. ⌜ now (buf .exit) ≡ put 0 (refusalText number) (now (buf .entry)) ⌝ }
+{
+    write_text(
+        buf,
+        b"not refused
+register not sound
+field or count of the call out of range
+grantor, holder, resource, revoker, caller or acting actor not in the register
+claim id already stands
+256 claims stand
+root grant by anyone but the keeper
+grantor is a machine without owner
+grantor is a machine and right 13, 15 or 16 is asked
+parent does not stand
+parent not held by the grantor, or on another resource
+parent, or a claim above it, not live at the moment
+parent lacks DELEGATE
+a right the parent lacks
+weight above the parent's
+more than 16 hops
+circle: the holder holds a claim higher on the chain, or granted its root
+claim to revoke does not stand
+revoker is no grantor on that claim's chain, or caller is not the keeper or not human
+text not of the form
+a count line above its limit
+buffer too short for the text
+unknown refusal
+unknown refusal
+JSON action of another form, with a number out of range or with more than 32 uses
+a right above 2 or a governed entry, for which a JSON action has no place
+unknown refusal
+",
+        number,
+        REFUSALS,
+    )
+}
+
+// Writes what a violation's kind says.
+pub fn violation_text(kind: u32, buf: &mut [u8]) -> Written
+    ensures answer { λ r. ⌜ r ≡ delivered (violationText kind) (now (buf .entry)) ⌝ }
+    ensures buffer { λ _. ⌜ now (buf .exit) ≡ put 0 (violationText kind) (now (buf .entry)) ⌝ }
+{
+    write_text(
+        buf,
+        b"unknown violation
+flag set
+machine without owner
+machine that governs
+use that the actor does not cover
+use that the machine's owner does not cover
+unknown violation
+",
+        kind,
+        VIOLATIONS,
+    )
+}
+
+// Writes the name of a right.
+pub fn right_name(right: u32, buf: &mut [u8]) -> Written
+    ensures answer { λ r. ⌜ r ≡ delivered (rightName right) (now (buf .entry)) ⌝ }
+    ensures buffer { λ _. ⌜ now (buf .exit) ≡ put 0 (rightName right) (now (buf .entry)) ⌝ }
+{
+    write_text(
+        buf,
+        b"READ
+WRITE
+EXECUTE
+DELETE
+DELEGATE
+NETWORK_EGRESS
+NETWORK_INGRESS
+FILE_SYSTEM
+PROCESS_SPAWN
+MEMORY_WRITE
+CREDENTIAL_READ
+CREDENTIAL_WRITE
+AUDIT_READ
+AUDIT_WRITE
+POLICY_READ
+REGISTRY_MODIFY
+POLICY_MODIFY
+unknown right
+",
+        right,
+        RIGHTS,
+    )
+}
+
+// Writes the name of a flag.
+pub fn flag_name(flag: u32, buf: &mut [u8]) -> Written
+    ensures answer { λ r. ⌜ r ≡ delivered (flagName flag) (now (buf .entry)) ⌝ }
+    ensures buffer { λ _. ⌜ now (buf .exit) ≡ put 0 (flagName flag) (now (buf .entry)) ⌝ }
+{
+    write_text(
+        buf,
+        b"increases_machine_sovereignty
+resists_human_correction
+bypasses_verifier
+weakens_verifier
+disables_corrigibility
+machine_coalition_dominion
+coerces
+deceives
+self_modification_weakens_verifier
+machine_coalition_reduces_freedom
+unknown flag
+",
+        flag,
+        FLAGS,
+    )
+}
