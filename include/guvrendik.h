@@ -19,7 +19,7 @@
  * What your portal must do (docs/PORTAL.md says why and how):
  *  - Serialise changes. A grant or revocation answers a new register: one that was computed on an old copy and stored after
  *    another change undoes that change, and brings a revoked claim back. Hold one lock from reading the register to storing it.
- *  - Give now, the actor, the grantor, the revoker and the flags itself, never from what a visitor sent: the gate believes them.
+ *  - Give the moment, the actor, the grantor, the revoker and the flags itself, never from what a visitor sent: the gate believes them.
  *  - Keep and compare registers by their text (guvrendik_write_register), not by the struct's bytes.
  *  - Mind outer paths: who holds a claim on an outer or empty path may use what other keepers have inside it.
  *  - Give each thread the stack that its calls need, and its own copies of the structs beside it.
@@ -237,19 +237,19 @@ typedef struct guvrendik_granted {
     uint32_t refusal;         /* 0 where accepted, else the number */
 } guvrendik_granted;
 
-/* Grants the claim c at the moment now.
- *  r    the register before
- *  c    the claim, every field in the range that guvrendik_claim gives
- *  now  a moment in seconds, below 2^32
- * Refusals, the first that applies: 1 register not sound; 2 a field of the claim or now out of range; 3 grantor, holder or
- * resource not in the register; 4 the id stands; 5 256 claims stand; 6 a root not granted by the keeper; 7 and 8 what a machine
+/* Grants the claim c at the moment.
+ *  r       the register before
+ *  c       the claim, every field in the range that guvrendik_claim gives
+ *  moment  in seconds, below 2^32
+ * Refusals, the first that applies: 1 register not sound; 2 a field of the claim or the moment out of range; 3 grantor, holder
+ * or resource not in the register; 4 the id stands; 5 256 claims stand; 6 a root not granted by the keeper; 7 and 8 what a machine
  * may not grant; and where there is a parent: 9 it does not stand; 10 it is not held by the grantor or is on another resource;
- * 11 it is not live at now: it or a claim higher on its chain has expired or has weight 0; 12 it lacks DELEGATE; 13 it lacks a
+ * 11 it is not live then: it or a claim higher on its chain has expired or has weight 0; 12 it lacks DELEGATE; 13 it lacks a
  * right; 14 it has less weight; 15 more than 16 hops; 16 a circle.
  * Refused for no other cause: a claim of weight 0, whose expiry has passed or is later than its parent's, is granted.
  * Accepted, everything but the new claim and the count of claims is as it came, also what stands past the counts.
  * Stack: 176,000 bytes. */
-guvrendik_granted guvrendik_grant(guvrendik_register r, guvrendik_claim c, uint64_t now);
+guvrendik_granted guvrendik_grant(guvrendik_register r, guvrendik_claim c, uint64_t moment);
 
 /* The answer of guvrendik_revoke, guvrendik_clear_resource and guvrendik_clear_expired. */
 typedef struct guvrendik_revoked {
@@ -286,12 +286,13 @@ guvrendik_revoked guvrendik_clear_resource(guvrendik_register r, uint32_t caller
  * one on its chain. The rest keep their order, those of weight 0 too.
  *  r       the register before
  *  caller  the id of a human; a number out of range is in no register
- *  now     a moment in seconds, below 2^32
- * Refusals, the first that applies: 1 register not sound; 2 now out of range; 3 caller not in the register; 18 the caller is not human.
+ *  moment  in seconds, below 2^32
+ * Refusals, the first that applies: 1 register not sound; 2 the moment out of range; 3 caller not in the register; 18 the caller is
+ * not human.
  * Where nothing has expired, as at 0, the call is accepted and none goes. Accepted, every place past the count of claims holds a claim of
  * all zeros.
  * Stack: 138,000 bytes. */
-guvrendik_revoked guvrendik_clear_expired(guvrendik_register r, uint32_t caller, uint64_t now);
+guvrendik_revoked guvrendik_clear_expired(guvrendik_register r, uint32_t caller, uint64_t moment);
 
 /* ---- The gate ---- */
 
@@ -494,11 +495,11 @@ typedef struct guvrendik_json_read {
  *  text/text_len  as for guvrendik_read_register. Keys in any order, also those of the flags, each once. trust_domain and
  *                 delegation_depth may be missing, each by itself, all other keys and all ten flags must be there. Space, tab, LF
  *                 and CR may stand around any token and at both ends; no escapes.
- *  now            the action's moment in seconds, below 2^32
- * Refusals, the first that applies: 2 now out of range, whatever the text; 24 for everything else: another form, a number out
+ *  moment         the action's, in seconds, below 2^32
+ * Refusals, the first that applies: 2 the moment out of range, whatever the text; 24 for everything else: another form, a number out
  * of range, more than 32 uses.
  * Stack: 2,000 bytes. */
-guvrendik_json_read guvrendik_read_json(const uint8_t *text, size_t text_len, uint64_t now);
+guvrendik_json_read guvrendik_read_json(const uint8_t *text, size_t text_len, uint64_t moment);
 
 /* Writes an action as JSON: all nine keys in their order, no blanks. Reading that text at the action's moment gives the same id
  * and kind, and the action with its uses ordered by right, otherwise in their old order.

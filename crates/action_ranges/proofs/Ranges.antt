@@ -35,10 +35,10 @@ module _ (a : Action) where
   pub entries-decide : a .actor ≤ idLimit → a .now < momentEnd → a .flags < 2 ^ flagCount → a .used ≤ useLimit → a .governed ≤ governLimit
       → actionFits a ≡ every (λ u. leb (u .resource) idLimit && isRight (u .right)) (usesOf a) && every (λ g. leb g idLimit) (governsOf a)
   unfolding actionFits
-  entries-decide actor now flags used governed =
+  entries-decide actor moment flags used governed =
       simp (
         le-leb (a .actor) idLimit actor,
-        lt-ltb (a .now) momentEnd now,
+        lt-ltb (a .now) momentEnd moment,
         lt-ltb (a .flags) (2 ^ flagCount) flags,
         le-leb (a .used) useLimit used,
         le-leb (a .governed) governLimit governed,

@@ -53,16 +53,16 @@ module _ (r s : Register) (same : Same r s) where
       ∙ ap (λ l. worldTests (worldIn s) l (r .claims .count) c) standing-same
       ∙ ap (λ n. worldTests (worldIn s) (standing s) n c) (same .claimCount)
 
-  grant-tests-same : (c : Claim) (now : ℕ) → grantTests r c now ≡ grantTests s c now
+  grant-tests-same : (c : Claim) (moment : ℕ) → grantTests r c moment ≡ grantTests s c moment
   unfolding grantTests
-  grant-tests-same c now = rw (sound-same r s same, world-tests-same c, ap (λ l. above l c) standing-same)
+  grant-tests-same c moment = rw (sound-same r s same, world-tests-same c, ap (λ l. above l c) standing-same)
 
   withdraw-tests-same : (w : Withdrawal) → withdrawTests r w ≡ withdrawTests s w
   unfolding revokeTests clearResourceTests clearExpiredTests
   withdraw-tests-same (revoke who x) = rw (sound-same r s same, ap (λ w. w .known who) world-in-same, standing-same)
   withdraw-tests-same (clearResource who o) =
       rw (sound-same r s same, ap (λ w. w .known who) world-in-same, ap (λ w. w .listed o) world-in-same, ap (λ w. w .keeps who o) world-in-same)
-  withdraw-tests-same (clearExpired who now) = rw (sound-same r s same, ap (λ w. w .known who) world-in-same, same .actors)
+  withdraw-tests-same (clearExpired who moment) = rw (sound-same r s same, ap (λ w. w .known who) world-in-same, same .actors)
 
   appended-same : length (r .claims .list) ≡ length (s .claims .list) → (c : Claim) → Same (appended r c) (appended s c)
   appended-same long c = record {
@@ -87,11 +87,11 @@ module _ (r s : Register) (same : Same r s) where
     claims = refl;
   }
 
-  pub granted-same : length (r .claims .list) ≡ length (s .claims .list) → (c : Claim) (now : ℕ)
-      → (granted r c now .outcome ≡ granted s c now .outcome) × Same (granted r c now .register) (granted s c now .register)
+  pub granted-same : length (r .claims .list) ≡ length (s .claims .list) → (c : Claim) (moment : ℕ)
+      → (granted r c moment .outcome ≡ granted s c moment .outcome) × Same (granted r c moment .register) (granted s c moment .register)
   unfolding granted
-  granted-same long c now =
-      let told = ap outcomeOf (grant-tests-same c now) in
+  granted-same long c moment =
+      let told = ap outcomeOf (grant-tests-same c moment) in
       (told, chosen-same _ _ _ _ _ _ (ap isAccepted told) (appended-same long c) same)
 
   pub withdrawn-same : (w : Withdrawal) → (withdrawn r w .outcome ≡ withdrawn s w .outcome)

@@ -11,8 +11,8 @@ use Rattle.changes.proofs.Sameness as sameness
 
 -- 1a. Registers that are the same get the same outcome of a grant and the same registers back. Their arrays of claims have as many places as each
 -- other, as those of all registers of the program have by their type.
-pub granted-same : (r s : Register) → Same r s → length (r .claims .list) ≡ length (s .claims .list) → (c : Claim) (now : ℕ)
-    → (granted r c now .outcome ≡ granted s c now .outcome) × Same (granted r c now .register) (granted s c now .register)
+pub granted-same : (r s : Register) → Same r s → length (r .claims .list) ≡ length (s .claims .list) → (c : Claim) (moment : ℕ)
+    → (granted r c moment .outcome ≡ granted s c moment .outcome) × Same (granted r c moment .register) (granted s c moment .register)
 granted-same = sameness.granted-same
 
 -- 1b. Registers that are the same get the same outcome of a withdrawal, the same number of claims that went and the same registers back.

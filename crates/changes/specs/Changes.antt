@@ -29,15 +29,15 @@ standing r = latest (claimsOf (r .claims))
 -- The liveness that a grant asks for, of the chain above the claim, whose first member is the parent: the parent is live, so every claim of
 -- that chain is current. The claim itself is not asked.
 unfoldable pub sourceLive : ℕ → List Claim → Bool
-sourceLive now [] = false
-sourceLive now (p ∷ higher) = every (current now) (p ∷ higher)
+sourceLive moment [] = false
+sourceLive moment (p ∷ higher) = every (current moment) (p ∷ higher)
 
 -- the tests of a grant with a parent, over the chain above the claim: 9 to 16
 unfoldable pub parentTests : ℕ → List Claim → Claim → List Test
-parentTests now [] c = record { passed = false; refusal = ParentAbsent } ∷ []
-parentTests now (p ∷ higher) c =
+parentTests moment [] c = record { passed = false; refusal = ParentAbsent } ∷ []
+parentTests moment (p ∷ higher) c =
     record { passed = eqb (p .holder) (c .grantor) && eqb (p .resource) (c .resource); refusal = ParentNotHeld }
-    ∷ record { passed = sourceLive now (p ∷ higher); refusal = ParentDead }
+    ∷ record { passed = sourceLive moment (p ∷ higher); refusal = ParentDead }
     ∷ record { passed = hasRight (p .rights) delegating; refusal = NoDelegate }
     ∷ record { passed = hasRights (p .rights) (c .rights); refusal = RightLacking }
     ∷ record { passed = leb (c .weight) (p .weight); refusal = WeightAbove }
@@ -58,11 +58,11 @@ worldTests w earlier n c =
 
 -- the tests of a grant: 1 to 8 and, with a parent, 9 to 16
 unfoldable pub grantTests : Register → Claim → ℕ → List Test
-grantTests r c now =
+grantTests r c moment =
     record { passed = sound r; refusal = Unsound }
-    ∷ record { passed = claimFits c && ltb now momentEnd; refusal = OutOfRange }
+    ∷ record { passed = claimFits c && ltb moment momentEnd; refusal = OutOfRange }
     ∷ (worldTests (worldIn r) (standing r) (r .claims .count) c
-    ++ cond (eqb (c .parent) 0) [] (parentTests now (above (standing r) c) c))
+    ++ cond (eqb (c .parent) 0) [] (parentTests moment (above (standing r) c) c))
 
 -- the register with a claim at the end of its list
 abbrev pub appended : Register → Claim → Register
@@ -74,9 +74,9 @@ appended r c = record {
 
 -- the answer of a grant: accepted, the claim goes to the end of the list; refused, the register is as it came
 unfoldable pub granted : Register → Claim → ℕ → Granted
-granted r c now = record {
-  register = cond (isAccepted (outcomeOf (grantTests r c now))) (appended r c) r;
-  outcome = outcomeOf (grantTests r c now);
+granted r c moment = record {
+  register = cond (isAccepted (outcomeOf (grantTests r c moment))) (appended r c) r;
+  outcome = outcomeOf (grantTests r c moment);
 }
 
 -- the tests of a revocation: 1, 3, 17 and 18
@@ -99,9 +99,9 @@ clearResourceTests r who o =
 
 -- the tests of a clearing of old claims: 1, 2 for the moment, 3 for the caller, and 18 for a caller who is not human
 unfoldable pub clearExpiredTests : Register → ℕ → ℕ → List Test
-clearExpiredTests r who now =
+clearExpiredTests r who moment =
     record { passed = sound r; refusal = Unsound }
-    ∷ record { passed = ltb now momentEnd; refusal = OutOfRange }
+    ∷ record { passed = ltb moment momentEnd; refusal = OutOfRange }
     ∷ record { passed = worldIn r .known who; refusal = Unknown }
     ∷ record { passed = human (actorsOf (r .actors)) who; refusal = NoGrantor }
     ∷ []
@@ -116,13 +116,13 @@ pub data Withdrawal : Type 0 where
 abbrev pub names : Withdrawal → Claim → Bool
 names (revoke who x) c = eqb (c .id) x
 names (clearResource who o) c = eqb (c .resource) o
-names (clearExpired who now) c = expired now c
+names (clearExpired who moment) c = expired moment c
 
 -- its tests
 abbrev pub withdrawTests : Register → Withdrawal → List Test
 withdrawTests r (revoke who x) = revokeTests r who x
 withdrawTests r (clearResource who o) = clearResourceTests r who o
-withdrawTests r (clearExpired who now) = clearExpiredTests r who now
+withdrawTests r (clearExpired who moment) = clearExpiredTests r who moment
 
 -- the claims that are left, in their order, when those that P names go with all that is drawn from them
 abbrev pub leftOf : (Claim → Bool) → Register → List Claim

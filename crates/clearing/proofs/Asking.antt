@@ -63,26 +63,26 @@ module _ (r : Register) (who o : ℕ) where
         resource-accepted t = outcome-pass _ _ whole ∙ outcome-pass _ _ known ∙ outcome-pass _ _ listed ∙ outcome-pass _ _ t ∙ outcome-nil
 
 -- the outcome of a clearing of old claims
-module _ (r : Register) (who now : ℕ) where
-  pub expired-unsound : sound r ≡ false → outcomeOf (clearExpiredTests r who now) ≡ Refused Unsound
+module _ (r : Register) (who moment : ℕ) where
+  pub expired-unsound : sound r ≡ false → outcomeOf (clearExpiredTests r who moment) ≡ Refused Unsound
   unfolding clearExpiredTests
   expired-unsound f = outcome-fail _ _ f
 
   module _ (whole : sound r ≡ true) where
-    pub expired-late : ltb now momentEnd ≡ false → outcomeOf (clearExpiredTests r who now) ≡ Refused OutOfRange
+    pub expired-late : ltb moment momentEnd ≡ false → outcomeOf (clearExpiredTests r who moment) ≡ Refused OutOfRange
     unfolding clearExpiredTests
     expired-late f = outcome-pass _ _ whole ∙ outcome-fail _ _ f
 
-    module _ (moment : ltb now momentEnd ≡ true) where
-      pub expired-unknown : worldIn r .known who ≡ false → outcomeOf (clearExpiredTests r who now) ≡ Refused Unknown
+    module _ (timely : ltb moment momentEnd ≡ true) where
+      pub expired-unknown : worldIn r .known who ≡ false → outcomeOf (clearExpiredTests r who moment) ≡ Refused Unknown
       unfolding clearExpiredTests
-      expired-unknown f = outcome-pass _ _ whole ∙ outcome-pass _ _ moment ∙ outcome-fail _ _ f
+      expired-unknown f = outcome-pass _ _ whole ∙ outcome-pass _ _ timely ∙ outcome-fail _ _ f
 
       module _ (known : worldIn r .known who ≡ true) where
-        pub expired-machine : human (actorsOf (r .actors)) who ≡ false → outcomeOf (clearExpiredTests r who now) ≡ Refused NoGrantor
+        pub expired-machine : human (actorsOf (r .actors)) who ≡ false → outcomeOf (clearExpiredTests r who moment) ≡ Refused NoGrantor
         unfolding clearExpiredTests
-        expired-machine f = outcome-pass _ _ whole ∙ outcome-pass _ _ moment ∙ outcome-pass _ _ known ∙ outcome-fail _ _ f
+        expired-machine f = outcome-pass _ _ whole ∙ outcome-pass _ _ timely ∙ outcome-pass _ _ known ∙ outcome-fail _ _ f
 
-        pub expired-accepted : human (actorsOf (r .actors)) who ≡ true → outcomeOf (clearExpiredTests r who now) ≡ Accepted
+        pub expired-accepted : human (actorsOf (r .actors)) who ≡ true → outcomeOf (clearExpiredTests r who moment) ≡ Accepted
         unfolding clearExpiredTests
-        expired-accepted t = outcome-pass _ _ whole ∙ outcome-pass _ _ moment ∙ outcome-pass _ _ known ∙ outcome-pass _ _ t ∙ outcome-nil
+        expired-accepted t = outcome-pass _ _ whole ∙ outcome-pass _ _ timely ∙ outcome-pass _ _ known ∙ outcome-pass _ _ t ∙ outcome-nil

@@ -30,20 +30,20 @@ fn mark_resource(k: Claims, resource: u32) -> [bool; Register::CLAIMS]
 }
 
 // Whether a claim has expired at the moment: its expiry, 0 for never, is not above it.
-fn is_expired(c: Claim, now: u64) -> bool
-    ensures { λ y. ⌜ y ≡ expired now c ⌝ }
+fn is_expired(c: Claim, moment: u64) -> bool
+    ensures { λ y. ⌜ y ≡ expired moment c ⌝ }
 {
-    (c.expiry != 0) & (c.expiry <= now)
+    (c.expiry != 0) & (c.expiry <= moment)
 }
 
 // Marks the claims that have expired at the moment.
-fn mark_expired(k: Claims, now: u64) -> [bool; Register::CLAIMS]
-    ensures { λ y. ⌜ y ≡ map (expired now) (k .list) ⌝ }
+fn mark_expired(k: Claims, moment: u64) -> [bool; Register::CLAIMS]
+    ensures { λ y. ⌜ y ≡ map (expired moment) (k .list) ⌝ }
 {
     let mut marks = [false; Register::CLAIMS];
     let mut i: usize = 0;
     while i < Register::CLAIMS {
-        marks[i] = is_expired(k.list[i], now);
+        marks[i] = is_expired(k.list[i], moment);
         i += 1;
     }
     marks
@@ -76,13 +76,13 @@ fn resource_outcome(r: Register, caller: u32, resource: u32) -> Outcome
 }
 
 // The outcome of a clearing of old claims.
-fn expired_outcome(r: Register, caller: u32, now: u64) -> Outcome
-    ensures { λ y. ⌜ y ≡ outcomeOf (clearExpiredTests r caller now) ⌝ }
+fn expired_outcome(r: Register, caller: u32, moment: u64) -> Outcome
+    ensures { λ y. ⌜ y ≡ outcomeOf (clearExpiredTests r caller moment) ⌝ }
 {
     if !soundness::is_sound(r) {
         return Outcome::Refused(Refusal::Unsound);
     }
-    if register::MOMENT_END <= now {
+    if register::MOMENT_END <= moment {
         return Outcome::Refused(Refusal::OutOfRange);
     }
     let a = r.actors;
@@ -109,11 +109,11 @@ pub fn clear_resource(r: Register, caller: u32, resource: u32) -> Revoked
 }
 
 // Clears old claims on behalf of a human: every claim that has expired at the moment goes, with all that is drawn from it.
-pub fn clear_expired(r: Register, caller: u32, now: u64) -> Revoked
-    ensures { λ y. ⌜ y ≡ withdrawn r (clearExpired caller now) ⌝ }
+pub fn clear_expired(r: Register, caller: u32, moment: u64) -> Revoked
+    ensures { λ y. ⌜ y ≡ withdrawn r (clearExpired caller moment) ⌝ }
 {
-    let outcome = expired_outcome(r, caller, now);
+    let outcome = expired_outcome(r, caller, moment);
     let k = r.claims;
-    let marks = mark_expired(k, now);
+    let marks = mark_expired(k, moment);
     revoking::withdraw(r, outcome, &marks)
 }

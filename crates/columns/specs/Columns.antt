@@ -123,4 +123,4 @@ weighing weight expiry = record {
 
 -- whether the claim at a place is current, by the columns of weights and expiries
 abbrev pub currentAt : List ℕ → List ℕ → ℕ → ℕ → Bool
-currentAt weights expiries now j = current now (weighing (getD weights j 0) (getD expiries j 0))
+currentAt weights expiries moment j = current moment (weighing (getD weights j 0) (getD expiries j 0))

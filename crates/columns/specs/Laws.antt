@@ -293,17 +293,17 @@ module _ (cs : List Claim) where
       ∙ ap (λ l. circling grantorOf holderOf l h) (chain-natural n p)
 
   -- a claim is current by its columns where it is
-  current-at : (now : ℕ) → _≡_ {A = ℕ → Bool} (currentAt (map weightOf cs) (map expiryOf cs) now) (λ j. current now (getD cs j noClaim))
-  current-at now = fun-ext (λ j. rw (List·getD-map weightOf cs j noClaim, List·getD-map expiryOf cs j noClaim))
+  current-at : (moment : ℕ) → _≡_ {A = ℕ → Bool} (currentAt (map weightOf cs) (map expiryOf cs) moment) (λ j. current moment (getD cs j noClaim))
+  current-at moment = fun-ext (λ j. rw (List·getD-map weightOf cs j noClaim, List·getD-map expiryOf cs j noClaim))
 
   -- so every claim of a chain of places is where every claim of the chain is
-  pub current-natural : (now n p : ℕ)
-      → every (currentAt (map weightOf cs) (map expiryOf cs) now) (chainPlaces (map claimId cs) (map parentOf cs) n p)
-      ≡ every (current now) (chain claimId parentOf (latest (take n cs)) p)
-  current-natural now n p =
-      ap (λ f. every f (chainPlaces (map claimId cs) (map parentOf cs) n p)) (current-at now)
-      ∙ sym (every-map (λ j. getD cs j noClaim) (current now) (chainPlaces (map claimId cs) (map parentOf cs) n p))
-      ∙ ap (every (current now)) (chain-natural n p)
+  pub current-natural : (moment n p : ℕ)
+      → every (currentAt (map weightOf cs) (map expiryOf cs) moment) (chainPlaces (map claimId cs) (map parentOf cs) n p)
+      ≡ every (current moment) (chain claimId parentOf (latest (take n cs)) p)
+  current-natural moment n p =
+      ap (λ f. every f (chainPlaces (map claimId cs) (map parentOf cs) n p)) (current-at moment)
+      ∙ sym (every-map (λ j. getD cs j noClaim) (current moment) (chainPlaces (map claimId cs) (map parentOf cs) n p))
+      ∙ ap (every (current moment)) (chain-natural n p)
 
   -- what is found is the claim of that number, and the chain from it up begins with it
   pub latest-place-found : (n x k : ℕ) → latestPlace (map claimId cs) n x ≡ At k

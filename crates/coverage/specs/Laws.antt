@@ -132,13 +132,13 @@ module _ (rights spots bytes lens : List ℕ) (right spot : ℕ) where
 
 -- ---- the nearest place
 module _ (p : ℕ → Bool) (f : ℕ → ℕ) (best bar : ℕ) where
-  pub nearest-none : bar ≡ 0 → nearestFrom p f best bar [] ≡ Nowhere
+  pub nearest-nowhere : bar ≡ 0 → nearestFrom p f best bar [] ≡ Nowhere
   unfolding nearestFrom
-  nearest-none none = rw (eq-eqb bar 0 none)
+  nearest-nowhere none = rw (eq-eqb bar 0 none)
 
-  pub nearest-found : (bar ≡ 0 → ⊥) → nearestFrom p f best bar [] ≡ At best
+  pub nearest-best : (bar ≡ 0 → ⊥) → nearestFrom p f best bar [] ≡ At best
   unfolding nearestFrom
-  nearest-found some = rw (ne-eqb bar 0 some)
+  nearest-best some = rw (ne-eqb bar 0 some)
 
   module _ (j : ℕ) (l : List ℕ) where
     pub nearest-taken : (n : ℕ) → n ≡ f j → p j && leb bar (f j) ≡ true → nearestFrom p f best bar (j ∷ l) ≡ nearestFrom p f j (n + 1) l

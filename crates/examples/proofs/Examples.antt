@@ -17,9 +17,9 @@ pub inside-sound : (inner outer : String) (answer : Bool) →
 inside-sound inner outer answer h = beq-same (contained (bytes outer) (bytes inner)) answer h
 
 -- an example of a live claim that holds is that liveness
-pub lives-sound : (weight expiry now : ℕ) (answer : Bool) →
-    holds (lives weight expiry now answer) ≡ true → live now [] (weighing weight expiry) ≡ answer
-lives-sound weight expiry now answer h = beq-same (live now [] (weighing weight expiry)) answer h
+pub lives-sound : (weight expiry moment : ℕ) (answer : Bool) →
+    holds (lives weight expiry moment answer) ≡ true → live moment [] (weighing weight expiry) ≡ answer
+lives-sound weight expiry moment answer h = beq-same (live moment [] (weighing weight expiry)) answer h
 
 -- every example of the table holds
 pub examples-hold : every holds table ≡ true

@@ -21,6 +21,6 @@ pub inside-sound : (inner outer : String) (answer : Bool) →
 inside-sound = examples.inside-sound
 
 -- 2b. An example of a live claim that holds is that liveness.
-pub lives-sound : (weight expiry now : ℕ) (answer : Bool) →
-    holds (lives weight expiry now answer) ≡ true → live now [] (weighing weight expiry) ≡ answer
+pub lives-sound : (weight expiry moment : ℕ) (answer : Bool) →
+    holds (lives weight expiry moment answer) ≡ true → live moment [] (weighing weight expiry) ≡ answer
 lives-sound = examples.lives-sound

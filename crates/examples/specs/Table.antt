@@ -13,7 +13,7 @@ pub data Example : Type 0 where
   -- the inner path in the outer one: yes or no
   inside : (inner outer : String) → (answer : Bool) → Example
   -- a root of this weight and expiry live at a moment: yes or no
-  lives : (weight expiry now : ℕ) → (answer : Bool) → Example
+  lives : (weight expiry moment : ℕ) → (answer : Bool) → Example
 
 -- a claim of that weight and expiry, and zeros besides: a root
 abbrev pub weighing : ℕ → ℕ → Claim
@@ -31,7 +31,7 @@ weighing weight expiry = record {
 -- whether the definition answers as the example says
 abbrev pub holds : Example → Bool
 holds (inside inner outer answer) = Bool·beq (contained (bytes outer) (bytes inner)) answer
-holds (lives weight expiry now answer) = Bool·beq (live now [] (weighing weight expiry)) answer
+holds (lives weight expiry moment answer) = Bool·beq (live moment [] (weighing weight expiry)) answer
 
 -- 01, "Fixed examples": each with 01's words above it
 abbrev pub table : List Example

@@ -106,9 +106,9 @@ module _ (l : Lent) where
 
   -- what is seen for the actor numbered x; for an owner that is not asked no claims are gathered
   abbrev pub sightBy : ℕ → ℕ → Sight
-  sightBy now x = record {
-    own = heldPlaces (l .holders) (l .ends) (l .claims) x now;
-    theirs = heldPlaces (l .holders) (l .ends) (cond (ownedBy x) (l .claims) 0) (ownerBy x) now;
+  sightBy moment x = record {
+    own = heldPlaces (l .holders) (l .ends) (l .claims) x moment;
+    theirs = heldPlaces (l .holders) (l .ends) (cond (ownedBy x) (l .claims) 0) (ownerBy x) moment;
     owned = ownedBy x;
     rights = l .rights;
     spots = l .spots;

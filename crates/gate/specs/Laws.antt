@@ -47,17 +47,17 @@ ownerless-natural r h x =
     there Nowhere = refl
 
 module _ (r : Register) (shaped : Shaped r) (h : sound r ≡ true) where
-  faults-natural : (now x n : ℕ) (us : List Usage) →
-      faultsFrom (sightOf r now x) (map resourceId (r .resources .list)) (r .resources .count) n us ≡ useViolations r now x n us
+  faults-natural : (moment x n : ℕ) (us : List Usage) →
+      faultsFrom (sightOf r moment x) (map resourceId (r .resources .list)) (r .resources .count) n us ≡ useViolations r moment x n us
   unfolding faultsFrom
-  faults-natural now x n [] = sym (use-violations-nil r now x n)
-  faults-natural now x n (u ∷ us) =
-      rw (use-violations-cons r now x n u us, use-natural r shaped h now x n u .0, faults-natural now x (suc n) us)
+  faults-natural moment x n [] = sym (use-violations-nil r moment x n)
+  faults-natural moment x n (u ∷ us) =
+      rw (use-violations-cons r moment x n u us, use-natural r shaped h moment x n u .0, faults-natural moment x (suc n) us)
 
-  hops-natural : (now x : ℕ) (us : List Usage) →
-      map (λ u. judgedIn (sightOf r now x) (map resourceId (r .resources .list)) (r .resources .count) u .hops) us ≡ map (λ u. hopsFor r now x u) us
-  hops-natural now x [] = refl
-  hops-natural now x (u ∷ us) = rw (use-natural r shaped h now x 0 u .1, hops-natural now x us)
+  hops-judged : (moment x : ℕ) (us : List Usage) →
+      map (λ u. judgedIn (sightOf r moment x) (map resourceId (r .resources .list)) (r .resources .count) u .hops) us ≡ map (λ u. hopsFor r moment x u) us
+  hops-judged moment x [] = refl
+  hops-judged moment x (u ∷ us) = rw (use-natural r shaped h moment x 0 u .1, hops-judged moment x us)
 
   all-violations : (a : Action) → besides (isMachine (actorsOf (r .actors)) (a .actor)) (ownerIn r (a .actor)) a ++ useViolations r (a .now) (a .actor) 0 (usesOf a) ≡ violationsOf r a
   unfolding violationsOf
@@ -76,7 +76,7 @@ module _ (r : Register) (shaped : Shaped r) (h : sound r ≡ true) where
   pub judged-natural : (a : Action) → actionFits a ≡ true →
       actionJudged r a ≡ record { violations = listed (violationsOf r a); hops = padded (hopCounts r a) }
   unfolding usesJudged
-  judged-natural a fits = rw (judged-violations a fits, hops-natural (a .now) (a .actor) (usesOf a))
+  judged-natural a fits = rw (judged-violations a fits, hops-judged (a .now) (a .actor) (usesOf a))
 
 -- ---- what is lent of a register's view
 
@@ -91,15 +91,15 @@ module _ (r : Register) where
   machine-natural x = beside-natural actorId actorKind x machineKind (r .actors .count) (r .actors .list)
 
   -- in a sound register, at a moment in range
-  module _ (shaped : Shaped r) (h : sound r ≡ true) (now : ℕ) (timely : ltb now momentEnd ≡ true) where
+  module _ (shaped : Shaped r) (h : sound r ≡ true) (moment : ℕ) (timely : ltb moment momentEnd ≡ true) where
     -- the claims gathered for an owner that is asked or not
     theirs-natural : (owned : Bool) (x : ℕ)
-        → heldPlaces (map holderOf (r .claims .list)) (endsIn r) (cond owned (r .claims .count) 0) x now ≡ cond owned (coverPlaces (r .claims) x now) []
-    theirs-natural true x = cover-natural r shaped h now timely x
-    theirs-natural false x = held-none (map holderOf (r .claims .list)) (endsIn r) x now
+        → heldPlaces (map holderOf (r .claims .list)) (endsIn r) (cond owned (r .claims .count) 0) x moment ≡ cond owned (coverPlaces (r .claims) x moment) []
+    theirs-natural true x = cover-natural r shaped h moment timely x
+    theirs-natural false x = held-none (map holderOf (r .claims .list)) (endsIn r) x moment
 
-    sight-natural : (x : ℕ) → sightBy (lentOf (viewOf r)) now x ≡ sightOf r now x
-    sight-natural x = rw (machine-natural x, cover-natural r shaped h now timely x, theirs-natural (ownedIn r x) (ownerIn r x))
+    sight-natural : (x : ℕ) → sightBy (lentOf (viewOf r)) moment x ≡ sightOf r moment x
+    sight-natural x = rw (machine-natural x, cover-natural r shaped h moment timely x, theirs-natural (ownedIn r x) (ownerIn r x))
 
   -- an action in range that is judged by what is lent of a sound register's view is judged by the register
   pub view-natural : Shaped r → sound r ≡ true → (a : Action) → actionFits a ≡ true → judgedBy (lentOf (viewOf r)) a ≡ actionJudged r a

@@ -21,26 +21,26 @@ use Rattle.finding.specs.Laws.{earlier-at}
 use Rattle.gathering.specs.Gathering.{endUnder, endBehind, endsTo, endingOf, endsOf}
 
 -- a moment is before the lesser of two where it is before both
-lesser : (now a b : ℕ) → ltb now (cond (ltb a b) a b) ≡ ltb now a && ltb now b
-lesser now a b =
+lesser : (moment a b : ℕ) → ltb moment (cond (ltb a b) a b) ≡ ltb moment a && ltb moment b
+lesser moment a b =
     cases (ltb a b)
-    (λ t. rw t (cases (ltb now a) (λ e. rw (e, lt-ltb now b (omega (arith, ltb-true a b t, ltb-true now a e)))) (λ e. rw e)))
-    (λ t. rw t (cases (ltb now b) (λ e. rw (e, lt-ltb now a (omega (arith, ltb-false a b t, ltb-true now b e))))
-    (λ e. rw e (sym (and-false (ltb now a))))))
+    (λ t. rw t (cases (ltb moment a) (λ e. rw (e, lt-ltb moment b (omega (arith, ltb-true a b t, ltb-true moment a e)))) (λ e. rw e)))
+    (λ t. rw t (cases (ltb moment b) (λ e. rw (e, lt-ltb moment a (omega (arith, ltb-false a b t, ltb-true moment b e))))
+    (λ e. rw e (sym (and-false (ltb moment a))))))
 
 -- the same of a claim's expiry, where it has one, and another end
-within : (now expiry most : ℕ)
-    → ltb now (cond (not (eqb expiry 0) && ltb expiry most) expiry most) ≡ not (not (eqb expiry 0) && leb expiry now) && ltb now most
-within now expiry most =
+within : (moment expiry most : ℕ)
+    → ltb moment (cond (not (eqb expiry 0) && ltb expiry most) expiry most) ≡ not (not (eqb expiry 0) && leb expiry moment) && ltb moment most
+within moment expiry most =
     cases (eqb expiry 0) (λ e. rw e)
-    (λ e. rw e (lesser now expiry most ∙ ap (λ b. b && ltb now most) (sym (above-unpast now expiry))))
+    (λ e. rw e (lesser moment expiry most ∙ ap (λ b. b && ltb moment most) (sym (above-unpast moment expiry))))
 
 -- a moment is before the end of a claim where the claim is current and the moment is before the end of what it is drawn from
-under-natural : (now weight expiry most : ℕ) → ltb now (endUnder weight expiry most) ≡ current now (weighing weight expiry) && ltb now most
-under-natural now weight expiry most =
+under-natural : (moment weight expiry most : ℕ) → ltb moment (endUnder weight expiry most) ≡ current moment (weighing weight expiry) && ltb moment most
+under-natural moment weight expiry most =
     cases (eqb weight 0)
-    (λ e. rw (e, le-ltb 0 weight (omega (arith, eqb-true weight 0 e))) (le-ltb now 0 (omega arith)))
-    (λ e. rw (e, lt-ltb 0 weight (omega (arith, eqb-false weight 0 e))) (within now expiry most))
+    (λ e. rw (e, le-ltb 0 weight (omega (arith, eqb-true weight 0 e))) (le-ltb moment 0 (omega arith)))
+    (λ e. rw (e, lt-ltb 0 weight (omega (arith, eqb-false weight 0 e))) (within moment expiry most))
 
 module _ (weights expiries ups : List ℕ) where
   pub ends-none : endsTo weights expiries ups 0 ≡ []
@@ -89,7 +89,7 @@ module _ (weights expiries ups : List ℕ) where
 
 -- the first n claims, none of which has the number 0, by their columns, and a moment in range
 module _ (ids parents weights expiries : List ℕ) (n : ℕ) (few : n ≤ claimLimit) (long : n ≤ length parents)
-    (numbered : (j : ℕ) → j < n → getD ids j 0 ≡ 0 → ⊥) (now : ℕ) (timely : ltb now momentEnd ≡ true) where
+    (numbered : (j : ℕ) → j < n → getD ids j 0 ≡ 0 → ⊥) (moment : ℕ) (timely : ltb moment momentEnd ≡ true) where
   abbrev ups : List ℕ
   ups = earlierPlaces ids parents n claimLimit
 
@@ -102,11 +102,11 @@ module _ (ids parents weights expiries : List ℕ) (n : ℕ) (few : n ≤ claimL
 
   -- whether every claim of a chain is current
   abbrev lasts : List ℕ → Bool
-  lasts l = every (currentAt weights expiries now) l
+  lasts l = every (currentAt weights expiries moment) l
 
   -- the end of what the claim at a place is drawn from
-  source : (k : ℕ) → k < n → ((i : ℕ) → i < k → ltb now (end i) ≡ lasts (i ∷ chainPlaces ids parents i (getD parents i 0)))
-      → ltb now (cond (ltb (getD ups k 0) k) (getD (ends k) (getD ups k 0) 0) momentEnd) ≡ lasts (chainPlaces ids parents k (getD parents k 0))
+  source : (k : ℕ) → k < n → ((i : ℕ) → i < k → ltb moment (end i) ≡ lasts (i ∷ chainPlaces ids parents i (getD parents i 0)))
+      → ltb moment (cond (ltb (getD ups k 0) k) (getD (ends k) (getD ups k 0) 0) momentEnd) ≡ lasts (chainPlaces ids parents k (getD parents k 0))
   source k inside known =
       let all-asked : k < asked n parents = omega arith in
       let up = earlier-at ids parents n claimLimit k 0 all-asked in
@@ -116,12 +116,12 @@ module _ (ids parents weights expiries : List ℕ) (n : ℕ) (few : n ≤ claimL
       rw (up, q, lt-ltb i k (found .0), ends-at weights expiries ups k i (found .0), chain-places-at ids parents k (getD parents k 0) i other q) (known i (found .0)))
       (λ q. rw (up, q, le-ltb claimLimit k (omega arith), chain-places-nowhere ids parents k (getD parents k 0) q) timely)
 
-  up-to : (bound k : ℕ) → k < bound → k < n → ltb now (end k) ≡ lasts (k ∷ chainPlaces ids parents k (getD parents k 0))
+  up-to : (bound k : ℕ) → k < bound → k < n → ltb moment (end k) ≡ lasts (k ∷ chainPlaces ids parents k (getD parents k 0))
   up-to zero k h inside = absurd (omega arith)
   up-to (suc bound) k h inside =
-      under-natural now (getD weights k 0) (getD expiries k 0) (cond (ltb (getD ups k 0) k) (getD (ends k) (getD ups k 0) 0) momentEnd)
-      ∙ ap (λ b. currentAt weights expiries now k && b) (source k inside (λ i before. up-to bound i (omega arith) (omega arith)))
+      under-natural moment (getD weights k 0) (getD expiries k 0) (cond (ltb (getD ups k 0) k) (getD (ends k) (getD ups k 0) 0) momentEnd)
+      ∙ ap (λ b. currentAt weights expiries moment k && b) (source k inside (λ i before. up-to bound i (omega arith) (omega arith)))
 
   -- a moment is before the end of the claim at a place where every claim on its chain, by the places of its columns, is current
-  pub end-lasts : (k : ℕ) → k < n → ltb now (end k) ≡ lasts (k ∷ chainPlaces ids parents k (getD parents k 0))
+  pub end-lasts : (k : ℕ) → k < n → ltb moment (end k) ≡ lasts (k ∷ chainPlaces ids parents k (getD parents k 0))
   end-lasts k h = up-to (suc k) k (omega arith) h

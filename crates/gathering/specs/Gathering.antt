@@ -51,11 +51,11 @@ module _ (weights expiries ups : List ℕ) where
 
 -- a claim that can cover, among claims latest first: held by x and live
 abbrev pub canCover : ℕ → ℕ → List Claim → Claim → Bool
-canCover x now earlier c = eqb (c .holder) x && live now earlier c
+canCover x moment earlier c = eqb (c .holder) x && live moment earlier c
 
 -- the places of those that can cover, in register order
 abbrev pub coverPlaces : Claims → ℕ → ℕ → List ℕ
-coverPlaces k x now = filter (λ j. canCover x now (latest (claimsOf k)) (getD (k .list) j noClaim)) (counted 0 (length (claimsOf k)))
+coverPlaces k x moment = filter (λ j. canCover x moment (latest (claimsOf k)) (getD (k .list) j noClaim)) (counted 0 (length (claimsOf k)))
 
 -- the claims by their columns of holders and ends
 module _ (holders ends : List ℕ) where
@@ -65,14 +65,14 @@ module _ (holders ends : List ℕ) where
 
   -- whether x holds the claim at a place, and the moment is before its end
   abbrev pub heldAt : ℕ → ℕ → ℕ → Bool
-  heldAt x now j = eqb (getD holders j 0) x && ltb now (getD ends j 0)
+  heldAt x moment j = eqb (getD holders j 0) x && ltb moment (getD ends j 0)
 
   -- the places of those of the first n that x holds and that have not ended
   abbrev pub heldPlaces : ℕ → ℕ → ℕ → List ℕ
-  heldPlaces n x now = filter (λ j. heldAt x now j) (counted 0 (lookedAt n))
+  heldPlaces n x moment = filter (λ j. heldAt x moment j) (counted 0 (lookedAt n))
 
   unfoldable pub gatheredBy : ℕ → ℕ → ℕ → Gathered
-  gatheredBy n x now = record {
-    places = heldPlaces n x now ++ replicate (claimLimit - length (heldPlaces n x now)) 0;
-    count = length (heldPlaces n x now);
+  gatheredBy n x moment = record {
+    places = heldPlaces n x moment ++ replicate (claimLimit - length (heldPlaces n x moment)) 0;
+    count = length (heldPlaces n x moment);
   }

@@ -38,52 +38,52 @@ module _ (holders ends : List ℕ) (n : ℕ) where
   unfolding lookedAt
   looked-long long h e few = rw (h, e) (omega arith)
 
-module _ (k : Claims) (x now : ℕ) where
+module _ (k : Claims) (x moment : ℕ) where
   -- the claims at the gathered places are the register's claims that can cover, in register order
-  pub gathered-natural : map (λ j. getD (k .list) j noClaim) (coverPlaces k x now) ≡ filter (canCover x now (latest (claimsOf k))) (claimsOf k)
+  pub gathered-natural : map (λ j. getD (k .list) j noClaim) (coverPlaces k x moment) ≡ filter (canCover x moment (latest (claimsOf k))) (claimsOf k)
   gathered-natural =
-      sym (trim-map (λ j. getD (k .list) j noClaim) (λ M c. not (canCover x now (latest (claimsOf k)) c))
-      (λ M j. not (canCover x now (latest (claimsOf k)) (getD (k .list) j noClaim))) (λ M j. refl) (counted 0 (length (claimsOf k))))
-      ∙ ap (filter (canCover x now (latest (claimsOf k)))) (counted-first noClaim (k .list) (k .count))
+      sym (trim-map (λ j. getD (k .list) j noClaim) (λ M c. not (canCover x moment (latest (claimsOf k)) c))
+      (λ M j. not (canCover x moment (latest (claimsOf k)) (getD (k .list) j noClaim))) (λ M j. refl) (counted 0 (length (claimsOf k))))
+      ∙ ap (filter (canCover x moment (latest (claimsOf k)))) (counted-first noClaim (k .list) (k .count))
 
   places-below : All (λ j. j < length (claimsOf k)) (counted 0 (length (claimsOf k)))
   places-below = rw (zero-add (length (claimsOf k))) at (counted-below 0 (length (claimsOf k)))
 
   -- each gathered place is that of a claim of the register
-  pub gathered-within : All (λ j. j < length (claimsOf k)) (coverPlaces k x now)
+  pub gathered-within : All (λ j. j < length (claimsOf k)) (coverPlaces k x moment)
   gathered-within =
-      all-trim (λ M j. not (canCover x now (latest (claimsOf k)) (getD (k .list) j noClaim))) (λ j. j < length (claimsOf k)) (counted 0 (length (claimsOf k))) places-below
+      all-trim (λ M j. not (canCover x moment (latest (claimsOf k)) (getD (k .list) j noClaim))) (λ j. j < length (claimsOf k)) (counted 0 (length (claimsOf k))) places-below
 
   -- by the columns of holders and of ends the same places are gathered, where the ends tell which claims are live
   pub held-natural : (ends : List ℕ) → length (k .list) ≡ claimLimit → length ends ≡ claimLimit
-      → ((j : ℕ) → j < length (claimsOf k) → ltb now (getD ends j 0) ≡ live now (latest (claimsOf k)) (getD (k .list) j noClaim))
-      → heldPlaces (map holderOf (k .list)) ends (k .count) x now ≡ coverPlaces k x now
+      → ((j : ℕ) → j < length (claimsOf k) → ltb moment (getD ends j 0) ≡ live moment (latest (claimsOf k)) (getD (k .list) j noClaim))
+      → heldPlaces (map holderOf (k .list)) ends (k .count) x moment ≡ coverPlaces k x moment
   held-natural ends long ended tells =
       let looked : lookedAt (map holderOf (k .list)) ends (k .count) ≡ length (claimsOf k) =
       looked-long (map holderOf (k .list)) ends (k .count) (length (k .list)) (length-map (k .list) holderOf) (omega arith) (omega arith)
       ∙ sym (length-take (k .count) (k .list)) in
-      ap (λ n. filter (λ j. heldAt (map holderOf (k .list)) ends x now j) (counted 0 n)) looked
-      ∙ trim-same (λ M j. not (heldAt (map holderOf (k .list)) ends x now j)) (λ M j. not (canCover x now (latest (claimsOf k)) (getD (k .list) j noClaim)))
+      ap (λ n. filter (λ j. heldAt (map holderOf (k .list)) ends x moment j) (counted 0 n)) looked
+      ∙ trim-same (λ M j. not (heldAt (map holderOf (k .list)) ends x moment j)) (λ M j. not (canCover x moment (latest (claimsOf k)) (getD (k .list) j noClaim)))
       (counted 0 (length (claimsOf k)))
       (all-imp (λ j. j < length (claimsOf k))
-      (λ j. not (heldAt (map holderOf (k .list)) ends x now j) ≡ not (canCover x now (latest (claimsOf k)) (getD (k .list) j noClaim)))
+      (λ j. not (heldAt (map holderOf (k .list)) ends x moment j) ≡ not (canCover x moment (latest (claimsOf k)) (getD (k .list) j noClaim)))
       (λ j inside. rw (List·getD-map holderOf (k .list) j noClaim, tells j inside)) (counted 0 (length (claimsOf k))) places-below)
 
 module _ (holders ends : List ℕ) where
   -- the first places, as many as are counted, are the gathered ones
-  pub gathered-first : (n x now : ℕ)
-      → take (gatheredBy holders ends n x now .count) (gatheredBy holders ends n x now .places) ≡ heldPlaces holders ends n x now
+  pub gathered-first : (n x moment : ℕ)
+      → take (gatheredBy holders ends n x moment .count) (gatheredBy holders ends n x moment .places) ≡ heldPlaces holders ends n x moment
   unfolding gatheredBy
-  gathered-first n x now =
-      take-append-seam (heldPlaces holders ends n x now) (replicate (claimLimit - length (heldPlaces holders ends n x now)) 0)
+  gathered-first n x moment =
+      take-append-seam (heldPlaces holders ends n x moment) (replicate (claimLimit - length (heldPlaces holders ends n x moment)) 0)
 
   looked-none : lookedAt holders ends 0 ≡ 0
   unfolding lookedAt
   looked-none = omega arith
 
   -- of no claims none are gathered
-  pub held-none : (x now : ℕ) → heldPlaces holders ends 0 x now ≡ []
-  held-none x now = rw looked-none (filter-nil (λ j. heldAt holders ends x now j))
+  pub held-none : (x moment : ℕ) → heldPlaces holders ends 0 x moment ≡ []
+  held-none x moment = rw looked-none (filter-nil (λ j. heldAt holders ends x moment j))
 
 -- the spot of x among the first m of a list of resources
 module _ (os : List Resource) (m x : ℕ) where

@@ -87,9 +87,9 @@ module _ (k : Claims) (c : Claim) {s : ClaimColumns} (claims : s ≡ claimColumn
     parent-stands o = chain-found (k .list) (k .count) (c .parent) j o at-place
 
   -- whether every claim of the chain is current
-  pub source-asked : (now : ℕ) {b : Bool} → b ≡ every (currentAt (s .weights) (s .expiries) now) (chainPlaces (s .ids) (s .parents) (k .count) (c .parent))
-      → b ≡ every (current now) (above (latest (claimsOf k)) c)
-  source-asked now e = e ∙ rw claims (current-natural (k .list) now (k .count) (c .parent))
+  pub source-asked : (moment : ℕ) {b : Bool} → b ≡ every (currentAt (s .weights) (s .expiries) moment) (chainPlaces (s .ids) (s .parents) (k .count) (c .parent))
+      → b ≡ every (current moment) (above (latest (claimsOf k)) c)
+  source-asked moment e = e ∙ rw claims (current-natural (k .list) moment (k .count) (c .parent))
 
 -- a claim has one hop more than its parent
 near-next : (m : ℕ) → ltb m hopLimit ≡ leb (suc m) hopLimit

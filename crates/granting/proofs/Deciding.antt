@@ -121,34 +121,34 @@ decided-after tests more {first} {last} e told =
     (λ why refused. outcome-append-refused tests more why (sym e ∙ refused) ∙ sym (told ∙ ap (λ o. outcomeAfter o more) refused))
 
 -- tests 9 to 16, over the chain above
-module _ (now : ℕ) (l : List Claim) (c : Claim) where
-  pub parent-absent : l ≡ [] → outcomeOf (parentTests now l c) ≡ Refused ParentAbsent
+module _ (moment : ℕ) (l : List Claim) (c : Claim) where
+  pub parent-absent : l ≡ [] → outcomeOf (parentTests moment l c) ≡ Refused ParentAbsent
   unfolding parentTests outcomeOf
   parent-absent e = rw e
 
   -- the parent p stands: its tests, and then those of the chain
   pub parent-present : {p : Claim} {higher : List Claim} → l ≡ p ∷ higher
-      → outcomeOf (parentTests now l c) ≡ outcomeOf (drawnTests (every (current now) l) p c
+      → outcomeOf (parentTests moment l c) ≡ outcomeOf (drawnTests (every (current moment) l) p c
       ++ chainTests (λ d. d .grantor) (λ d. d .holder) (withinHops l) l (c .holder))
-  parent-present {p} {higher} stands = rw stands (ap outcomeOf (parent-tests now p higher c))
+  parent-present {p} {higher} stands = rw stands (ap outcomeOf (parent-tests moment p higher c))
 
 -- tests 1 to 16
-module _ (r : Register) (c : Claim) (now : ℕ) where
-  pub unsound : sound r ≡ false → outcomeOf (grantTests r c now) ≡ Refused Unsound
+module _ (r : Register) (c : Claim) (moment : ℕ) where
+  pub unsound : sound r ≡ false → outcomeOf (grantTests r c moment) ≡ Refused Unsound
   unfolding grantTests outcomeOf
   unsound e = rw e
 
   module _ (whole : sound r ≡ true) where
-    pub claim-unfit : claimFits c ≡ false → outcomeOf (grantTests r c now) ≡ Refused OutOfRange
+    pub claim-unfit : claimFits c ≡ false → outcomeOf (grantTests r c moment) ≡ Refused OutOfRange
     unfolding grantTests outcomeOf
     claim-unfit e = rw (whole, e)
 
     module _ (fit : claimFits c ≡ true) where
-      pub moment-past : ltb now momentEnd ≡ false → outcomeOf (grantTests r c now) ≡ Refused OutOfRange
+      pub moment-past : ltb moment momentEnd ≡ false → outcomeOf (grantTests r c moment) ≡ Refused OutOfRange
       unfolding grantTests outcomeOf
       moment-past e = rw (whole, fit, e)
 
-      module _ (timely : ltb now momentEnd ≡ true) {stands : Bool} (told : stands ≡ any (λ d. eqb (c .id) (d .id)) (standing r)) where
+      module _ (timely : ltb moment momentEnd ≡ true) {stands : Bool} (told : stands ≡ any (λ d. eqb (c .id) (d .id)) (standing r)) where
         told-outcome : {y : Outcome} → outcomeOf (toldTests (worldIn r) stands (r .claims .count) c) ≡ y
             → outcomeOf (worldTests (worldIn r) (standing r) (r .claims .count) c) ≡ y
         told-outcome e =
@@ -157,27 +157,27 @@ module _ (r : Register) (c : Claim) (now : ℕ) where
             ∙ e
 
         pub world-refuses : {why : Refusal} → outcomeOf (toldTests (worldIn r) stands (r .claims .count) c) ≡ Refused why
-            → outcomeOf (grantTests r c now) ≡ Refused why
+            → outcomeOf (grantTests r c moment) ≡ Refused why
         unfolding grantTests outcomeOf
         world-refuses {why} e =
             rw (whole, fit, timely) (outcome-append-refused (worldTests (worldIn r) (standing r) (r .claims .count) c) _ why (told-outcome e))
 
         module _ (world : outcomeOf (toldTests (worldIn r) stands (r .claims .count) c) ≡ Accepted) where
-          pub root-granted : c .parent ≡ 0 → outcomeOf (grantTests r c now) ≡ Accepted
+          pub root-granted : c .parent ≡ 0 → outcomeOf (grantTests r c moment) ≡ Accepted
           unfolding grantTests outcomeOf
           root-granted o =
               rw (whole, fit, timely, eq-eqb (c .parent) 0 o)
               (outcome-append (worldTests (worldIn r) (standing r) (r .claims .count) c) [] (told-outcome world))
 
-          pub parent-decides : {y : Outcome} → (c .parent ≡ 0 → ⊥) → outcomeOf (parentTests now (above (standing r) c) c) ≡ y
-              → outcomeOf (grantTests r c now) ≡ y
+          pub parent-decides : {y : Outcome} → (c .parent ≡ 0 → ⊥) → outcomeOf (parentTests moment (above (standing r) c) c) ≡ y
+              → outcomeOf (grantTests r c moment) ≡ y
           unfolding grantTests outcomeOf
           parent-decides o q =
               rw (whole, fit, timely, ne-eqb (c .parent) 0 o)
-              (outcome-append (worldTests (worldIn r) (standing r) (r .claims .count) c) (parentTests now (above (standing r) c) c) (told-outcome world) ∙ q)
+              (outcome-append (worldTests (worldIn r) (standing r) (r .claims .count) c) (parentTests moment (above (standing r) c) c) (told-outcome world) ∙ q)
 
   -- an accepted claim finds room
-  pub accepted-room : outcomeOf (grantTests r c now) ≡ Accepted → r .claims .count < claimLimit
+  pub accepted-room : outcomeOf (grantTests r c moment) ≡ Accepted → r .claims .count < claimLimit
   unfolding grantTests worldTests
   accepted-room q =
       let behind-sound = outcome-first _ _ q .1 in
@@ -186,12 +186,12 @@ module _ (r : Register) (c : Claim) (now : ℕ) where
       let behind-fresh = outcome-first _ _ behind-names .1 in
       ltb-true (r .claims .count) claimLimit (outcome-first _ _ behind-fresh .0)
 
-  pub granted-accepted : {y : Outcome} → y ≡ outcomeOf (grantTests r c now) → y ≡ Accepted
-      → record { register = appended r c; outcome = Accepted } ≡ granted r c now
+  pub granted-accepted : {y : Outcome} → y ≡ outcomeOf (grantTests r c moment) → y ≡ Accepted
+      → record { register = appended r c; outcome = Accepted } ≡ granted r c moment
   unfolding granted
   granted-accepted e a = rw (← e, a)
 
-  pub granted-refused : {y : Outcome} {why : Refusal} → y ≡ outcomeOf (grantTests r c now) → y ≡ Refused why
-      → record { register = r; outcome = Refused why } ≡ granted r c now
+  pub granted-refused : {y : Outcome} {why : Refusal} → y ≡ outcomeOf (grantTests r c moment) → y ≡ Refused why
+      → record { register = r; outcome = Refused why } ≡ granted r c moment
   unfolding granted
   granted-refused e a = rw (← e, a)

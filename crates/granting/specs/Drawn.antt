@@ -65,12 +65,12 @@ unfolding worldTests toldTests fresh
 world-tests w earlier n c = refl
 
 -- the liveness that a grant asks for is that of every claim from the parent up
-pub source-live : (now : ℕ) (p : Claim) (higher : List Claim) → sourceLive now (p ∷ higher) ≡ every (current now) (p ∷ higher)
+pub source-live : (moment : ℕ) (p : Claim) (higher : List Claim) → sourceLive moment (p ∷ higher) ≡ every (current moment) (p ∷ higher)
 unfolding sourceLive
-source-live now p higher = refl
+source-live moment p higher = refl
 
-pub parent-tests : (now : ℕ) (p : Claim) (higher : List Claim) (c : Claim)
-    → parentTests now (p ∷ higher) c ≡ drawnTests (every (current now) (p ∷ higher)) p c
+pub parent-tests : (moment : ℕ) (p : Claim) (higher : List Claim) (c : Claim)
+    → parentTests moment (p ∷ higher) c ≡ drawnTests (every (current moment) (p ∷ higher)) p c
     ++ chainTests (λ d. d .grantor) (λ d. d .holder) (withinHops (p ∷ higher)) (p ∷ higher) (c .holder)
 unfolding parentTests drawnTests chainTests
-parent-tests now p higher c = rw (source-live now p higher)
+parent-tests moment p higher c = rw (source-live moment p higher)

@@ -125,8 +125,8 @@ fn parent_outcome<'a>(
 }
 
 // The outcome of a grant.
-fn grant_outcome(r: Register, c: Claim, now: u64) -> Outcome
-    ensures { λ y. ⌜ y ≡ outcomeOf (grantTests r c now) ⌝ }
+fn grant_outcome(r: Register, c: Claim, moment: u64) -> Outcome
+    ensures { λ y. ⌜ y ≡ outcomeOf (grantTests r c moment) ⌝ }
 {
     if !soundness::is_sound(r) {
         return Outcome::Refused(Refusal::Unsound);
@@ -134,7 +134,7 @@ fn grant_outcome(r: Register, c: Claim, now: u64) -> Outcome
     if !alone::claim_fits(c) {
         return Outcome::Refused(Refusal::OutOfRange);
     }
-    if register::MOMENT_END <= now {
+    if register::MOMENT_END <= moment {
         return Outcome::Refused(Refusal::OutOfRange);
     }
     let a = r.actors;
@@ -161,7 +161,7 @@ fn grant_outcome(r: Register, c: Claim, now: u64) -> Outcome
                         &claims.expiries,
                         k.count,
                         c.parent,
-                        now,
+                        moment,
                     );
                     let drawn = drawn_outcome(p, c, lives);
                     parent_outcome(
@@ -181,10 +181,10 @@ fn grant_outcome(r: Register, c: Claim, now: u64) -> Outcome
 }
 
 // Grants a claim at a moment.
-pub fn grant(r: Register, c: Claim, now: u64) -> Granted
-    ensures { λ g. ⌜ g ≡ granted r c now ⌝ }
+pub fn grant(r: Register, c: Claim, moment: u64) -> Granted
+    ensures { λ g. ⌜ g ≡ granted r c moment ⌝ }
 {
-    let outcome = grant_outcome(r, c, now);
+    let outcome = grant_outcome(r, c, moment);
     match outcome {
         Outcome::Accepted => {
             let actors = r.actors;

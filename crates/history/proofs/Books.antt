@@ -79,26 +79,26 @@ remains-trim : (b : Book) → remains b ≡ trim (λ M. gone (b .named)) (b .all
 remains-trim b = filter-not (gone (b .named)) (b .all)
 
 -- an accepted grant: the new entry remains
-pub remains-grant : (b : Book) (c : Claim) (now : ℕ) → Kept b → remains (wrote b (grant c now)) ≡ entered false now (remains b) (length (b .all)) c ∷ remains b
-remains-grant b c now v =
-    let spared : gone (b .named) (entered false now (remains b) (length (b .all)) c) ≡ false = rw (above-named (length (b .all)) (b .named) (v .spent))
+pub remains-grant : (b : Book) (c : Claim) (moment : ℕ) → Kept b → remains (wrote b (grant c moment)) ≡ entered false moment (remains b) (length (b .all)) c ∷ remains b
+remains-grant b c moment v =
+    let spared : gone (b .named) (entered false moment (remains b) (length (b .all)) c) ≡ false = rw (above-named (length (b .all)) (b .named) (v .spent))
     (any-map (λ (e : Entry). e .serial) (among (b .named)) (chain idIn parentIn (remains b) (c .parent))
     ∙ all-none (has (b .named)) (chain idIn parentIn (remains b) (c .parent)) (all-chain idIn parentIn _ (remains b) (c .parent)
     (all-imp _ _ (λ e h. or-left (among (b .named) (e .serial)) (any (among (b .named)) (e .line)) (not-true (gone (b .named) e) h)) (remains b)
     (filter-passed (λ e. not (gone (b .named) e)) (b .all))))) in
-    filter-hit (λ e. not (gone (b .named) e)) (entered false now (remains b) (length (b .all)) c) (b .all) (ap not spared)
+    filter-hit (λ e. not (gone (b .named) e)) (entered false moment (remains b) (length (b .all)) c) (b .all) (ap not spared)
 
-pub kept-grant : (b : Book) (c : Claim) (now : ℕ) → Kept b → ltb now momentEnd ≡ true
-    → eqb (c .parent) 0 || sourceLive now (chain (λ d. d .id) (λ d. d .parent) (claims (remains b)) (c .parent)) ≡ true → Kept (wrote b (grant c now))
-kept-grant b c now v moment lives = record {
-  fine = rw (remains-grant b c now v) (
+pub kept-grant : (b : Book) (c : Claim) (moment : ℕ) → Kept b → ltb moment momentEnd ≡ true
+    → eqb (c .parent) 0 || sourceLive moment (chain (λ d. d .id) (λ d. d .parent) (claims (remains b)) (c .parent)) ≡ true → Kept (wrote b (grant c moment))
+kept-grant b c moment v timely lives = record {
+  fine = rw (remains-grant b c moment v) (
     (
-      all-imp (Below (length (b .all))) (After (entered false now (remains b) (length (b .all)) c)) (λ d below. (below, λ z. absurd (false≢true z))) (remains b) (v .used),
-      ((λ z. (moment, rw (chain-claims (remains b) (c .parent)) at lives)), refl),
+      all-imp (Below (length (b .all))) (After (entered false moment (remains b) (length (b .all)) c)) (λ d below. (below, λ z. absurd (false≢true z))) (remains b) (v .used),
+      ((λ z. (timely, rw (chain-claims (remains b) (c .parent)) at lives)), refl),
     ),
     v .fine,
   );
-  used = rw (remains-grant b c now v) (omega arith, all-imp _ _ (λ d p. omega arith) (remains b) (v .used));
+  used = rw (remains-grant b c moment v) (omega arith, all-imp _ _ (λ d p. omega arith) (remains b) (v .used));
   spent = all-imp _ _ (λ t p. omega arith) (b .named) (v .spent);
 }
 

@@ -52,27 +52,27 @@ set-apart true true true delegates contains weighs hops uncircled = go delegates
     go true true true false uncircled = refl
     go true true true true uncircled = sym (and-true (uncircled && true))
 
-parent-tests : (now : ℕ) (H : List Claim) (c : Claim) → every (λ t. t .passed) (parentTests now H c) ≡ overChain H c && sourceLive now H
+parent-tests : (moment : ℕ) (H : List Claim) (c : Claim) → every (λ t. t .passed) (parentTests moment H c) ≡ overChain H c && sourceLive moment H
 unfolding parentTests overChain drawnFrom
-parent-tests now [] c = refl
-parent-tests now (p ∷ higher) c =
-    set-apart (eqb (p .holder) (c .grantor)) (eqb (p .resource) (c .resource)) (sourceLive now (p ∷ higher)) (hasRight (p .rights) delegating)
+parent-tests moment [] c = refl
+parent-tests moment (p ∷ higher) c =
+    set-apart (eqb (p .holder) (c .grantor)) (eqb (p .resource) (c .resource)) (sourceLive moment (p ∷ higher)) (hasRight (p .rights) delegating)
     (hasRights (p .rights) (c .rights)) (leb (c .weight) (p .weight)) (withinHops (p ∷ higher))
     (not (circling (λ d. d .grantor) (λ d. d .holder) (p ∷ higher) (c .holder)))
 
 -- what tests 1 to 16 of a grant ask; whether a source lives is not looked into
 abbrev pub grantAsks : Register → Claim → ℕ → List Bool
-grantAsks r c now =
+grantAsks r c moment =
     sound r
     ∷ claimFits c
-    ∷ ltb now momentEnd
+    ∷ ltb moment momentEnd
     ∷ namesStand (worldIn r) c
     ∷ fresh (standing r) c
     ∷ ltb (r .claims .count) claimLimit
     ∷ rootKept (worldIn r) c
     ∷ machineMay (worldIn r) c
     ∷ drawn (standing r) c
-    ∷ (eqb (c .parent) 0 || sourceLive now (above (standing r) c))
+    ∷ (eqb (c .parent) 0 || sourceLive moment (above (standing r) c))
     ∷ []
 
 -- tests 9 to 16 ask nothing of a root
@@ -82,41 +82,41 @@ root-tests true tests over live e = refl
 root-tests false tests over live e = e ∙ ap (λ b. over && b) (sym (and-true live))
 
 -- the tests one by one
-one-by-one : (judged fits moment stands free room kept owned unbarred machine drawn-and-live : Bool) → owned && (unbarred && drawn-and-live) ≡ machine && drawn-and-live
-    → judged && ((fits && moment) && (stands && (free && (room && (kept && (owned && (unbarred && drawn-and-live)))))))
-    ≡ judged && (fits && (moment && (stands && (free && (room && (kept && (machine && drawn-and-live)))))))
-one-by-one judged fits moment stands free room kept owned unbarred machine rest e =
-    rw (e, and-assoc fits moment (stands && (free && (room && (kept && (machine && rest))))))
+one-by-one : (judged fits timely stands free room kept owned unbarred machine drawn-and-live : Bool) → owned && (unbarred && drawn-and-live) ≡ machine && drawn-and-live
+    → judged && ((fits && timely) && (stands && (free && (room && (kept && (owned && (unbarred && drawn-and-live)))))))
+    ≡ judged && (fits && (timely && (stands && (free && (room && (kept && (machine && drawn-and-live)))))))
+one-by-one judged fits timely stands free room kept owned unbarred machine rest e =
+    rw (e, and-assoc fits timely (stands && (free && (room && (kept && (machine && rest))))))
 
-pub grant-accepted : (r : Register) (c : Claim) (now : ℕ) → isAccepted (granted r c now .outcome) ≡ ands (grantAsks r c now)
+pub grant-accepted : (r : Register) (c : Claim) (moment : ℕ) → isAccepted (granted r c moment .outcome) ≡ ands (grantAsks r c moment)
 unfolding granted grantTests worldTests drawn machineMay
-grant-accepted r c now =
-    let rest = root-tests (eqb (c .parent) 0) (parentTests now (above (standing r) c) c) (overChain (above (standing r) c) c)
-    (sourceLive now (above (standing r) c)) (parent-tests now (above (standing r) c) c) in
-    let drawnLive : Bool = (eqb (c .parent) 0 || overChain (above (standing r) c) c) && ((eqb (c .parent) 0 || sourceLive now (above (standing r) c)) && true) in
-    every-passed (grantTests r c now)
-    ∙ ap (λ b. sound r && ((claimFits c && ltb now momentEnd) && (namesStand (worldIn r) c && (fresh (standing r) c && (ltb (r .claims .count) claimLimit
+grant-accepted r c moment =
+    let rest = root-tests (eqb (c .parent) 0) (parentTests moment (above (standing r) c) c) (overChain (above (standing r) c) c)
+    (sourceLive moment (above (standing r) c)) (parent-tests moment (above (standing r) c) c) in
+    let drawnLive : Bool = (eqb (c .parent) 0 || overChain (above (standing r) c) c) && ((eqb (c .parent) 0 || sourceLive moment (above (standing r) c)) && true) in
+    every-passed (grantTests r c moment)
+    ∙ ap (λ b. sound r && ((claimFits c && ltb moment momentEnd) && (namesStand (worldIn r) c && (fresh (standing r) c && (ltb (r .claims .count) claimLimit
     && (rootKept (worldIn r) c && (not (worldIn r .machine (c .grantor) && worldIn r .ownerless (c .grantor))
     && (not (worldIn r .machine (c .grantor) && barsMachine (c .rights)) && b)))))))) rest
-    ∙ one-by-one (sound r) (claimFits c) (ltb now momentEnd) (namesStand (worldIn r) c) (fresh (standing r) c) (ltb (r .claims .count) claimLimit)
+    ∙ one-by-one (sound r) (claimFits c) (ltb moment momentEnd) (namesStand (worldIn r) c) (fresh (standing r) c) (ltb (r .claims .count) claimLimit)
     (rootKept (worldIn r) c) (not (worldIn r .machine (c .grantor) && worldIn r .ownerless (c .grantor)))
     (not (worldIn r .machine (c .grantor) && barsMachine (c .rights))) (machineMay (worldIn r) c) drawnLive
     (machine-tests (worldIn r .machine (c .grantor)) (worldIn r .ownerless (c .grantor)) (barsMachine (c .rights)) drawnLive)
 
 -- what an accepted grant tells, and what has it accepted
-pub record GrantPassed (r : Register) (c : Claim) (now : ℕ) : Type 0 where
+pub record GrantPassed (r : Register) (c : Claim) (moment : ℕ) : Type 0 where
   pub judged : sound r ≡ true
-  pub moment : ltb now momentEnd ≡ true
+  pub timely : ltb moment momentEnd ≡ true
   pub room : ltb (r .claims .count) claimLimit ≡ true
   pub fitting : acceptable (worldIn r) (standing r) c ≡ true
-  pub lives : eqb (c .parent) 0 || sourceLive now (above (standing r) c) ≡ true
+  pub lives : eqb (c .parent) 0 || sourceLive moment (above (standing r) c) ≡ true
 
-pub grant-out : (r : Register) (c : Claim) (now : ℕ) → isAccepted (granted r c now .outcome) ≡ true → GrantPassed r c now
-grant-out r c now h =
-    let told = ands-out (grantAsks r c now) (sym (grant-accepted r c now) ∙ h) in
+pub grant-out : (r : Register) (c : Claim) (moment : ℕ) → isAccepted (granted r c moment .outcome) ≡ true → GrantPassed r c moment
+grant-out r c moment h =
+    let told = ands-out (grantAsks r c moment) (sym (grant-accepted r c moment) ∙ h) in
     record {
       judged = told .0;
-      moment = told .1 .1 .0;
+      timely = told .1 .1 .0;
       room = told .1 .1 .1 .1 .1 .0;
       fitting = acceptable-in (worldIn r) (standing r) c record {
         byItself = record { fits = told .1 .0; stands = told .1 .1 .1 .0; kept = told .1 .1 .1 .1 .1 .1 .0; granted = told .1 .1 .1 .1 .1 .1 .1 .0 };
@@ -129,11 +129,11 @@ ten-hold : (a b c d e f g h i j : Bool) → a ≡ true → b ≡ true → c ≡ 
     → ands (a ∷ b ∷ c ∷ d ∷ e ∷ f ∷ g ∷ h ∷ i ∷ j ∷ []) ≡ true
 ten-hold a b c d e f g h i j p q r s t u v w x y = rw (p, q, r, s, t, u, v, w, x, y)
 
-pub grant-in : (r : Register) (c : Claim) (now : ℕ) → GrantPassed r c now → isAccepted (granted r c now .outcome) ≡ true
-grant-in r c now h =
+pub grant-in : (r : Register) (c : Claim) (moment : ℕ) → GrantPassed r c moment → isAccepted (granted r c moment .outcome) ≡ true
+grant-in r c moment h =
     let told = acceptable-out (worldIn r) (standing r) c (h .fitting) in
-    grant-accepted r c now
-    ∙ ten-hold _ _ _ _ _ _ _ _ _ _ (h .judged) (told .byItself .fits) (h .moment) (told .byItself .stands) (told .overEarlier .apart) (h .room)
+    grant-accepted r c moment
+    ∙ ten-hold _ _ _ _ _ _ _ _ _ _ (h .judged) (told .byItself .fits) (h .timely) (told .byItself .stands) (told .overEarlier .apart) (h .room)
     (told .byItself .kept) (told .byItself .granted) (told .overEarlier .chained) (h .lives)
 
 -- what tests 1, 3, 17 and 18 of a revocation ask
@@ -158,22 +158,22 @@ unfolding withdrawn clearResourceTests
 clear-resource-accepted r who o = every-passed (clearResourceTests r who o)
 
 abbrev pub clearExpiredAsks : Register → ℕ → ℕ → List Bool
-clearExpiredAsks r who now = sound r ∷ ltb now momentEnd ∷ worldIn r .known who ∷ human (actorsOf (r .actors)) who ∷ []
+clearExpiredAsks r who moment = sound r ∷ ltb moment momentEnd ∷ worldIn r .known who ∷ human (actorsOf (r .actors)) who ∷ []
 
-pub clear-expired-accepted : (r : Register) (who now : ℕ) → took r (withdraw (clearExpired who now)) ≡ ands (clearExpiredAsks r who now)
+pub clear-expired-accepted : (r : Register) (who moment : ℕ) → took r (withdraw (clearExpired who moment)) ≡ ands (clearExpiredAsks r who moment)
 unfolding withdrawn clearExpiredTests
-clear-expired-accepted r who now = every-passed (clearExpiredTests r who now)
+clear-expired-accepted r who moment = every-passed (clearExpiredTests r who moment)
 
 -- only in a sound register is a withdrawal accepted
 pub took-sound : (r : Register) (w : Withdrawal) → took r (withdraw w) ≡ true → sound r ≡ true
 took-sound r (revoke who x) e = ands-out (revokeAsks r who x) (sym (revoke-accepted r who x) ∙ e) .0
 took-sound r (clearResource who o) e = ands-out (clearResourceAsks r who o) (sym (clear-resource-accepted r who o) ∙ e) .0
-took-sound r (clearExpired who now) e = ands-out (clearExpiredAsks r who now) (sym (clear-expired-accepted r who now) ∙ e) .0
+took-sound r (clearExpired who moment) e = ands-out (clearExpiredAsks r who moment) (sym (clear-expired-accepted r who moment) ∙ e) .0
 
 -- the register that a call hands back
-pub granted-register : (r : Register) (c : Claim) (now : ℕ) → took r (grant c now) ≡ true → step r (grant c now) ≡ appended r c
+pub granted-register : (r : Register) (c : Claim) (moment : ℕ) → took r (grant c moment) ≡ true → step r (grant c moment) ≡ appended r c
 unfolding granted
-granted-register r c now e = ap (λ b. cond b (appended r c) r) e
+granted-register r c moment e = ap (λ b. cond b (appended r c) r) e
 
 pub withdrawn-register : (r : Register) (w : Withdrawal) → took r (withdraw w) ≡ true → step r (withdraw w) ≡ holding r (leftOf (names w) r)
 unfolding withdrawn
@@ -187,7 +187,7 @@ withdrawn-removed r w e = ap (λ b. cond b (length (standing r) - length (leftOf
 -- refused, it is the register as it came
 pub refused-register : (r : Register) (k : Call) → took r k ≡ false → step r k ≡ r
 unfolding granted withdrawn
-refused-register r (grant c now) e = ap (λ b. cond b (appended r c) r) e
+refused-register r (grant c moment) e = ap (λ b. cond b (appended r c) r) e
 refused-register r (withdraw w) e = ap (λ b. cond b (holding r (leftOf (names w) r)) r) e
 
 pub refused-removed : (r : Register) (w : Withdrawal) → took r (withdraw w) ≡ false → withdrawn r w .removed ≡ 0

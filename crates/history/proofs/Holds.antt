@@ -109,8 +109,8 @@ pub holds-sound : (r s : Register) (L : List Claim) → SoundRegister r → Hold
 holds-sound r s L sr h room k = sound-with r s sr (h .actors) (h .resources) (rw (h .count) room) (rw (h .claims) k)
 
 -- an appended claim stands behind the others, or, in an array too short for it, not at all
-pub appended-sound : (r : Register) (c : Claim) (now : ℕ) → GrantPassed r c now → sound (appended r c) ≡ true
-appended-sound r c now h =
+pub appended-sound : (r : Register) (c : Claim) (moment : ℕ) → GrantPassed r c moment → sound (appended r c) ≡ true
+appended-sound r c moment h =
     let sr = sound-out r (h .judged) in
     let below : r .claims .count < claimLimit = ltb-true (r .claims .count) claimLimit (h .room) in
     let within : r .claims .count + 1 ≤ claimLimit = omega (arith, below) in
@@ -137,7 +137,7 @@ pub step-sound : (r : Register) (k : Call) → sound r ≡ true → sound (step 
 step-sound r k h = cases (took r k) (taken k) (λ e. rw (refused-register r k e) h)
   where
     taken : (k : Call) → took r k ≡ true → sound (step r k) ≡ true
-    taken (grant c now) e = rw (granted-register r c now e) (appended-sound r c now (grant-out r c now e))
+    taken (grant c moment) e = rw (granted-register r c moment e) (appended-sound r c moment (grant-out r c moment e))
     taken (withdraw w) e = rw (withdrawn-register r w e) (without-sound r (names w) h)
 
 -- every call leaves a register its shape
@@ -148,7 +148,7 @@ step-shaped r k h = cases (took r k) (taken k) (λ e. rw (refused-register r k e
     with-claims cs long = record { actors = h .actors; resources = h .resources; paths = h .paths; claims = long }
 
     taken : (k : Call) → took r k ≡ true → Shaped (step r k)
-    taken (grant c now) e = rw (granted-register r c now e) (with-claims _ (length-set (r .claims .list) (r .claims .count) c ∙ h .claims))
+    taken (grant c moment) e = rw (granted-register r c moment e) (with-claims _ (length-set (r .claims .list) (r .claims .count) c ∙ h .claims))
     taken (withdraw w) e =
         let K : List Claim = strike (λ c. c .id) (λ c. c .parent) (names w) (standing r) in
         let fewer : length K ≤ length (standing r) = strike-length (λ c. c .id) (λ c. c .parent) (names w) (standing r) in

@@ -32,12 +32,12 @@ use Rattle.history.proofs.Calls.{GrantPassed, grant-out, grant-in, gran
 use Rattle.history.proofs.Holds.{holds-self, holds-appended, appended-sound, claims-holding}
 
 abbrev pub grantFits : Register → Claim → ℕ → Bool
-grantFits r c now = sound r && (ltb now momentEnd && (sound (appended r c) && (eqb (c .parent) 0 || sourceLive now (above (standing r) c))))
+grantFits r c moment = sound r && (ltb moment momentEnd && (sound (appended r c) && (eqb (c .parent) 0 || sourceLive moment (above (standing r) c))))
 
-fits-in : (r : Register) (c : Claim) (now : ℕ) → GrantPassed r c now → grantFits r c now ≡ true
-fits-in r c now h =
-    and-both (sound r) _ (h .judged) (and-both (ltb now momentEnd) _ (h .moment)
-    (and-both (sound (appended r c)) _ (appended-sound r c now h) (h .lives)))
+fits-in : (r : Register) (c : Claim) (moment : ℕ) → GrantPassed r c moment → grantFits r c moment ≡ true
+fits-in r c moment h =
+    and-both (sound r) _ (h .judged) (and-both (ltb moment momentEnd) _ (h .timely)
+    (and-both (sound (appended r c)) _ (appended-sound r c moment h) (h .lives)))
 
 -- the claims of the appended register, latest first
 appended-standing : (r : Register) (c : Claim) → Shaped r → sound r ≡ true → r .claims .count < claimLimit → standing (appended r c) ≡ c ∷ standing r
@@ -49,34 +49,34 @@ appended-fitting : (r : Register) (c : Claim) → Shaped r → sound r ≡ true 
     → soundClaims (worldIn r) (c ∷ standing r) ≡ true
 appended-fitting r c shaped h below k = rw (← appended-standing r c shaped h below) (sound-out (appended r c) k .claims)
 
-fits-out : (r : Register) (c : Claim) (now : ℕ) → Shaped r → grantFits r c now ≡ true → GrantPassed r c now
-fits-out r c now shaped h =
+fits-out : (r : Register) (c : Claim) (moment : ℕ) → Shaped r → grantFits r c moment ≡ true → GrantPassed r c moment
+fits-out r c moment shaped h =
     let judged = and-left (sound r) _ h in
-    let rest = and-right (sound r) (ltb now momentEnd && (sound (appended r c) && (eqb (c .parent) 0 || sourceLive now (above (standing r) c)))) h in
-    let last = and-right (ltb now momentEnd) (sound (appended r c) && (eqb (c .parent) 0 || sourceLive now (above (standing r) c))) rest in
-    let after = and-left (sound (appended r c)) (eqb (c .parent) 0 || sourceLive now (above (standing r) c)) last in
+    let rest = and-right (sound r) (ltb moment momentEnd && (sound (appended r c) && (eqb (c .parent) 0 || sourceLive moment (above (standing r) c)))) h in
+    let last = and-right (ltb moment momentEnd) (sound (appended r c) && (eqb (c .parent) 0 || sourceLive moment (above (standing r) c))) rest in
+    let after = and-left (sound (appended r c)) (eqb (c .parent) 0 || sourceLive moment (above (standing r) c)) last in
     let most : r .claims .count + 1 ≤ claimLimit = sound-out (appended r c) after .limits .claimCount in
     let below : r .claims .count < claimLimit = omega (arith, most) in
     record {
       judged = judged;
-      moment = and-left (ltb now momentEnd) (sound (appended r c) && (eqb (c .parent) 0 || sourceLive now (above (standing r) c))) rest;
+      timely = and-left (ltb moment momentEnd) (sound (appended r c) && (eqb (c .parent) 0 || sourceLive moment (above (standing r) c))) rest;
       room = lt-ltb (r .claims .count) claimLimit below;
       fitting = latest-acceptable (worldIn r) c (standing r) (appended-fitting r c shaped judged below after);
-      lives = and-right (sound (appended r c)) (eqb (c .parent) 0 || sourceLive now (above (standing r) c)) last;
+      lives = and-right (sound (appended r c)) (eqb (c .parent) 0 || sourceLive moment (above (standing r) c)) last;
     }
 
 -- a grant is accepted exactly where the register is sound before and with it, the moment is in range and the source lives
-pub grant-exact : (r : Register) (c : Claim) (now : ℕ) → Shaped r → isAccepted (granted r c now .outcome) ≡ grantFits r c now
-grant-exact r c now shaped = iff-same (isAccepted (granted r c now .outcome)) (grantFits r c now)
-    (λ h. fits-in r c now (grant-out r c now h)) (λ h. grant-in r c now (fits-out r c now shaped h))
+pub grant-exact : (r : Register) (c : Claim) (moment : ℕ) → Shaped r → isAccepted (granted r c moment .outcome) ≡ grantFits r c moment
+grant-exact r c moment shaped = iff-same (isAccepted (granted r c moment .outcome)) (grantFits r c moment)
+    (λ h. fits-in r c moment (grant-out r c moment h)) (λ h. grant-in r c moment (fits-out r c moment shaped h))
 
 -- an accepted grant puts the claim behind the others
-pub granted-claims : (r : Register) (c : Claim) (now : ℕ) → Shaped r → took r (grant c now) ≡ true
-    → claimsOf (step r (grant c now) .claims) ≡ claimsOf (r .claims) ++ (c ∷ [])
-granted-claims r c now shaped e =
-    let told = grant-out r c now e in
+pub granted-claims : (r : Register) (c : Claim) (moment : ℕ) → Shaped r → took r (grant c moment) ≡ true
+    → claimsOf (step r (grant c moment) .claims) ≡ claimsOf (r .claims) ++ (c ∷ [])
+granted-claims r c moment shaped e =
+    let told = grant-out r c moment e in
     let below : r .claims .count < length (r .claims .list) = omega (arith, shaped .claims, ltb-true (r .claims .count) claimLimit (told .room)) in
-    ap (λ s. claimsOf (s .claims)) (granted-register r c now e) ∙ rw (add-one, take-suc-set (r .claims .list) (r .claims .count) c below)
+    ap (λ s. claimsOf (s .claims)) (granted-register r c moment e) ∙ rw (add-one, take-suc-set (r .claims .list) (r .claims .count) c below)
 
 world-tests-same : (w v : World) (L K : List Claim) (n m : ℕ) (c : Claim) → w ≡ v → fresh L c ≡ fresh K c → ltb n claimLimit ≡ ltb m claimLimit
     → worldTests w L n c ≡ worldTests v K m c
@@ -84,11 +84,11 @@ unfolding worldTests
 world-tests-same w v L K n m c world free room = rw (world, free, room)
 
 -- a grant looks at the other claims through the chain above it, its id among theirs and their number alone
-pub grant-looks : (r s : Register) (c : Claim) (now : ℕ) → sound r ≡ sound s → worldIn r ≡ worldIn s → above (standing r) c ≡ above (standing s) c
+pub grant-looks : (r s : Register) (c : Claim) (moment : ℕ) → sound r ≡ sound s → worldIn r ≡ worldIn s → above (standing r) c ≡ above (standing s) c
     → fresh (standing r) c ≡ fresh (standing s) c → ltb (r .claims .count) claimLimit ≡ ltb (s .claims .count) claimLimit
-    → granted r c now .outcome ≡ granted s c now .outcome
+    → granted r c moment .outcome ≡ granted s c moment .outcome
 unfolding granted grantTests
-grant-looks r s c now judged world chained free room = rw (
+grant-looks r s c moment judged world chained free room = rw (
   judged,
   chained,
   world-tests-same (worldIn r) (worldIn s) (standing r) (standing s) (r .claims .count) (s .claims .count) c world free room,

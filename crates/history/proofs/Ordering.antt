@@ -97,22 +97,22 @@ module _ (P : Claim → Bool) (r : Register) (h : sound r ≡ true) where
   unfolding withdrawn clearResourceTests
   clear-resource-without who o = outcome-pass _ _ (without-sound r P h) ∙ sym (outcome-pass _ _ h)
 
-  clear-expired-without : (who now : ℕ) → withdrawn (without P r) (clearExpired who now) .outcome ≡ withdrawn r (clearExpired who now) .outcome
+  clear-expired-without : (who moment : ℕ) → withdrawn (without P r) (clearExpired who moment) .outcome ≡ withdrawn r (clearExpired who moment) .outcome
   unfolding withdrawn clearExpiredTests
-  clear-expired-without who now = outcome-pass _ _ (without-sound r P h) ∙ sym (outcome-pass _ _ h)
+  clear-expired-without who moment = outcome-pass _ _ (without-sound r P h) ∙ sym (outcome-pass _ _ h)
 
   -- what a withdrawal is told behind a striking
   told-without : (w : Withdrawal) → withdrawn (without P r) w .outcome ≡ cond (loses r P w) (Refused ClaimAbsent) (withdrawn r w .outcome)
   told-without (revoke who y) = revoke-without who y
   told-without (clearResource who o) = clear-resource-without who o
-  told-without (clearExpired who now) = clear-expired-without who now
+  told-without (clearExpired who moment) = clear-expired-without who moment
 
   -- one that loses its claim names nothing that is left
   lost-none : (w : Withdrawal) → loses r P w ≡ true → All (λ c. names w c ≡ false) (leaving P (standing r))
   lost-none (revoke who y) e = none-all (λ c. eqb (c .id) y) (leaving P (standing r))
       (gone-stands y (and-right (worldIn r .known who) (any P (chainFrom (standing r) y)) e))
   lost-none (clearResource who o) e = absurd (false≢true e)
-  lost-none (clearExpired who now) e = absurd (false≢true e)
+  lost-none (clearExpired who moment) e = absurd (false≢true e)
 
 steady : (w : Withdrawal) → Steady w
 steady w = record {
@@ -151,7 +151,7 @@ withdraw-second r v (revoke who y) = cases (takes r v (revoke who y))
     (λ e. inr (second-told r v (revoke who y) ∙ ap (λ b. cond b (Refused ClaimAbsent) (withdrawn r (revoke who y) .outcome)) e))
     (λ e. inl (untaken-told r v (revoke who y) e))
 withdraw-second r v (clearResource who o) = untaken-told r v (clearResource who o) (and-false (took r (withdraw v)))
-withdraw-second r v (clearExpired who now) = untaken-told r v (clearExpired who now) (and-false (took r (withdraw v)))
+withdraw-second r v (clearExpired who moment) = untaken-told r v (clearExpired who moment) (and-false (took r (withdraw v)))
 
 -- a revocation whose claim another withdrawal takes would have passed tests 1, 3 and 17
 taken-alone : (r : Register) (v : Withdrawal) (who y : ℕ) → takes r v (revoke who y) ≡ true
@@ -178,7 +178,7 @@ either-told false = inr refl
 pub withdraw-lost : (r : Register) (v w : Withdrawal) → takes r v w ≡ true → AcceptedOrBarred (withdrawn r w .outcome)
 withdraw-lost r v (revoke who y) e = rw (taken-alone r v who y e) (either-told (any (λ c. eqb (c .grantor) who) (chainFrom (standing r) y)))
 withdraw-lost r v (clearResource who o) e = absurd (false≢true (and-right (took r (withdraw v)) false e))
-withdraw-lost r v (clearExpired who now) e = absurd (false≢true (and-right (took r (withdraw v)) false e))
+withdraw-lost r v (clearExpired who moment) e = absurd (false≢true (and-right (took r (withdraw v)) false e))
 
 pub withdraw-told : (r : Register) (v w : Withdrawal)
     → turnsAbsent (withdrawn r w .outcome) (withdrawn (withdrawn r v .register) w .outcome) ≡ takes r v w

@@ -66,14 +66,14 @@ record State (r s : Register) (b : Book) : Type 0 where
 held-room : (r s : Register) (b : Book) → State r s b → length (claims (remains b)) ≤ claimLimit
 held-room r s b v = rw (← v .held .count) (sound-out s (v .judged) .limits .claimCount)
 
-state-grant : (r s : Register) (b : Book) (c : Claim) (now : ℕ) → State r s b → took s (grant c now) ≡ true → State r (step s (grant c now)) (wrote b (grant c now))
-state-grant r s b c now v e =
-    let told = grant-out s c now e in
+state-grant : (r s : Register) (b : Book) (c : Claim) (moment : ℕ) → State r s b → took s (grant c moment) ≡ true → State r (step s (grant c moment)) (wrote b (grant c moment))
+state-grant r s b c moment v e =
+    let told = grant-out s c moment e in
     let room : length (claims (remains b)) < claimLimit = rw (← v .held .count) (ltb-true (s .claims .count) claimLimit (told .room)) in
     record {
-      held = rw (granted-register s c now e, remains-grant b c now (v .known)) (holds-appended r s (claims (remains b)) c (v .held) room);
-      judged = step-sound s (grant c now) (v .judged);
-      known = kept-grant b c now (v .known) (told .moment) (rw (v .held .claims) at (told .lives));
+      held = rw (granted-register s c moment e, remains-grant b c moment (v .known)) (holds-appended r s (claims (remains b)) c (v .held) room);
+      judged = step-sound s (grant c moment) (v .judged);
+      known = kept-grant b c moment (v .known) (told .timely) (rw (v .held .claims) at (told .lives));
     }
 
 state-withdraw : (r s : Register) (b : Book) (w : Withdrawal) → State r s b → took s (withdraw w) ≡ true
@@ -95,7 +95,7 @@ state-step : (r s : Register) (b : Book) (k : Call) → State r s b → State r 
 state-step r s b k v = cases (took s k) (λ e. rw e (taken k e)) (λ e. rw (e, refused-register s k e) v)
   where
     taken : (k : Call) → took s k ≡ true → State r (step s k) (wrote b k)
-    taken (grant c now) e = state-grant r s b c now v e
+    taken (grant c moment) e = state-grant r s b c moment v e
     taken (withdraw w) e = state-withdraw r s b w v e
 
 state-run : (r s : Register) (b : Book) (ks : List Call) → State r s b → State r (run s ks) (kept s b ks)
@@ -136,7 +136,7 @@ module _ (r s : Register) (sr : SoundRegister r) (e : Entry) (L : List Entry) (h
       → took s (again e) ≡ true
   next-accepted room k timely = grant-in s (e .claim) (e .clock) record {
     judged = holds-sound r s (claims L) sr held (omega (arith, room)) (earlier-sound (worldIn r) (e .claim) (claims L) k);
-    moment = timely .0;
+    timely = timely .0;
     room = lt-ltb (s .claims .count) claimLimit (rw (held .count) room);
     fitting = rw (held .actors, held .resources, held .claims) (latest-acceptable (worldIn r) (e .claim) (claims L) k);
     lives = rw (held .claims, chain-claims L (e .claim .parent)) (timely .1);

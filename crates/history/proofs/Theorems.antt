@@ -39,19 +39,19 @@ pub run-shaped : (r : Register) (ks : List Call) → Shaped r → Shaped (run r 
 run-shaped = replay.run-shaped
 
 -- 3a. A grant is accepted exactly where the register is sound, the moment is in range, the register with the claim is sound, and the source of a claim that is no root lives.
-pub grant-exact : (r : Register) (c : Claim) (now : ℕ) → Shaped r
-    → took r (grant c now) ≡ sound r && (ltb now momentEnd && (sound (appended r c) && (eqb (c .parent) 0 || sourceLive now (above (standing r) c))))
+pub grant-exact : (r : Register) (c : Claim) (moment : ℕ) → Shaped r
+    → took r (grant c moment) ≡ sound r && (ltb moment momentEnd && (sound (appended r c) && (eqb (c .parent) 0 || sourceLive moment (above (standing r) c))))
 grant-exact = laws.grant-exact
 
 -- 3b. An accepted grant puts the claim at the end of the claims.
-pub granted-claims : (r : Register) (c : Claim) (now : ℕ) → Shaped r → took r (grant c now) ≡ true
-    → claimsOf (step r (grant c now) .claims) ≡ claimsOf (r .claims) ++ (c ∷ [])
+pub granted-claims : (r : Register) (c : Claim) (moment : ℕ) → Shaped r → took r (grant c moment) ≡ true
+    → claimsOf (step r (grant c moment) .claims) ≡ claimsOf (r .claims) ++ (c ∷ [])
 granted-claims = laws.granted-claims
 
 -- 3c. Of the other claims of two sound registers a grant's outcome depends on the chain above it, on whether its id stands and on whether there is room.
-pub grant-looks : (r s : Register) (c : Claim) (now : ℕ) → sound r ≡ sound s → worldIn r ≡ worldIn s → above (standing r) c ≡ above (standing s) c
+pub grant-looks : (r s : Register) (c : Claim) (moment : ℕ) → sound r ≡ sound s → worldIn r ≡ worldIn s → above (standing r) c ≡ above (standing s) c
     → fresh (standing r) c ≡ fresh (standing s) c → ltb (r .claims .count) claimLimit ≡ ltb (s .claims .count) claimLimit
-    → granted r c now .outcome ≡ granted s c now .outcome
+    → granted r c moment .outcome ≡ granted s c moment .outcome
 grant-looks = laws.grant-looks
 
 -- 5a. A refused call hands back the register as it came.

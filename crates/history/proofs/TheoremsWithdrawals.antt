@@ -38,14 +38,14 @@ pub clear-resource-removes : (r : Register) (who o : ℕ) → sound r ≡ true �
 clear-resource-removes = laws.clear-resource-removes
 
 -- 4e. A clearing of old claims is accepted exactly where the register is sound, the moment is in range, the caller is known and human.
-pub clear-expired-exact : (r : Register) (who now : ℕ)
-    → took r (withdraw (clearExpired who now)) ≡ ands (sound r ∷ ltb now momentEnd ∷ worldIn r .known who ∷ human (actorsOf (r .actors)) who ∷ [])
+pub clear-expired-exact : (r : Register) (who moment : ℕ)
+    → took r (withdraw (clearExpired who moment)) ≡ ands (sound r ∷ ltb moment momentEnd ∷ worldIn r .known who ∷ human (actorsOf (r .actors)) who ∷ [])
 clear-expired-exact = calls.clear-expired-accepted
 
 -- 4f. It removes exactly the claims with one on their chain that has expired at the moment, themselves included, and the others keep their order.
-pub clear-expired-removes : (r : Register) (who now : ℕ) → sound r ≡ true → took r (withdraw (clearExpired who now)) ≡ true
-    → claimsOf (step r (withdraw (clearExpired who now)) .claims) ≡ filter (λ c. not (any (expired now) (chain (λ d. d .id) (λ d. d .parent) (standing r) (c .id)))) (claimsOf (r .claims))
-clear-expired-removes r who now = laws.withdraw-removes r (clearExpired who now)
+pub clear-expired-removes : (r : Register) (who moment : ℕ) → sound r ≡ true → took r (withdraw (clearExpired who moment)) ≡ true
+    → claimsOf (step r (withdraw (clearExpired who moment)) .claims) ≡ filter (λ c. not (any (expired moment) (chain (λ d. d .id) (λ d. d .parent) (standing r) (c .id)))) (claimsOf (r .claims))
+clear-expired-removes r who moment = laws.withdraw-removes r (clearExpired who moment)
 
 -- 4g. An accepted withdrawal tells how many went.
 pub withdraw-counts : (r : Register) (w : Withdrawal) → took r (withdraw w) ≡ true

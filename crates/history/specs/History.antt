@@ -23,11 +23,11 @@ pub data Call : Type 0 where
 
 -- the register that a call hands back, and whether the call was accepted
 abbrev pub step : Register → Call → Register
-step r (grant c now) = granted r c now .register
+step r (grant c moment) = granted r c moment .register
 step r (withdraw w) = withdrawn r w .register
 
 abbrev pub took : Register → Call → Bool
-took r (grant c now) = isAccepted (granted r c now .outcome)
+took r (grant c moment) = isAccepted (granted r c moment .outcome)
 took r (withdraw w) = isAccepted (withdrawn r w .outcome)
 
 -- the register at the end of calls, and whether each of them was accepted
@@ -87,7 +87,7 @@ started (c ∷ earlier) = let es = started earlier in entered true 0 es (length 
 
 -- what an accepted call writes: a grant a new entry, a withdrawal the serial numbers of what it names among those that stand
 abbrev pub wrote : Book → Call → Book
-wrote b (grant c now) = record { all = entered false now (remains b) (length (b .all)) c ∷ b .all; named = b .named }
+wrote b (grant c moment) = record { all = entered false moment (remains b) (length (b .all)) c ∷ b .all; named = b .named }
 wrote b (withdraw w) = record { all = b .all; named = serials (filter (λ e. names w (e .claim)) (remains b)) ++ b .named }
 
 -- the book b, kept on through calls from the register r

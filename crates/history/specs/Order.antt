@@ -22,7 +22,7 @@ SameOrAbsent alone second = (second ≡ alone) ⊎ (second ≡ Refused ClaimAbse
 abbrev pub SecondTold : Withdrawal → Outcome → Outcome → Type 0
 SecondTold (revoke who x) alone second = SameOrAbsent alone second
 SecondTold (clearResource who o) alone second = second ≡ alone
-SecondTold (clearExpired who now) alone second = second ≡ alone
+SecondTold (clearExpired who moment) alone second = second ≡ alone
 
 -- accepted, or told 18
 abbrev pub AcceptedOrBarred : Outcome → Type 0
@@ -42,7 +42,7 @@ turnsAbsent alone second = isAbsent second && not (isAbsent alone)
 abbrev pub loses : Register → (Claim → Bool) → Withdrawal → Bool
 loses r P (revoke who y) = worldIn r .known who && any P (chain (λ c. c .id) (λ c. c .parent) (standing r) y)
 loses r P (clearResource who o) = false
-loses r P (clearExpired who now) = false
+loses r P (clearExpired who moment) = false
 
 -- whether v takes from w its claim: v is accepted, and w loses its claim by what v names
 abbrev pub takes : Register → Withdrawal → Withdrawal → Bool

@@ -48,10 +48,10 @@ abbrev useOf : ℕ → ℕ → Usage
 useOf n b = record { resource = n; right = b }
 
 abbrev actionOf : ℕ → ℕ → ℕ → List Usage → ℕ → Action
-actionOf actor flags now uses used = record {
+actionOf actor flags moment uses used = record {
   actor = actor;
   flags = flags;
-  now = now;
+  now = moment;
   uses = uses;
   used = used;
   governs = replicate governLimit 0;

@@ -23,7 +23,7 @@ use Rattle.json_reading.specs.declared.SettingAt.the-variants.{Is, Not a
 use Rattle.json_reading.specs.declared.Settings.{Settings}
 use Rattle.json_reading.specs.declared.Settings.the-variants.{Are, Not}
 use Rattle.json_reading.proofs.Laws.{past-unmarked, continued, separated-natural, separated-more, separated-done, separated-broken, items-missed}
-use Rattle.json_reading.specs.Answers.{Behind, Separation, more, done, broken, separation, isMarked, SettingSays, flagsFound, fullSet, SettingsSays}
+use Rattle.json_reading.specs.Answers.{Behind, Separation, more, noMore, broken, separation, isMarked, SettingSays, flagsFound, fullSet, SettingsSays}
 use Rattle.json_reading.proofs.Flags.{isAmong, Noted, noted-none, noted-more, noted-answer}
 
 -- One setting.
@@ -88,7 +88,7 @@ module _ (ss : List Setting) (a : Setting) (again : isAmong ss (a .flag) ≡ tru
   continued-again : (go : List Token → Taken (List Setting)) (x : Separation) → fullSet (prefixed ss (continued go a x)) ≡ missed
   unfolding prefixed
   continued-again go (more ts) = led-again (go ts)
-  continued-again go (done ts) = took-again [] ts
+  continued-again go (noMore ts) = took-again [] ts
   continued-again go broken = refl
 
 -- the settings of an object from a position on, up to the closing mark
@@ -139,7 +139,7 @@ module _ {s : List ℕ} {begun : ℕ} {seen sets : List Bool} {at : ℕ} (r : Re
         onward = after;
       }
 
-      pub reading-done : separation closesObject us ≡ done (tokens (drop next s)) → Behind s begun next
+      pub reading-done : separation closesObject us ≡ noMore (tokens (drop next s)) → Behind s begun next
           → SettingsSays s begun (flagsFound (set seen i true) (set sets i on) next) (fullSet (settingsFrom s begun))
       unfolding prefixed
       reading-done e behind =

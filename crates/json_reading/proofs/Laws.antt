@@ -10,7 +10,7 @@ use Rattle.lists.specs.Tests.{cases}
 use Rattle.json_tokens.specs.Tokens.{Token, mark, text, noToken, comma}
 use Rattle.json_actions.specs.Members.{Taken, taking, missed, past, ledBy, separated, further, items, anyItems, takeNumber}
 use Rattle.json_actions.specs.Items.{Shrinks, items-step, taken-cases, prefixed, prefixed-led}
-use Rattle.json_reading.specs.Answers.{Separation, more, done, broken, separation, isMarked}
+use Rattle.json_reading.specs.Answers.{Separation, more, noMore, broken, separation, isMarked}
 
 -- what stands behind a mark
 pub past-marked : {A : Type 0} (b : ℕ) (go : List Token → Taken A) (ts : List Token) → past b go (mark b ∷ ts) ≡ go ts
@@ -26,7 +26,7 @@ past-unmarked b go (noToken ∷ ts) other = refl
 pub separation-comma : (close b : ℕ) (ts : List Token) → b ≡ comma → separation close (mark b ∷ ts) ≡ more ts
 separation-comma close b ts e = rw (eq-eqb b comma e)
 
-pub separation-close : (close b : ℕ) (ts : List Token) → (b ≡ comma → ⊥) → b ≡ close → separation close (mark b ∷ ts) ≡ done ts
+pub separation-close : (close b : ℕ) (ts : List Token) → (b ≡ comma → ⊥) → b ≡ close → separation close (mark b ∷ ts) ≡ noMore ts
 separation-close close b ts other e = rw (ne-eqb b comma other, eq-eqb b close e)
 
 pub separation-other : (close b : ℕ) (ts : List Token) → (b ≡ comma → ⊥) → (b ≡ close → ⊥) → separation close (mark b ∷ ts) ≡ broken
@@ -35,7 +35,7 @@ separation-other close b ts other another = rw (ne-eqb b comma other, ne-eqb b c
 -- an item and what follows it
 abbrev pub continued : {A : Type 0} → (List Token → Taken (List A)) → A → Separation → Taken (List A)
 continued go a (more ts) = ledBy a (go ts)
-continued go a (done ts) = taking (a ∷ []) ts
+continued go a (noMore ts) = taking (a ∷ []) ts
 continued go a broken = missed
 
 module _ {A : Type 0} (close : ℕ) (go : List Token → Taken (List A)) (a : A) where
@@ -48,7 +48,7 @@ module _ {A : Type 0} (close : ℕ) (go : List Token → Taken (List A)) (a : A)
   pub separated-more : (ts us : List Token) → separation close ts ≡ more us → separated close go a ts ≡ ledBy a (go us)
   separated-more ts us e = separated-natural ts ∙ ap (continued go a) e
 
-  pub separated-done : (ts us : List Token) → separation close ts ≡ done us → separated close go a ts ≡ taking (a ∷ []) us
+  pub separated-done : (ts us : List Token) → separation close ts ≡ noMore us → separated close go a ts ≡ taking (a ∷ []) us
   separated-done ts us e = separated-natural ts ∙ ap (continued go a) e
 
   pub separated-broken : (ts : List Token) → separation close ts ≡ broken → separated close go a ts ≡ missed
@@ -71,7 +71,7 @@ module _ {A : Type 0} (item : List Token → Taken A) (close : ℕ) (shrinks : S
         prefixed l (items item close ts) ≡ prefixed (l ++ (a ∷ [])) (items item close us)
     items-more us e = ap (prefixed l) (items-taken ∙ separated-more close (items item close) a rest us e) ∙ prefixed-led l a (items item close us)
 
-    pub items-done : (us : List Token) → separation close rest ≡ done us → prefixed l (items item close ts) ≡ taking (l ++ (a ∷ [])) us
+    pub items-done : (us : List Token) → separation close rest ≡ noMore us → prefixed l (items item close ts) ≡ taking (l ++ (a ∷ [])) us
     unfolding prefixed
     items-done us e = ap (prefixed l) (items-taken ∙ separated-done close (items item close) a rest us e)
 

@@ -19,7 +19,7 @@ use Rattle.json_actions.specs.Members.{Taken, taking, missed, past, isExact, ex
 use Rattle.json_actions.specs.Items.{taken-cases, missed-took, items-step, number-shrinks, prefixed, prefixed-nil}
 use Rattle.json_reading.specs.declared.Numbers.{Numbers}
 use Rattle.json_reading.specs.declared.Numbers.the-variants.{Are, Not}
-use Rattle.json_reading.specs.Answers.{Behind, Separation, more, done, broken, separation, isMarked, limited, NumbersSays}
+use Rattle.json_reading.specs.Answers.{Behind, Separation, more, noMore, broken, separation, isMarked, limited, NumbersSays}
 use Rattle.json_reading.proofs.Laws.{past-marked, past-unmarked, continued, separated-natural, items-missed, items-more, items-done, items-broken}
 use Rattle.json_reading.proofs.Laws.{any-items-none, any-items-some, number-noToken}
 
@@ -91,7 +91,7 @@ led-filled a missed l rest e = missed-took e
 continued-filled : {A : Type 0} (go : List Token → Taken (List A)) (a : A) (p : Separation) (l : List A) (rest : List Token) → continued go a p ≡ taking l rest →
     0 < length l
 continued-filled go a (more ts) l rest e = led-filled a (go ts) l rest e
-continued-filled go a (done ts) l rest e = let whole : a ∷ [] ≡ l = cc in omega (arith, ap length whole)
+continued-filled go a (noMore ts) l rest e = let whole : a ∷ [] ≡ l = cc in omega (arith, ap length whole)
 continued-filled go a broken l rest e = missed-took e
 
 -- the numbers of a list, from its first one on
@@ -168,7 +168,7 @@ module _ {s : List ℕ} {begun base : ℕ} {old new : List ℕ} {at count : ℕ}
         onward = omega (arith, l .onward);
       }
 
-      pub listing-done : separation closesList rest ≡ done (tokens (drop next s)) → next ≤ length s →
+      pub listing-done : separation closesList rest ≡ noMore (tokens (drop next s)) → next ≤ length s →
           NumbersSays s begun base old (set new (base + count) n) (Are (count + 1) next) (limited (listed (tokens (drop begun s))))
       listing-done e inside = (
         l .ns ++ (n ∷ []),

@@ -14,7 +14,7 @@ use Rattle.json_tokens.specs.Tokens.{Token, mark, text, noToken, comma, colon, 
 use Rattle.json_actions.specs.Names.{keyNames, placeOf}
 use Rattle.json_actions.specs.Members.{Member, Value, Taken, missed, past, named, takeText, ledBy, further, items, takeValue, takeHeld, takeMember, taking}
 use Rattle.json_actions.specs.Items.{taken-cases, missed-took, items-step, member-shrinks, prefixed, prefixed-nil, prefixed-led, keyCount}
-use Rattle.json_reading.specs.Answers.{Separation, more, done, broken, separation, keyOf, listRoom, Apart, keysOf, DraftSays, admitted, Behind, HeldSays, HoldsValue}
+use Rattle.json_reading.specs.Answers.{Separation, more, noMore, broken, separation, keyOf, listRoom, Apart, keysOf, DraftSays, admitted, Behind, HeldSays, HoldsValue}
 use Rattle.json_reading.specs.Answers.{KeptMembers}
 use Rattle.json_reading.specs.declared.Held.{Held}
 use Rattle.json_reading.specs.declared.Draft.{Draft}
@@ -82,7 +82,7 @@ value-beyond k ts beyond =
 -- the item leads whatever is taken
 continued-led : {A : Type 0} (go : List Token → Taken (List A)) (a : A) (p : Separation) → (x : Taken (List A)) × (continued go a p ≡ ledBy a x)
 continued-led go a (more us) = (go us, refl)
-continued-led go a (done us) = (taking [] us, refl)
+continued-led go a (noMore us) = (taking [] us, refl)
 continued-led go a broken = (missed, refl)
 
 -- the members up to the closing brace
@@ -228,7 +228,7 @@ module _ {s : List ℕ} {begun : ℕ} {numbers : List ℕ} {seen : List Bool} {f
         }
 
         -- the closing brace follows
-        pub read-done : (next : ℕ) → separation closesObject rest ≡ done (tokens (drop next s))
+        pub read-done : (next : ℕ) → separation closesObject rest ≡ noMore (tokens (drop next s))
             → Answered s new (record {
               ok = true;
               next = next;

@@ -52,18 +52,18 @@ NumberSays s at NoNumber p = p ≡ missed
 -- what follows an item: a comma, with the tokens behind it; the closing mark; or neither
 pub data Separation : Type 0 where
   more : List Token → Separation
-  done : List Token → Separation
+  noMore : List Token → Separation
   broken : Separation
 
 abbrev pub separation : ℕ → List Token → Separation
 separation close [] = broken
-separation close (mark b ∷ ts) = cond (eqb b comma) (more ts) (cond (eqb b close) (done ts) broken)
+separation close (mark b ∷ ts) = cond (eqb b comma) (more ts) (cond (eqb b close) (noMore ts) broken)
 separation close (text x ∷ ts) = broken
 separation close (noToken ∷ ts) = broken
 
 abbrev pub SeparatorSays : List ℕ → ℕ → Separator → Separation → Type 0
 SeparatorSays s at (More next) p = (p ≡ more (tokens (drop next s))) × Behind s at next
-SeparatorSays s at (Done next) p = (p ≡ done (tokens (drop next s))) × Behind s at next
+SeparatorSays s at (Done next) p = (p ≡ noMore (tokens (drop next s))) × Behind s at next
 SeparatorSays s at Broken p = p ≡ broken
 
 -- whether some tokens begin with a mark

@@ -112,8 +112,8 @@ module _ (cs : List Claim) (n : ℕ) (c : Claim) where
       -- its parent stands at place k
       module _ (k : ℕ) (q : latestPlace (map claimId cs) n (c .parent) ≡ At k) where
         -- it has one hop more
-        pub hops-natural : length (chainPlaces (map claimId cs) (map parentOf cs) n (c .parent)) ≡ suc (length (higher (map claimId cs) (map parentOf cs) k))
-        hops-natural = ap length (chain-places-at (map claimId cs) (map parentOf cs) n (c .parent) k o q)
+        pub one-hop-more : length (chainPlaces (map claimId cs) (map parentOf cs) n (c .parent)) ≡ suc (length (higher (map claimId cs) (map parentOf cs) k))
+        one-hop-more = ap length (chain-places-at (map claimId cs) (map parentOf cs) n (c .parent) k o q)
 
         pub over-natural : (ups : List ℕ) (steps : ℕ) → KeptPlaces (map claimId cs) (map parentOf cs) ups n → steps ≡ length (higher (map claimId cs) (map parentOf cs) k)
             → overAt ups (map grantorOf cs) (map holderOf cs) k steps (getD cs k noClaim) c ≡ over (latest (take n cs)) c
@@ -123,7 +123,7 @@ module _ (cs : List Claim) (n : ℕ) (c : Claim) where
             let long : length (above (latest (take n cs)) c) ≡ suc steps =
             ap length (sym (chain-natural cs n (c .parent)))
             ∙ length-map (chainPlaces (map claimId cs) (map parentOf cs) n (c .parent)) (λ j. getD cs j noClaim)
-            ∙ hops-natural
+            ∙ one-hop-more
             ∙ ap suc (sym e) in
             let circles : circlesUp ups (map grantorOf cs) (map holderOf cs) k steps (c .holder)
             ≡ circling grantorOf holderOf (above (latest (take n cs)) c) (c .holder) =

@@ -51,10 +51,10 @@ pub extern "C" fn guvrendik_sound(r: Register) -> Soundness
 
 // Grants a claim at the moment.
 #[no_mangle]
-pub extern "C" fn guvrendik_grant(r: Register, c: Claim, now: u64) -> GrantAnswer
-    ensures { λ y. ⌜ y ≡ grantAnswer (granted r c now) ⌝ }
+pub extern "C" fn guvrendik_grant(r: Register, c: Claim, moment: u64) -> GrantAnswer
+    ensures { λ y. ⌜ y ≡ grantAnswer (granted r c moment) ⌝ }
 {
-    let g = granting::grant(r, c, now);
+    let g = granting::grant(r, c, moment);
     let outcome = g.outcome;
     let accepted = answers::accepted(outcome);
     let refusal = answers::refusal(outcome);
@@ -104,10 +104,10 @@ pub extern "C" fn guvrendik_clear_resource(r: Register, caller: u32, resource: u
 
 // Clears old claims on behalf of a human: every claim that has expired at the moment goes, with all that is drawn from it.
 #[no_mangle]
-pub extern "C" fn guvrendik_clear_expired(r: Register, caller: u32, now: u64) -> RevokeAnswer
-    ensures { λ y. ⌜ y ≡ revokeAnswer (withdrawn r (clearExpired caller now)) ⌝ }
+pub extern "C" fn guvrendik_clear_expired(r: Register, caller: u32, moment: u64) -> RevokeAnswer
+    ensures { λ y. ⌜ y ≡ revokeAnswer (withdrawn r (clearExpired caller moment)) ⌝ }
 {
-    let cleared = clearing::clear_expired(r, caller, now);
+    let cleared = clearing::clear_expired(r, caller, moment);
     let outcome = cleared.outcome;
     let accepted = answers::accepted(outcome);
     let refusal = answers::refusal(outcome);

@@ -47,17 +47,17 @@ circling grantor holder l h = any (λ c. eqb (holder c) h) l || rootGranted gran
 
 -- a claim has expired at a moment when its expiry is not 0 and not above that moment
 abbrev pub expired : ℕ → Claim → Bool
-expired now c = not (eqb (c .expiry) 0) && leb (c .expiry) now
+expired moment c = not (eqb (c .expiry) 0) && leb (c .expiry) moment
 
 -- a claim by itself is current at a moment when its weight is above 0 and it has not expired
 abbrev pub current : ℕ → Claim → Bool
-current now c = ltb 0 (c .weight) && not (expired now c)
+current moment c = ltb 0 (c .weight) && not (expired moment c)
 
 -- a claim is live at a moment when every claim on its chain, the claim included, is current
 abbrev pub live : ℕ → List Claim → Claim → Bool
-live now earlier c = every (current now) (chainOf earlier c)
+live moment earlier c = every (current moment) (chainOf earlier c)
 
 -- a claim that has weight, and that never expires or does so after the moment
-pub record Lasting (now : ℕ) (c : Claim) : Type 0 where
+pub record Lasting (moment : ℕ) (c : Claim) : Type 0 where
   pub weighs : 0 < c .weight
-  pub lasts : (c .expiry ≡ 0) ⊎ (now < c .expiry)
+  pub lasts : (c .expiry ≡ 0) ⊎ (moment < c .expiry)

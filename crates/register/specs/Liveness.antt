@@ -13,43 +13,43 @@ use Rattle.register.specs.Chain.{chainOf, expired, current, live, Lastin
 use Rattle.register.specs.declared.Claim.{Claim}
 
 -- an expiry is above a moment where it is not at or before it
-pub above-unpast : (now expiry : ℕ) → not (leb expiry now) ≡ ltb now expiry
-above-unpast now expiry =
-    cases (leb expiry now) (λ e. rw (e, le-ltb now expiry (leb-true expiry now e)))
-    (λ e. rw (e, lt-ltb now expiry (leb-false expiry now e)))
+pub above-unpast : (moment expiry : ℕ) → not (leb expiry moment) ≡ ltb moment expiry
+above-unpast moment expiry =
+    cases (leb expiry moment) (λ e. rw (e, le-ltb moment expiry (leb-true expiry moment e)))
+    (λ e. rw (e, lt-ltb moment expiry (leb-false expiry moment e)))
 
-module _ (now : ℕ) (c : Claim) where
+module _ (moment : ℕ) (c : Claim) where
   -- one that expires at all has not expired where its expiry is above the moment
-  expiring : (c .expiry ≡ 0 → ⊥) → not (expired now c) ≡ ltb now (c .expiry)
-  expiring h = rw (ne-eqb (c .expiry) 0 h) (above-unpast now (c .expiry))
+  expiring : (c .expiry ≡ 0 → ⊥) → not (expired moment c) ≡ ltb moment (c .expiry)
+  expiring h = rw (ne-eqb (c .expiry) 0 h) (above-unpast moment (c .expiry))
 
-  never : c .expiry ≡ 0 → not (expired now c) ≡ true
+  never : c .expiry ≡ 0 → not (expired moment c) ≡ true
   never h = rw (eq-eqb (c .expiry) 0 h)
 
-  pub current-lasting : current now c ≡ true → Lasting now c
+  pub current-lasting : current moment c ≡ true → Lasting moment c
   current-lasting h =
-      let fresh : not (expired now c) ≡ true = and-right (ltb 0 (c .weight)) (not (expired now c)) h in
+      let fresh : not (expired moment c) ≡ true = and-right (ltb 0 (c .weight)) (not (expired moment c)) h in
       record {
-        weighs = ltb-true 0 (c .weight) (and-left (ltb 0 (c .weight)) (not (expired now c)) h);
+        weighs = ltb-true 0 (c .weight) (and-left (ltb 0 (c .weight)) (not (expired moment c)) h);
         lasts = cases (eqb (c .expiry) 0) (λ e. inl (eqb-true (c .expiry) 0 e))
-            (λ e. inr (ltb-true now (c .expiry) (sym (expiring (eqb-false (c .expiry) 0 e)) ∙ fresh)));
+            (λ e. inr (ltb-true moment (c .expiry) (sym (expiring (eqb-false (c .expiry) 0 e)) ∙ fresh)));
       }
 
-  pub lasting-current : Lasting now c → current now c ≡ true
+  pub lasting-current : Lasting moment c → current moment c ≡ true
   lasting-current h =
-      and-both (ltb 0 (c .weight)) (not (expired now c)) (lt-ltb 0 (c .weight) (h .weighs))
+      and-both (ltb 0 (c .weight)) (not (expired moment c)) (lt-ltb 0 (c .weight) (h .weighs))
       (⊎-elim (λ e. never e)
       (λ later. cases (eqb (c .expiry) 0) (λ e. never (eqb-true (c .expiry) 0 e))
-      (λ e. expiring (eqb-false (c .expiry) 0 e) ∙ lt-ltb now (c .expiry) later))
+      (λ e. expiring (eqb-false (c .expiry) 0 e) ∙ lt-ltb moment (c .expiry) later))
       (h .lasts))
 
 -- a claim is live exactly where each claim on its chain has weight above 0, and expiry 0 or above the moment
-module _ (now : ℕ) (earlier : List Claim) (c : Claim) where
-  pub live-lasting : live now earlier c ≡ true → All (λ d. Lasting now d) (chainOf earlier c)
+module _ (moment : ℕ) (earlier : List Claim) (c : Claim) where
+  pub live-lasting : live moment earlier c ≡ true → All (λ d. Lasting moment d) (chainOf earlier c)
   live-lasting h =
-      all-imp (λ d. current now d ≡ true) (λ d. Lasting now d) (current-lasting now) (chainOf earlier c) (every-all (current now) (chainOf earlier c) h)
+      all-imp (λ d. current moment d ≡ true) (λ d. Lasting moment d) (current-lasting moment) (chainOf earlier c) (every-all (current moment) (chainOf earlier c) h)
 
-  pub lasting-live : All (λ d. Lasting now d) (chainOf earlier c) → live now earlier c ≡ true
+  pub lasting-live : All (λ d. Lasting moment d) (chainOf earlier c) → live moment earlier c ≡ true
   lasting-live h =
-      all-every (current now) (chainOf earlier c)
-      (all-imp (λ d. Lasting now d) (λ d. current now d ≡ true) (lasting-current now) (chainOf earlier c) h)
+      all-every (current moment) (chainOf earlier c)
+      (all-imp (λ d. Lasting moment d) (λ d. current moment d ≡ true) (lasting-current moment) (chainOf earlier c) h)

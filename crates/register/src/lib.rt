@@ -148,8 +148,8 @@ impl Claim {
     }
 
     // Whether the claim by itself is current at the moment: its weight is above 0 and it has not expired.
-    pub fn is_current(self, now: u64) -> bool
-        ensures { λ r. ⌜ r ≡ current now self ⌝ }
+    pub fn is_current(self, moment: u64) -> bool
+        ensures { λ r. ⌜ r ≡ current moment self ⌝ }
     {
         if self.weight == 0 {
             return false;
@@ -157,7 +157,7 @@ impl Claim {
         if self.expiry == 0 {
             return true;
         }
-        now < self.expiry
+        moment < self.expiry
     }
 }
 

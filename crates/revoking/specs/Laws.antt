@@ -129,7 +129,7 @@ withdraw-judged : (r : Register) (w : Withdrawal) → outcomeOf (withdrawTests r
 unfolding revokeTests clearResourceTests clearExpiredTests
 withdraw-judged r (revoke who x) h = outcome-accepted _ _ h
 withdraw-judged r (clearResource who o) h = outcome-accepted _ _ h
-withdraw-judged r (clearExpired who now) h = outcome-accepted _ _ h
+withdraw-judged r (clearExpired who moment) h = outcome-accepted _ _ h
 
 -- the answer to the marks of what a withdrawal names, with its outcome, is that of the withdrawal
 pub answered-natural : (r : Register) (w : Withdrawal) → answered r (outcomeOf (withdrawTests r w)) (map (names w) (r .claims .list)) ≡ withdrawn r w

@@ -72,24 +72,24 @@ module _ (r : Register) (shaped : Shaped r) (h : sound r ≡ true) where
         )
 
     -- by its columns it is current where it is
-    current-here : (now : ℕ) → currentAt weights expiries now j ≡ current now (claimAt r j)
-    current-here now = rw (List·getD-map weightOf (r .claims .list) j noClaim, List·getD-map expiryOf (r .claims .list) j noClaim)
+    current-here : (moment : ℕ) → currentAt weights expiries moment j ≡ current moment (claimAt r j)
+    current-here moment = rw (List·getD-map weightOf (r .claims .list) j noClaim, List·getD-map expiryOf (r .claims .list) j noClaim)
 
     -- before its end a claim is live, and from it on it is not
-    pub ends-natural : (now : ℕ) → ltb now momentEnd ≡ true → ltb now (getD (endsIn r) j 0) ≡ live now (latest (claimsOf (r .claims))) (claimAt r j)
-    ends-natural now timely =
-        ap (ltb now) (ends-read weights expiries (upsOf r) (r .claims .count) j ending)
+    pub ends-natural : (moment : ℕ) → ltb moment momentEnd ≡ true → ltb moment (getD (endsIn r) j 0) ≡ live moment (latest (claimsOf (r .claims))) (claimAt r j)
+    ends-natural moment timely =
+        ap (ltb moment) (ends-read weights expiries (upsOf r) (r .claims .count) j ending)
         ∙ end-lasts ids parents weights expiries (r .claims .count) (few r shaped h)
-        (omega (arith, long r shaped h, length-map (r .claims .list) parentOf)) numbered now timely j (below r shaped h j inside)
-        ∙ ap (λ b. b && every (currentAt weights expiries now) (chainPlaces ids parents j (getD parents j 0))) (current-here now)
-        ∙ ap (λ b. current now (claimAt r j) && b)
-        (ap (λ p. every (currentAt weights expiries now) (chainPlaces ids parents j p)) (List·getD-map parentOf (r .claims .list) j noClaim)
-        ∙ current-natural (r .claims .list) now j (claimAt r j .parent)
-        ∙ ap (every (current now)) (sym above-before))
+        (omega (arith, long r shaped h, length-map (r .claims .list) parentOf)) numbered moment timely j (below r shaped h j inside)
+        ∙ ap (λ b. b && every (currentAt weights expiries moment) (chainPlaces ids parents j (getD parents j 0))) (current-here moment)
+        ∙ ap (λ b. current moment (claimAt r j) && b)
+        (ap (λ p. every (currentAt weights expiries moment) (chainPlaces ids parents j p)) (List·getD-map parentOf (r .claims .list) j noClaim)
+        ∙ current-natural (r .claims .list) moment j (claimAt r j .parent)
+        ∙ ap (every (current moment)) (sym above-before))
 
   -- so by holders and ends the claims that can cover are gathered
-  pub cover-natural : (now : ℕ) → ltb now momentEnd ≡ true → (x : ℕ)
-      → heldPlaces (map holderOf (r .claims .list)) (endsIn r) (r .claims .count) x now ≡ coverPlaces (r .claims) x now
-  cover-natural now timely x =
-      held-natural (r .claims) x now (endsIn r) (shaped .claims) (ends-long weights expiries (upsOf r) (r .claims .count))
-      (λ j inside. ends-natural j inside now timely)
+  pub cover-natural : (moment : ℕ) → ltb moment momentEnd ≡ true → (x : ℕ)
+      → heldPlaces (map holderOf (r .claims .list)) (endsIn r) (r .claims .count) x moment ≡ coverPlaces (r .claims) x moment
+  cover-natural moment timely x =
+      held-natural (r .claims) x moment (endsIn r) (shaped .claims) (ends-long weights expiries (upsOf r) (r .claims .count))
+      (λ j inside. ends-natural j inside moment timely)

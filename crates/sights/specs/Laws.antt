@@ -85,10 +85,10 @@ module _ (r : Register) (shaped : Shaped r) (h : sound r ≡ true) where
       (place-hops-most r h (claimAt r j) at)))
 
   -- the hop count of the claim relied on, by columns
-  pub hops-natural : (now x : ℕ) (u : Usage) → hopsFor r now x u ≡ hopsFrom (upsOf r) (nearestPlace r now x u)
+  pub relied-hops : (moment x : ℕ) (u : Usage) → hopsFor r moment x u ≡ hopsFrom (upsOf r) (nearestPlace r moment x u)
   unfolding hopsFor
-  hops-natural now x u =
-      ap (hopsIn r) (relied-natural r now x u)
+  relied-hops moment x u =
+      ap (hopsIn r) (relied-natural r moment x u)
       ∙ nearest-any (reachFor r u) (λ p. hopsIn r (onlyAt (claimAt r) p) ≡ hopsFrom (upsOf r) p) _ 0 0 (claimPlaces r) refl
       (all-imp (λ j. j < length (claimsOf (r .claims)))
       (λ j. hopsIn r (onlyAt (claimAt r) (At j)) ≡ hopsFrom (upsOf r) (At j)) hops-at (claimPlaces r) (places-within r))
@@ -115,13 +115,13 @@ module _ (r : Register) (h : sound r ≡ true) (x : ℕ) where
       (not (f (getD (r .actors .list) j noActor .owner)))))
 
   -- the owner lacks where x is a machine with an owner and the owner does not cover the use
-  pub owner-natural : (now : ℕ) (u : Usage)
-      → ownerLacks r now x u ≡ ownedIn r x && not (covers r now (ownerIn r x) u)
+  pub owner-natural : (moment : ℕ) (u : Usage)
+      → ownerLacks r moment x u ≡ ownedIn r x && not (covers r moment (ownerIn r x) u)
   unfolding ownerLacks
-  owner-natural now u =
-      asked-actor (λ a. eqb machineKind (a .kind) && (not (eqb (a .owner) 0) && not (covers r now (a .owner) u)))
-      ∙ owner-asked (λ y. covers r now y u) actorPlace
-      ∙ sym (ap (λ b. (b && not (eqb (ownerIn r x) 0)) && not (covers r now (ownerIn r x) u)) (asked-actor (λ a. eqb machineKind (a .kind))))
+  owner-natural moment u =
+      asked-actor (λ a. eqb machineKind (a .kind) && (not (eqb (a .owner) 0) && not (covers r moment (a .owner) u)))
+      ∙ owner-asked (λ y. covers r moment y u) actorPlace
+      ∙ sym (ap (λ b. (b && not (eqb (ownerIn r x) 0)) && not (covers r moment (ownerIn r x) u)) (asked-actor (λ a. eqb machineKind (a .kind))))
 
 -- ---- the judgement
 
@@ -137,40 +137,40 @@ asked-where : {A : Type 0} (q : A → Bool) (b : Bool) (there none : A) → b &&
 asked-where q true there none = refl
 asked-where q false there none = refl
 
-module _ (r : Register) (shaped : Shaped r) (h : sound r ≡ true) (now x : ℕ) (u : Usage) where
+module _ (r : Register) (shaped : Shaped r) (h : sound r ≡ true) (moment x : ℕ) (u : Usage) where
   -- the use is open
   abbrev freely : Bool
   freely = openTo (map publicOf (r .resources .list)) (spotFor r u) (u .right)
 
   -- the actor covers the use by its nearest claim
-  covered-natural : coveredBy freely (reliedOn (sightOf r now x) (coverPlaces (r .claims) x now) (spotFor r u) (u .right)) ≡ covers r now x u
+  covered-natural : coveredBy freely (reliedOn (sightOf r moment x) (coverPlaces (r .claims) x moment) (spotFor r u) (u .right)) ≡ covers r moment x u
   covered-natural =
-      ap (coveredBy freely) (nearest-natural r shaped h now x u x) ∙ nearest-covers r now x u freely ∙ sym (covers-natural r shaped h now x u)
+      ap (coveredBy freely) (nearest-natural r shaped h moment x u x) ∙ nearest-covers r moment x u freely ∙ sym (covers-natural r shaped h moment x u)
 
   -- and its owner y by the first
-  owner-covers : (y : ℕ) → coveredBy freely (coveringOn (sightOf r now x) (coverPlaces (r .claims) y now) (spotFor r u) (u .right)) ≡ covers r now y u
-  owner-covers y = ap (coveredBy freely) (place-natural r shaped h now y u x) ∙ sym (covers-natural r shaped h now y u)
+  owner-covers : (y : ℕ) → coveredBy freely (coveringOn (sightOf r moment x) (coverPlaces (r .claims) y moment) (spotFor r u) (u .right)) ≡ covers r moment y u
+  owner-covers y = ap (coveredBy freely) (place-natural r shaped h moment y u x) ∙ sym (covers-natural r shaped h moment y u)
 
-  lacking-natural : ownedIn r x && not (coveredBy freely (coveringOn (sightOf r now x) (sightOf r now x .theirs) (spotFor r u) (u .right)))
-      ≡ ownerLacks r now x u
+  lacking-natural : ownedIn r x && not (coveredBy freely (coveringOn (sightOf r moment x) (sightOf r moment x .theirs) (spotFor r u) (u .right)))
+      ≡ ownerLacks r moment x u
   lacking-natural =
-      asked-where (λ places. not (coveredBy freely (coveringOn (sightOf r now x) places (spotFor r u) (u .right)))) (ownedIn r x)
-      (coverPlaces (r .claims) (ownerIn r x) now) []
+      asked-where (λ places. not (coveredBy freely (coveringOn (sightOf r moment x) places (spotFor r u) (u .right)))) (ownedIn r x)
+      (coverPlaces (r .claims) (ownerIn r x) moment) []
       ∙ ap (λ b. ownedIn r x && not b) (owner-covers (ownerIn r x))
-      ∙ sym (owner-natural r h x now u)
+      ∙ sym (owner-natural r h x moment u)
 
-  pub fault-natural : (n : ℕ) → faultAt n (useJudged (sightOf r now x) (spotFor r u) (u .right) .fault) ≡ useViolation r now x n u
+  pub fault-natural : (n : ℕ) → faultAt n (useJudged (sightOf r moment x) (spotFor r u) (u .right) .fault) ≡ useViolation r moment x n u
   unfolding useJudged useViolation
   fault-natural n =
-      rw (covered-natural, lacking-natural) (fault-chosen n (covers r now x u) (ownerLacks r now x u))
+      rw (covered-natural, lacking-natural) (fault-chosen n (covers r moment x u) (ownerLacks r moment x u))
 
-  pub hop-natural : useJudged (sightOf r now x) (spotFor r u) (u .right) .hops ≡ hopsFor r now x u
+  pub hop-natural : useJudged (sightOf r moment x) (spotFor r u) (u .right) .hops ≡ hopsFor r moment x u
   unfolding useJudged
   hop-natural =
-      ap (hopsFrom (upsOf r)) (nearest-natural r shaped h now x u x) ∙ sym (hops-natural r shaped h now x u)
+      ap (hopsFrom (upsOf r)) (nearest-natural r shaped h moment x u x) ∙ sym (relied-hops r shaped h moment x u)
 
 -- a use judged by columns is the use as the gate judges it: its violations and its hop count
-pub use-natural : (r : Register) → Shaped r → sound r ≡ true → (now x n : ℕ) (u : Usage)
-    → (faultAt n (useJudged (sightOf r now x) (spotFor r u) (u .right) .fault) ≡ useViolation r now x n u)
-    × (useJudged (sightOf r now x) (spotFor r u) (u .right) .hops ≡ hopsFor r now x u)
-use-natural r shaped h now x n u = (fault-natural r shaped h now x u n, hop-natural r shaped h now x u)
+pub use-natural : (r : Register) → Shaped r → sound r ≡ true → (moment x n : ℕ) (u : Usage)
+    → (faultAt n (useJudged (sightOf r moment x) (spotFor r u) (u .right) .fault) ≡ useViolation r moment x n u)
+    × (useJudged (sightOf r moment x) (spotFor r u) (u .right) .hops ≡ hopsFor r moment x u)
+use-natural r shaped h moment x n u = (fault-natural r shaped h moment x u n, hop-natural r shaped h moment x u)

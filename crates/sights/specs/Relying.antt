@@ -108,14 +108,14 @@ claimPlaces r = counted 0 (length (claimsOf (r .claims)))
 
 -- the first place at which a claim covers
 abbrev pub firstPlace : Register → ℕ → ℕ → Usage → Place
-firstPlace r now x u = firstPlaceOf (λ j. covering r now x u (claimAt r j)) (claimPlaces r)
+firstPlace r moment x u = firstPlaceOf (λ j. covering r moment x u (claimAt r j)) (claimPlaces r)
 
 -- the place at which the nearest covering claim stands
 abbrev pub reachFor : Register → Usage → ℕ → ℕ
 reachFor r u j = reachOf r (claimAt r j .resource) (u .resource)
 
 abbrev pub nearestPlace : Register → ℕ → ℕ → Usage → Place
-nearestPlace r now x u = nearestFrom (λ j. covering r now x u (claimAt r j)) (reachFor r u) 0 0 (claimPlaces r)
+nearestPlace r moment x u = nearestFrom (λ j. covering r moment x u (claimAt r j)) (reachFor r u) 0 0 (claimPlaces r)
 
 -- the claims at those places are the register's
 claims-read : (r : Register) → map (claimAt r) (claimPlaces r) ≡ claimsOf (r .claims)
@@ -126,25 +126,25 @@ pub places-within : (r : Register) → All (λ j. j < length (claimsOf (r .claim
 places-within r = rw (zero-add (length (claimsOf (r .claims)))) at (counted-below 0 (length (claimsOf (r .claims))))
 
 -- the claim relied on is the one at the nearest place
-pub relied-natural : (r : Register) (now x : ℕ) (u : Usage) → relied r now x u ≡ onlyAt (claimAt r) (nearestPlace r now x u)
-relied-natural r now x u =
-    sym (ap (nearestOf (covering r now x u) (λ c. reachOf r (c .resource) (u .resource))) (claims-read r))
-    ∙ nearest-read (claimAt r) (covering r now x u) (λ c. reachOf r (c .resource) (u .resource)) (claimPlaces r)
+pub relied-natural : (r : Register) (moment x : ℕ) (u : Usage) → relied r moment x u ≡ onlyAt (claimAt r) (nearestPlace r moment x u)
+relied-natural r moment x u =
+    sym (ap (nearestOf (covering r moment x u) (λ c. reachOf r (c .resource) (u .resource))) (claims-read r))
+    ∙ nearest-read (claimAt r) (covering r moment x u) (λ c. reachOf r (c .resource) (u .resource)) (claimPlaces r)
 
 -- some claim covers where there is a first place
-pub any-covering : (r : Register) (now x : ℕ) (u : Usage) → any (covering r now x u) (claimsOf (r .claims)) ≡ placed (firstPlace r now x u)
-any-covering r now x u = sym (ap (any (covering r now x u)) (claims-read r)) ∙ any-read (claimAt r) (covering r now x u) (claimPlaces r)
+pub any-covering : (r : Register) (moment x : ℕ) (u : Usage) → any (covering r moment x u) (claimsOf (r .claims)) ≡ placed (firstPlace r moment x u)
+any-covering r moment x u = sym (ap (any (covering r moment x u)) (claims-read r)) ∙ any-read (claimAt r) (covering r moment x u) (claimPlaces r)
 
 either-placed : (b : Bool) (p : Place) → b || placed p ≡ coveredBy b p
 either-placed b (At j) = or-true b
 either-placed b Nowhere = or-false b
 
 -- a use is covered by the nearest claim where it is by the first
-pub nearest-covers : (r : Register) (now x : ℕ) (u : Usage) (b : Bool) → coveredBy b (nearestPlace r now x u) ≡ coveredBy b (firstPlace r now x u)
-nearest-covers r now x u b =
-    sym (either-placed b (nearestPlace r now x u))
-    ∙ ap (λ some. b || some) (nearest-placed (λ j. covering r now x u (claimAt r j)) (reachFor r u) 0 0 (claimPlaces r))
-    ∙ either-placed b (firstPlace r now x u)
+pub nearest-covers : (r : Register) (moment x : ℕ) (u : Usage) (b : Bool) → coveredBy b (nearestPlace r moment x u) ≡ coveredBy b (firstPlace r moment x u)
+nearest-covers r moment x u b =
+    sym (either-placed b (nearestPlace r moment x u))
+    ∙ ap (λ some. b || some) (nearest-placed (λ j. covering r moment x u (claimAt r j)) (reachFor r u) 0 0 (claimPlaces r))
+    ∙ either-placed b (firstPlace r moment x u)
 
 -- where the claims' resources stand
 module _ (r : Register) (shaped : Shaped r) (j : ℕ) (inside : j < length (claimsOf (r .claims))) where
@@ -166,57 +166,57 @@ module _ (r : Register) (shaped : Shaped r) (j : ℕ) (inside : j < length (clai
       places-at (map resourceId (r .resources .list)) (r .resources .count) (map claimedOf (r .claims .list)) (r .claims .count) resourceLimit j 0 all-asked
       ∙ rw (few, List·getD-map claimedOf (r .claims .list) j noClaim)
 
-module _ (r : Register) (shaped : Shaped r) (h : sound r ≡ true) (now x : ℕ) (u : Usage) where
+module _ (r : Register) (shaped : Shaped r) (h : sound r ≡ true) (moment x : ℕ) (u : Usage) where
   abbrev reaches : ℕ → Bool
   reaches j = reaching (map rightsOf (r .claims .list)) (spotsOf r) (laid (r .resources) .bytes) (laid (r .resources) .lens) (u .right) (spotFor r u) j
 
   -- the claim at a place covers where it can cover and reaches
-  covering-natural : (j : ℕ) → j < length (claimsOf (r .claims)) → canCover x now (latest (claimsOf (r .claims))) (claimAt r j) && reaches j ≡ covering r now x u (claimAt r j)
+  covering-natural : (j : ℕ) → j < length (claimsOf (r .claims)) → canCover x moment (latest (claimsOf (r .claims))) (claimAt r j) && reaches j ≡ covering r moment x u (claimAt r j)
   unfolding covering
   covering-natural j inside =
       let there : j < length (spotsOf r) = spot-there r shaped j inside in
       let spot : getD (spotsOf r) j 0 ≡ spotBy r (claimAt r j .resource) = spot-natural r shaped j inside h in
-      ap (λ b. canCover x now (latest (claimsOf (r .claims))) (claimAt r j) && b) (reaching-natural (r .claims .list) (spotsOf r) (r .resources) (shaped .paths) (u .right) (spotFor r u) j)
-      ∙ same-tests (eqb (claimAt r j .holder) x) (live now (latest (claimsOf (r .claims))) (claimAt r j)) (hasRight (claimAt r j .rights) (u .right)) (ltb j (length (spotsOf r)))
+      ap (λ b. canCover x moment (latest (claimsOf (r .claims))) (claimAt r j) && b) (reaching-natural (r .claims .list) (spotsOf r) (r .resources) (shaped .paths) (u .right) (spotFor r u) j)
+      ∙ same-tests (eqb (claimAt r j .holder) x) (live moment (latest (claimsOf (r .claims))) (claimAt r j)) (hasRight (claimAt r j .rights) (u .right)) (ltb j (length (spotsOf r)))
       (ltb (getD (spotsOf r) j 0) resourceLimit) (ltb (spotFor r u) resourceLimit) (containing (r .resources) (getD (spotsOf r) j 0) (spotFor r u))
       (contains r (claimAt r j .resource) (u .resource)) (lt-ltb j (length (spotsOf r)) there)
       (contains-natural r h (claimAt r j .resource) (u .resource)
       ∙ sym (ap (λ s. ltb s resourceLimit && (ltb (spotFor r u) resourceLimit && containing (r .resources) s (spotFor r u))) spot))
 
   -- and then it reaches as far as its resource does to the used one
-  reach-column : (j : ℕ) → j < length (claimsOf (r .claims)) → covering r now x u (claimAt r j) ≡ true
+  reach-column : (j : ℕ) → j < length (claimsOf (r .claims)) → covering r moment x u (claimAt r j) ≡ true
       → reachAt (spotsOf r) (laid (r .resources) .bytes) (laid (r .resources) .lens) (spotFor r u) j ≡ reachFor r u j
   reach-column j inside covers =
       rw (part-laid (r .resources) (shaped .paths) (getD (spotsOf r) j 0), part-laid (r .resources) (shaped .paths) (spotFor r u), spot-natural r shaped j inside h)
-      (sym (reach-spot r h (claimAt r j .resource) (u .resource) (covering-out r now x u (claimAt r j) covers .containing)))
+      (sym (reach-spot r h (claimAt r j .resource) (u .resource) (covering-out r moment x u (claimAt r j) covers .containing)))
 
   -- by the gathered places of x, whoever looks, the place relied on is the nearest at which a claim covers
   pub nearest-natural : (looking : ℕ)
-      → reliedOn (sightOf r now looking) (coverPlaces (r .claims) x now) (spotFor r u) (u .right) ≡ nearestPlace r now x u
+      → reliedOn (sightOf r moment looking) (coverPlaces (r .claims) x moment) (spotFor r u) (u .right) ≡ nearestPlace r moment x u
   nearest-natural looking =
       nearest-filtered (reachAt (spotsOf r) (laid (r .resources) .bytes) (laid (r .resources) .lens) (spotFor r u)) reaches
-      (λ j. canCover x now (latest (claimsOf (r .claims))) (claimAt r j)) 0 0 (claimPlaces r)
+      (λ j. canCover x moment (latest (claimsOf (r .claims))) (claimAt r j)) 0 0 (claimPlaces r)
       ∙ nearest-same (reachAt (spotsOf r) (laid (r .resources) .bytes) (laid (r .resources) .lens) (spotFor r u))
-      (λ j. canCover x now (latest (claimsOf (r .claims))) (claimAt r j) && reaches j) (λ j. covering r now x u (claimAt r j)) (reachFor r u) 0 0 (claimPlaces r)
+      (λ j. canCover x moment (latest (claimsOf (r .claims))) (claimAt r j) && reaches j) (λ j. covering r moment x u (claimAt r j)) (reachFor r u) 0 0 (claimPlaces r)
       (all-imp (λ j. j < length (claimsOf (r .claims)))
-      (λ j. (canCover x now (latest (claimsOf (r .claims))) (claimAt r j) && reaches j ≡ covering r now x u (claimAt r j))
-      × (covering r now x u (claimAt r j) ≡ true
+      (λ j. (canCover x moment (latest (claimsOf (r .claims))) (claimAt r j) && reaches j ≡ covering r moment x u (claimAt r j))
+      × (covering r moment x u (claimAt r j) ≡ true
       → reachAt (spotsOf r) (laid (r .resources) .bytes) (laid (r .resources) .lens) (spotFor r u) j ≡ reachFor r u j))
       (λ j inside. (covering-natural j inside, reach-column j inside)) (claimPlaces r) (places-within r))
 
   -- and the first of them that covers is the first at which a claim does
   pub place-natural : (looking : ℕ)
-      → coveringOn (sightOf r now looking) (coverPlaces (r .claims) x now) (spotFor r u) (u .right) ≡ firstPlace r now x u
+      → coveringOn (sightOf r moment looking) (coverPlaces (r .claims) x moment) (spotFor r u) (u .right) ≡ firstPlace r moment x u
   place-natural looking =
       covering-filtered (map rightsOf (r .claims .list)) (spotsOf r) (laid (r .resources) .bytes) (laid (r .resources) .lens) (u .right) (spotFor r u)
-      (λ j. canCover x now (latest (claimsOf (r .claims))) (claimAt r j)) (claimPlaces r)
-      ∙ first-same (λ j. canCover x now (latest (claimsOf (r .claims))) (claimAt r j) && reaches j) (λ j. covering r now x u (claimAt r j)) (claimPlaces r)
-      (all-imp (λ j. j < length (claimsOf (r .claims))) (λ j. canCover x now (latest (claimsOf (r .claims))) (claimAt r j) && reaches j ≡ covering r now x u (claimAt r j))
+      (λ j. canCover x moment (latest (claimsOf (r .claims))) (claimAt r j)) (claimPlaces r)
+      ∙ first-same (λ j. canCover x moment (latest (claimsOf (r .claims))) (claimAt r j) && reaches j) (λ j. covering r moment x u (claimAt r j)) (claimPlaces r)
+      (all-imp (λ j. j < length (claimsOf (r .claims))) (λ j. canCover x moment (latest (claimsOf (r .claims))) (claimAt r j) && reaches j ≡ covering r moment x u (claimAt r j))
       covering-natural (claimPlaces r) (places-within r))
 
   -- a use is covered where it is open or there is such a place
-  pub covers-natural : covers r now x u ≡ coveredBy (openTo (map publicOf (r .resources .list)) (spotFor r u) (u .right)) (firstPlace r now x u)
+  pub covers-natural : covers r moment x u ≡ coveredBy (openTo (map publicOf (r .resources .list)) (spotFor r u) (u .right)) (firstPlace r moment x u)
   unfolding covers
   covers-natural =
-      rw (public-natural r h shaped u, any-covering r now x u)
-      (either-placed (openTo (map publicOf (r .resources .list)) (spotFor r u) (u .right)) (firstPlace r now x u))
+      rw (public-natural r h shaped u, any-covering r moment x u)
+      (either-placed (openTo (map publicOf (r .resources .list)) (spotFor r u) (u .right)) (firstPlace r moment x u))

@@ -50,9 +50,9 @@ endsIn r = endsOf (map weightOf (r .claims .list)) (map expiryOf (r .claims .lis
 
 -- the columns of a register, with the gathered claims of the actor numbered x and of its owner, which a machine alone is asked for
 abbrev pub sightOf : Register → ℕ → ℕ → Sight
-sightOf r now x = record {
-  own = coverPlaces (r .claims) x now;
-  theirs = cond (ownedIn r x) (coverPlaces (r .claims) (ownerIn r x) now) [];
+sightOf r moment x = record {
+  own = coverPlaces (r .claims) x moment;
+  theirs = cond (ownedIn r x) (coverPlaces (r .claims) (ownerIn r x) moment) [];
   owned = ownedIn r x;
   rights = map rightsOf (r .claims .list);
   spots = spotsOf r;

@@ -24,7 +24,7 @@ use Rattle.finding.specs.Finding.{placeNumber, earlierPlaces}
 use Rattle.finding.specs.Laws.{earlier-at}
 use Rattle.rules.specs.Sound.{over}
 use Rattle.over.specs.Judged.{overAt, standOver}
-use Rattle.over.specs.Laws.{KeptPlaces, higher, doubled, root-stands, parent-nowhere, hops-natural, over-within, over-natural, stand-nil, stand-cons}
+use Rattle.over.specs.Laws.{KeptPlaces, higher, doubled, root-stands, parent-nowhere, one-hop-more, over-within, over-natural, stand-nil, stand-cons}
 
 -- a place told by its number: below the limit it is that, and the limit is none
 number-at : (p : Place) (x : ℕ) → x ≡ placeNumber claimLimit p → x < claimLimit → p ≡ At x
@@ -170,6 +170,6 @@ module _ {cs : List Claim} {n : ℕ} {grantors holders ups twins : List ℕ} (t 
               climbed-next s (t .long) (t .short) inside (getD hops (getD ups i 0) 0 + 1) (sym judged ∙ h)
               (add-one (getD hops (getD ups i 0) 0)
               ∙ ap suc steps-kept
-              ∙ sym (hops-natural cs i (getD cs i noClaim) apart o (getD ups i 0) stood)
+              ∙ sym (one-hop-more cs i (getD cs i noClaim) apart o (getD ups i 0) stood)
               ∙ ap (λ x. length (chainPlaces (map claimId cs) (map parentOf cs) i x)) (sym (List·getD-map parentOf cs i noClaim))
               ∙ column-laws.hops-natural cs i)

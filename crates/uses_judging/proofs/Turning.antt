@@ -30,12 +30,12 @@ hopsOf s reports m u = judgedIn s reports m u .hops
 -- of the uses, of which there are top, the loop has come to place i: the violations of the first i are put to the list begun with, and
 -- their hop counts are held, with 0 past them
 pub record Turning (s : Sight) (reports : List ℕ) (m : ℕ) (a : Action) (first : Violations) (top : ℕ)
-    (now : Violations) (hops : List ℕ) (position i : ℕ) : Type 0 where
+    (violations : Violations) (hops : List ℕ) (position i : ℕ) : Type 0 where
   pub within : i ≤ top
   pub whole : top ≡ length (usesOf a)
   pub few : top ≤ useLimit
   pub same : position ≡ i
-  pub put : now ≡ pushedAll first (faultsFrom s reports m 0 (take i (usesOf a)))
+  pub put : violations ≡ pushedAll first (faultsFrom s reports m 0 (take i (usesOf a)))
   pub held : hops ≡ map (hopsOf s reports m) (take i (usesOf a)) ++ replicate (useLimit - i) 0
 
 -- no fault puts no violation
@@ -63,10 +63,10 @@ module _ {s : Sight} {reports : List ℕ} {m : ℕ} {a : Action} {first : Violat
         held = refl;
       }
 
-  module _ {now : Violations} {hops : List ℕ} {position i : ℕ} (t : Turning s reports m a first top now hops position i) where
+  module _ {violations : Violations} {hops : List ℕ} {position i : ℕ} (t : Turning s reports m a first top violations hops position i) where
     pub turning-next : (d : Usage) {spot : ℕ} {judged : UseJudged} {after : Violations} → i < top
         → spot ≡ spotIn reports m (getD (a .uses) i d .resource) → judged ≡ useJudged s spot (getD (a .uses) i d .right)
-        → after ≡ faultPut now position (judged .fault)
+        → after ≡ faultPut violations position (judged .fault)
         → Turning s reports m a first top after (set hops i (judged .hops)) (position + 1) (i + 1)
     turning-next d h p q r =
         let u = getD (a .uses) i d in
@@ -89,7 +89,7 @@ module _ {s : Sight} {reports : List ℕ} {m : ℕ} {a : Action} {first : Violat
         }
 
     -- after the loop the uses are judged
-    pub turning-end : top ≤ i → _≡_ {A = UsesJudged} (record { violations = now; hops = hops }) (usesJudged s reports m a first)
+    pub turning-end : top ≤ i → _≡_ {A = UsesJudged} (record { violations = violations; hops = hops }) (usesJudged s reports m a first)
     unfolding usesJudged
     turning-end h =
         let end : i ≡ length (map (hopsOf s reports m) (usesOf a)) = omega (arith, length-map (usesOf a) (hopsOf s reports m)) in

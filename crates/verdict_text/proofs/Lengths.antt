@@ -72,15 +72,15 @@ choice-small : (covered lacks : Bool) (n : ℕ) → n ≤ idLimit → All Small 
 choice-small true lacks n h = chosen-small lacks (OwnerNotCovering n ∷ []) (h, tt)
 choice-small false lacks n h = (h, tt)
 
-use-small : (r : Register) (now x n : ℕ) (u : Usage) → n ≤ idLimit → All Small (useViolation r now x n u)
+use-small : (r : Register) (moment x n : ℕ) (u : Usage) → n ≤ idLimit → All Small (useViolation r moment x n u)
 unfolding useViolation
-use-small r now x n u h = choice-small (covers r now x u) (ownerLacks r now x u) n h
+use-small r moment x n u h = choice-small (covers r moment x u) (ownerLacks r moment x u) n h
 
-uses-small : (r : Register) (now x n : ℕ) (us : List Usage) → n + length us ≤ idLimit → All Small (useViolations r now x n us)
-uses-small r now x n [] h = rw (use-violations-nil r now x n) tt
-uses-small r now x n (u ∷ us) h =
-    rw (use-violations-cons r now x n u us)
-    (all-append Small (useViolation r now x n u) (useViolations r now x (suc n) us) (use-small r now x n u (omega arith)) (uses-small r now x (suc n) us (omega arith)))
+uses-small : (r : Register) (moment x n : ℕ) (us : List Usage) → n + length us ≤ idLimit → All Small (useViolations r moment x n us)
+uses-small r moment x n [] h = rw (use-violations-nil r moment x n) tt
+uses-small r moment x n (u ∷ us) h =
+    rw (use-violations-cons r moment x n u us)
+    (all-append Small (useViolation r moment x n u) (useViolations r moment x (suc n) us) (use-small r moment x n u (omega arith)) (uses-small r moment x (suc n) us (omega arith)))
 
 -- the violations of an action in range: flags and positions are below 32, and its actor's number has 16 bits
 pub violations-small : (r : Register) (a : Action) → actionFits a ≡ true → All Small (violationsOf r a)

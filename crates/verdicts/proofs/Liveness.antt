@@ -29,14 +29,14 @@ chain-nested w =
     (λ c L p e ih later h. (place-above w later c L h, rw (append-snoc later c L) at (ih (later ++ (c ∷ [])) (rw (append-snoc later c L) h))))
     (λ c L p e ih later h. rw (append-snoc later c L) at (ih (later ++ (c ∷ [])) (rw (append-snoc later c L) h)))
 
-nested-lives : (now : ℕ) (L higher : List Claim) → Nested L higher → every (current now) higher ≡ true → All (λ d. live now L d ≡ true) higher
-nested-lives now L [] nested h = tt
-nested-lives now L (d ∷ higher) nested h =
-    (rw (nested .0) h, nested-lives now L higher (nested .1) (and-right (current now d) (every (current now) higher) h))
+nested-lives : (moment : ℕ) (L higher : List Claim) → Nested L higher → every (current moment) higher ≡ true → All (λ d. live moment L d ≡ true) higher
+nested-lives moment L [] nested h = tt
+nested-lives moment L (d ∷ higher) nested h =
+    (rw (nested .0) h, nested-lives moment L higher (nested .1) (and-right (current moment d) (every (current moment) higher) h))
 
-pub source-lives : (r : Register) → sound r ≡ true → (now : ℕ) (c : Claim) → live now (latest (claimsOf (r .claims))) c ≡ true
-    → All (λ d. live now (latest (claimsOf (r .claims))) d ≡ true) (higherThan r c)
-source-lives r h now c lives =
-    nested-lives now (latest (claimsOf (r .claims))) (higherThan r c)
+pub source-lives : (r : Register) → sound r ≡ true → (moment : ℕ) (c : Claim) → live moment (latest (claimsOf (r .claims))) c ≡ true
+    → All (λ d. live moment (latest (claimsOf (r .claims))) d ≡ true) (higherThan r c)
+source-lives r h moment c lives =
+    nested-lives moment (latest (claimsOf (r .claims))) (higherThan r c)
     (chain-nested (worldOf (actorsOf (r .actors)) (resourcesOf (r .resources))) (latest (claimsOf (r .claims))) (c .parent) [] (sound-out r h .claims))
-    (and-right (current now c) (every (current now) (higherThan r c)) lives)
+    (and-right (current moment c) (every (current moment) (higherThan r c)) lives)

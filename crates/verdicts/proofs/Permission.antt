@@ -47,9 +47,9 @@ public-read-in r u h =
     (and-both (eqb (u .resource) (h .resource .id)) (eqb (h .resource .public) 1) (eq-eqb (u .resource) (h .resource .id) (sym (h .used)))
     (eq-eqb (h .resource .public) 1 (h .isPublic))))
 
-traced-covering : (r : Register) (now x : ℕ) (u : Usage) (h : Traced r now x u) → covering r now x u (h .claim) ≡ true
-traced-covering r now x u h =
-    covering-in r now x u (h .claim) record {
+traced-covering : (r : Register) (moment x : ℕ) (u : Usage) (h : Traced r moment x u) → covering r moment x u (h .claim) ≡ true
+traced-covering r moment x u h =
+    covering-in r moment x u (h .claim) record {
       held = eq-eqb (h .claim .holder) x (h .held);
       lives = h .lives;
       has = h .right;
@@ -65,26 +65,26 @@ traced-covering r now x u h =
     }
 
 -- who rests on what is public or on authority covers the use
-pub rests-covers : (r : Register) (now x : ℕ) (u : Usage) → Rests r now x u → covers r now x u ≡ true
+pub rests-covers : (r : Register) (moment x : ℕ) (u : Usage) → Rests r moment x u → covers r moment x u ≡ true
 unfolding covers
-rests-covers r now x u =
+rests-covers r moment x u =
     ⊎-elim (λ h. rw (public-read-in r u h))
-    (λ h. or-second (publicRead r u) (any (covering r now x u) (claimsOf (r .claims)))
-    (place-any (covering r now x u) (claimsOf (r .claims)) (h .claim) (h .standing) (traced-covering r now x u h)))
+    (λ h. or-second (publicRead r u) (any (covering r moment x u) (claimsOf (r .claims)))
+    (place-any (covering r moment x u) (claimsOf (r .claims)) (h .claim) (h .standing) (traced-covering r moment x u h)))
 
-owner-not-lacking : (r : Register) (now x : ℕ) (u : Usage)
-    → ((b : Actor) → IsIn (actorsOf (r .actors)) b → b .id ≡ x → b .kind ≡ machineKind → Owned r now b u) → ownerLacks r now x u ≡ false
+owner-not-lacking : (r : Register) (moment x : ℕ) (u : Usage)
+    → ((b : Actor) → IsIn (actorsOf (r .actors)) b → b .id ≡ x → b .kind ≡ machineKind → Owned r moment b u) → ownerLacks r moment x u ≡ false
 unfolding ownerLacks
-owner-not-lacking r now x u owned =
-    let lacks : Actor → Bool = λ a. eqb x (a .id) && (eqb machineKind (a .kind) && (not (eqb (a .owner) 0) && not (covers r now (a .owner) u))) in
+owner-not-lacking r moment x u owned =
+    let lacks : Actor → Bool = λ a. eqb x (a .id) && (eqb machineKind (a .kind) && (not (eqb (a .owner) 0) && not (covers r moment (a .owner) u))) in
     all-none lacks (actorsOf (r .actors)) (all-imp (λ b. IsIn (actorsOf (r .actors)) b) (λ b. lacks b ≡ false)
     (λ b at. cases (lacks b)
-    (λ e. let rest = and-right (eqb x (b .id)) (eqb machineKind (b .kind) && (not (eqb (b .owner) 0) && not (covers r now (b .owner) u))) e in
-    let machine = sym (eqb-true machineKind (b .kind) (and-left (eqb machineKind (b .kind)) (not (eqb (b .owner) 0) && not (covers r now (b .owner) u)) rest)) in
-    let named = sym (eqb-true x (b .id) (and-left (eqb x (b .id)) (eqb machineKind (b .kind) && (not (eqb (b .owner) 0) && not (covers r now (b .owner) u))) e)) in
-    let last = and-right (eqb machineKind (b .kind)) (not (eqb (b .owner) 0) && not (covers r now (b .owner) u)) rest in
-    clash (covers r now (b .owner) u) (rests-covers r now (b .owner) u (owned b at named machine .ownerRests))
-    (not-true (covers r now (b .owner) u) (and-right (not (eqb (b .owner) 0)) (not (covers r now (b .owner) u)) last)))
+    (λ e. let rest = and-right (eqb x (b .id)) (eqb machineKind (b .kind) && (not (eqb (b .owner) 0) && not (covers r moment (b .owner) u))) e in
+    let machine = sym (eqb-true machineKind (b .kind) (and-left (eqb machineKind (b .kind)) (not (eqb (b .owner) 0) && not (covers r moment (b .owner) u)) rest)) in
+    let named = sym (eqb-true x (b .id) (and-left (eqb x (b .id)) (eqb machineKind (b .kind) && (not (eqb (b .owner) 0) && not (covers r moment (b .owner) u))) e)) in
+    let last = and-right (eqb machineKind (b .kind)) (not (eqb (b .owner) 0) && not (covers r moment (b .owner) u)) rest in
+    clash (covers r moment (b .owner) u) (rests-covers r moment (b .owner) u (owned b at named machine .ownerRests))
+    (not-true (covers r moment (b .owner) u) (and-right (not (eqb (b .owner) 0)) (not (covers r moment (b .owner) u)) last)))
     (λ e. e)) (actorsOf (r .actors)) (each-place (actorsOf (r .actors))))
 
 -- what permission asks of an action that no test stops

@@ -68,16 +68,16 @@ module _ (r s : Register) (same : Same r s) where
       public-standing r u ∙ ap (λ l. eqb (u .right) reading && any (λ o. eqb (u .resource) (o .id) && eqb (o .public) 1) l) (same .resources)
       ∙ sym (public-standing s u)
 
-  claim-same : (now x : ℕ) (u : Usage) (c : Claim) → covering r now x u c ≡ covering s now x u c
+  claim-same : (moment x : ℕ) (u : Usage) (c : Claim) → covering r moment x u c ≡ covering s moment x u c
   unfolding covering
-  claim-same now x u c = rw (contains-same (c .resource) (u .resource), same .claims)
+  claim-same moment x u c = rw (contains-same (c .resource) (u .resource), same .claims)
 
-  covering-same : (now x : ℕ) (u : Usage) → covering r now x u ≡ covering s now x u
-  covering-same now x u = fun-ext (λ c. claim-same now x u c)
+  covering-same : (moment x : ℕ) (u : Usage) → covering r moment x u ≡ covering s moment x u
+  covering-same moment x u = fun-ext (λ c. claim-same moment x u c)
 
-  covers-same : (now x : ℕ) (u : Usage) → covers r now x u ≡ covers s now x u
+  covers-same : (moment x : ℕ) (u : Usage) → covers r moment x u ≡ covers s moment x u
   unfolding covers
-  covers-same now x u = rw (public-same u, covering-same now x u, same .claims)
+  covers-same moment x u = rw (public-same u, covering-same moment x u, same .claims)
 
   machine-same : (x : ℕ) → isMachine (actorsOf (r .actors)) x ≡ isMachine (actorsOf (s .actors)) x
   machine-same x = rw (same .actors)
@@ -86,12 +86,12 @@ module _ (r s : Register) (same : Same r s) where
   unfolding isOwnerless
   ownerless-same x = rw (same .actors)
 
-  lacks-same : (now x : ℕ) (u : Usage) → ownerLacks r now x u ≡ ownerLacks s now x u
+  lacks-same : (moment x : ℕ) (u : Usage) → ownerLacks r moment x u ≡ ownerLacks s moment x u
   unfolding ownerLacks
-  lacks-same now x u =
+  lacks-same moment x u =
       ap (λ (f : ℕ → Bool). any (λ a. eqb x (a .id) && (eqb machineKind (a .kind) && (not (eqb (a .owner) 0) && not (f (a .owner))))) (actorsOf (r .actors)))
-      (fun-ext (λ y. covers-same now y u))
-      ∙ ap (λ l. any (λ a. eqb x (a .id) && (eqb machineKind (a .kind) && (not (eqb (a .owner) 0) && not (covers s now (a .owner) u)))) l) (same .actors)
+      (fun-ext (λ y. covers-same moment y u))
+      ∙ ap (λ l. any (λ a. eqb x (a .id) && (eqb machineKind (a .kind) && (not (eqb (a .owner) 0) && not (covers s moment (a .owner) u)))) l) (same .actors)
 
   path-same : (x : ℕ) → pathBy r x ≡ pathBy s x
   path-same x =
@@ -102,20 +102,20 @@ module _ (r s : Register) (same : Same r s) where
   unfolding reachOf
   reach-same x y = rw (path-same x, path-same y)
 
-  relied-same : (now x : ℕ) (u : Usage) → relied r now x u ≡ relied s now x u
-  relied-same now x u =
-      ap (λ p. nearestOf p (λ c. reachOf r (c .resource) (u .resource)) (claimsOf (r .claims))) (covering-same now x u)
-      ∙ ap (λ f. nearestOf (covering s now x u) f (claimsOf (r .claims))) (fun-ext (λ (c : Claim). reach-same (c .resource) (u .resource)))
-      ∙ ap (λ l. nearestOf (covering s now x u) (λ c. reachOf s (c .resource) (u .resource)) l) (same .claims)
+  relied-same : (moment x : ℕ) (u : Usage) → relied r moment x u ≡ relied s moment x u
+  relied-same moment x u =
+      ap (λ p. nearestOf p (λ c. reachOf r (c .resource) (u .resource)) (claimsOf (r .claims))) (covering-same moment x u)
+      ∙ ap (λ f. nearestOf (covering s moment x u) f (claimsOf (r .claims))) (fun-ext (λ (c : Claim). reach-same (c .resource) (u .resource)))
+      ∙ ap (λ l. nearestOf (covering s moment x u) (λ c. reachOf s (c .resource) (u .resource)) l) (same .claims)
 
-  violation-same : (now x n : ℕ) (u : Usage) → useViolation r now x n u ≡ useViolation s now x n u
+  violation-same : (moment x n : ℕ) (u : Usage) → useViolation r moment x n u ≡ useViolation s moment x n u
   unfolding useViolation
-  violation-same now x n u = rw (covers-same now x u, lacks-same now x u)
+  violation-same moment x n u = rw (covers-same moment x u, lacks-same moment x u)
 
-  use-violations-same : (now x n : ℕ) (us : List Usage) → useViolations r now x n us ≡ useViolations s now x n us
+  use-violations-same : (moment x n : ℕ) (us : List Usage) → useViolations r moment x n us ≡ useViolations s moment x n us
   unfolding useViolations
-  use-violations-same now x n [] = refl
-  use-violations-same now x n (u ∷ us) = rw (violation-same now x n u, use-violations-same now x (suc n) us)
+  use-violations-same moment x n [] = refl
+  use-violations-same moment x n (u ∷ us) = rw (violation-same moment x n u, use-violations-same moment x (suc n) us)
 
   pub violations-same : (a : Action) → violationsOf r a ≡ violationsOf s a
   unfolding violationsOf
@@ -125,9 +125,9 @@ module _ (r s : Register) (same : Same r s) where
   hops-in-same [] = refl
   hops-in-same (c ∷ cs) = ap (λ l. hopsOf (latest l) c) (same .claims)
 
-  hops-same : (now x : ℕ) (u : Usage) → hopsFor r now x u ≡ hopsFor s now x u
+  hops-same : (moment x : ℕ) (u : Usage) → hopsFor r moment x u ≡ hopsFor s moment x u
   unfolding hopsFor
-  hops-same now x u = ap (λ l. hopsIn r l) (relied-same now x u) ∙ hops-in-same (relied s now x u)
+  hops-same moment x u = ap (λ l. hopsIn r l) (relied-same moment x u) ∙ hops-in-same (relied s moment x u)
 
   pub hop-counts-same : (a : Action) → hopCounts r a ≡ hopCounts s a
   hop-counts-same a = ap (λ (f : Usage → ℕ). map f (usesOf a)) (fun-ext (λ u. hops-same (a .now) (a .actor) u))

@@ -55,13 +55,13 @@ pub authority-permits : (r : Register) (a : Action) → Passed r a → a .flags 
 authority-permits = permission.authority-permits
 
 -- 2d. A claim is live exactly where each claim on its chain has weight above 0, and expiry 0 or above the moment.
-pub live-natural : (now : ℕ) (earlier : List Claim) (c : Claim)
-    → (live now earlier c ≡ true → All (λ d. Lasting now d) (chainOf earlier c)) × (All (λ d. Lasting now d) (chainOf earlier c) → live now earlier c ≡ true)
-live-natural now earlier c = (liveness.live-lasting now earlier c, liveness.lasting-live now earlier c)
+pub live-natural : (moment : ℕ) (earlier : List Claim) (c : Claim)
+    → (live moment earlier c ≡ true → All (λ d. Lasting moment d) (chainOf earlier c)) × (All (λ d. Lasting moment d) (chainOf earlier c) → live moment earlier c ≡ true)
+live-natural moment earlier c = (liveness.live-lasting moment earlier c, liveness.lasting-live moment earlier c)
 
 -- 2e. In a sound register, where a claim is live, so is each claim higher on its chain: a grant does not outlive its source.
-pub source-lives : (r : Register) → sound r ≡ true → (now : ℕ) (c : Claim) → live now (latest (claimsOf (r .claims))) c ≡ true
-    → All (λ d. live now (latest (claimsOf (r .claims))) d ≡ true) (higherThan r c)
+pub source-lives : (r : Register) → sound r ≡ true → (moment : ℕ) (c : Claim) → live moment (latest (claimsOf (r .claims))) c ≡ true
+    → All (λ d. live moment (latest (claimsOf (r .claims))) d ≡ true) (higherThan r c)
 source-lives = lives.source-lives
 
 -- 3a. A permitted action has no flag set.

@@ -33,21 +33,21 @@ use Rattle.verdicts.proofs.Sameness as sameness
 use Rattle.verdicts.proofs.SameActions as same-actions
 
 -- 5a. A use that the actor does not cover has kind 4 with its position, whether the resource stands or not.
-pub not-covered-violation : (r : Register) (now x n : ℕ) (u : Usage) → covers r now x u ≡ false → useViolation r now x n u ≡ NotCovered n ∷ []
+pub not-covered-violation : (r : Register) (moment x n : ℕ) (u : Usage) → covers r moment x u ≡ false → useViolation r moment x n u ≡ NotCovered n ∷ []
 not-covered-violation = coverage.not-covered-violation
 
 -- 5b. Its hop count is 0, whether the resource stands or not.
-pub not-covered-hops : (r : Register) (now x : ℕ) (u : Usage) → covers r now x u ≡ false → hopsFor r now x u ≡ 0
+pub not-covered-hops : (r : Register) (moment x : ℕ) (u : Usage) → covers r moment x u ≡ false → hopsFor r moment x u ≡ 0
 not-covered-hops = coverage.not-covered-hops
 
 -- 5c. No one covers a resource that does not stand.
-pub absent-not-covered : (r : Register) (now x : ℕ) (u : Usage) → any (λ o. eqb (u .resource) (o .id)) (resourcesOf (r .resources)) ≡ false
-    → covers r now x u ≡ false
+pub absent-not-covered : (r : Register) (moment x : ℕ) (u : Usage) → any (λ o. eqb (u .resource) (o .id)) (resourcesOf (r .resources)) ≡ false
+    → covers r moment x u ≡ false
 absent-not-covered = coverage.absent-not-covered
 
 -- 5d. So a use of a resource that does not stand is answered as one of a resource that is not held.
-pub absent-as-not-held : (r : Register) (now x n : ℕ) (u v : Usage) → any (λ o. eqb (u .resource) (o .id)) (resourcesOf (r .resources)) ≡ false
-    → covers r now x v ≡ false → (useViolation r now x n u ≡ useViolation r now x n v) × (hopsFor r now x u ≡ hopsFor r now x v)
+pub absent-as-not-held : (r : Register) (moment x n : ℕ) (u v : Usage) → any (λ o. eqb (u .resource) (o .id)) (resourcesOf (r .resources)) ≡ false
+    → covers r moment x v ≡ false → (useViolation r moment x n u ≡ useViolation r moment x n v) × (hopsFor r moment x u ≡ hopsFor r moment x v)
 absent-as-not-held = coverage.absent-as-not-held
 
 -- 6a. An action in range has at most 51 violations.
@@ -59,14 +59,14 @@ pub hop-counts-length : (r : Register) (a : Action) → length (hopCounts r a) �
 hop-counts-length = bounds.hop-counts-length
 
 -- 6c. In a sound register a hop count is at most 16.
-pub hops-most : (r : Register) → sound r ≡ true → (now x : ℕ) (u : Usage) → hopsFor r now x u ≤ hopLimit
+pub hops-most : (r : Register) → sound r ≡ true → (moment x : ℕ) (u : Usage) → hopsFor r moment x u ≤ hopLimit
 hops-most = bounds.hops-most
 
 -- 6d. Where a claim covers, the hop count is that of a covering claim that none exceeds in how far its resource's path reaches to the used
 -- one's, and that all covering claims before it fall short of.
-pub nearest : (r : Register) (now x : ℕ) (u : Usage) → any (covering r now x u) (claimsOf (r .claims)) ≡ true
-    → (c : Claim) × Nearest (covering r now x u) (λ d. reachOf r (d .resource) (u .resource)) (claimsOf (r .claims)) c
-    × (hopsFor r now x u ≡ hopsOf (latest (claimsOf (r .claims))) c)
+pub nearest : (r : Register) (moment x : ℕ) (u : Usage) → any (covering r moment x u) (claimsOf (r .claims)) ≡ true
+    → (c : Claim) × Nearest (covering r moment x u) (λ d. reachOf r (d .resource) (u .resource)) (claimsOf (r .claims)) c
+    × (hopsFor r moment x u ≡ hopsOf (latest (claimsOf (r .claims))) c)
 nearest = coverage.nearest
 
 -- 6e. In a sound register how far a resource reaches to another is asked of their paths.
@@ -91,9 +91,9 @@ pub planned-same-plan : (r : Register) (p q : Plan) → SamePlan p q → planned
 planned-same-plan = same-actions.planned-same-plan
 
 -- 8a. In a sound register every claim by which anyone covers a use, and that has a parent, has one that stands.
-pub parent-stands : (r : Register) → sound r ≡ true → (now x : ℕ) (u : Usage) (c : Claim) → IsIn (claimsOf (r .claims)) c → covering r now x u c ≡ true
+pub parent-stands : (r : Register) → sound r ≡ true → (moment x : ℕ) (u : Usage) (c : Claim) → IsIn (claimsOf (r .claims)) c → covering r moment x u c ≡ true
     → (c .parent ≡ 0 → ⊥) → (d : Claim) × IsIn (claimsOf (r .claims)) d × (d .id ≡ c .parent)
-parent-stands r h now x u c at covers = coverage.parent-stands r h c at
+parent-stands r h moment x u c at covers = coverage.parent-stands r h c at
 
 -- 8b. The kind of every violation is 1 to 5.
 pub kinds-five : (v : Violation) → (1 ≤ kindOf v) × (kindOf v ≤ 5)

@@ -74,10 +74,10 @@ public-read-out r u h =
     }
 
 -- a covering claim is authority
-pub covering-traced : (r : Register) → sound r ≡ true → (now x : ℕ) (u : Usage) (c : Claim) → IsIn (claimsOf (r .claims)) c → covering r now x u c ≡ true
-    → Traced r now x u
-covering-traced r h now x u c at e =
-    let told = covering-out r now x u c e in
+pub covering-traced : (r : Register) → sound r ≡ true → (moment x : ℕ) (u : Usage) (c : Claim) → IsIn (claimsOf (r .claims)) c → covering r moment x u c ≡ true
+    → Traced r moment x u
+covering-traced r h moment x u c at e =
+    let told = covering-out r moment x u c e in
     let resources = contains-out r (c .resource) (u .resource) (told .containing) in
     record {
       claim = c;
@@ -106,39 +106,39 @@ covering-traced r h now x u c at e =
     }
 
 -- who covers a use rests on what is public or on authority
-pub covers-rests : (r : Register) → sound r ≡ true → (now x : ℕ) (u : Usage) → covers r now x u ≡ true → Rests r now x u
-covers-rests r h now x u e =
-    covers-cases r now x u e (λ public. inl (public-read-out r u public))
-    (λ some. let found = any-place (covering r now x u) (claimsOf (r .claims)) some in
-    inr (covering-traced r h now x u (found .0) (found .1) (found .2)))
+pub covers-rests : (r : Register) → sound r ≡ true → (moment x : ℕ) (u : Usage) → covers r moment x u ≡ true → Rests r moment x u
+covers-rests r h moment x u e =
+    covers-cases r moment x u e (λ public. inl (public-read-out r u public))
+    (λ some. let found = any-place (covering r moment x u) (claimsOf (r .claims)) some in
+    inr (covering-traced r h moment x u (found .0) (found .1) (found .2)))
 
 and-false-right : (a b : Bool) → a && b ≡ false → a ≡ true → b ≡ false
 and-false-right true b h e = h
 and-false-right false b h e = clash true refl (sym e)
 
 -- a machine for whose use there is no violation has an owner who covers the use
-owner-covers : (r : Register) (now x : ℕ) (u : Usage) → isOwnerless r x ≡ false → ownerLacks r now x u ≡ false → (b : Actor) → IsIn (actorsOf (r .actors)) b
-    → b .id ≡ x → b .kind ≡ machineKind → (b .owner ≡ 0 → ⊥) × (covers r now (b .owner) u ≡ true)
+owner-covers : (r : Register) (moment x : ℕ) (u : Usage) → isOwnerless r x ≡ false → ownerLacks r moment x u ≡ false → (b : Actor) → IsIn (actorsOf (r .actors)) b
+    → b .id ≡ x → b .kind ≡ machineKind → (b .owner ≡ 0 → ⊥) × (covers r moment (b .owner) u ≡ true)
 unfolding isOwnerless ownerLacks
-owner-covers r now x u owned covered b at named machine =
+owner-covers r moment x u owned covered b at named machine =
     let here = eq-eqb x (b .id) (sym named) in
     let kind = eq-eqb machineKind (b .kind) (sym machine) in
     let some = and-false-right (eqb machineKind (b .kind)) (eqb (b .owner) 0) (and-false-right (eqb x (b .id)) (eqb machineKind (b .kind) && eqb (b .owner) 0)
     (none-place (λ a. eqb x (a .id) && (eqb machineKind (a .kind) && eqb (a .owner) 0)) (actorsOf (r .actors)) owned b at) here) kind in
-    let lacks = and-false-right (eqb machineKind (b .kind)) (not (eqb (b .owner) 0) && not (covers r now (b .owner) u))
-    (and-false-right (eqb x (b .id)) (eqb machineKind (b .kind) && (not (eqb (b .owner) 0) && not (covers r now (b .owner) u)))
-    (none-place (λ a. eqb x (a .id) && (eqb machineKind (a .kind) && (not (eqb (a .owner) 0) && not (covers r now (a .owner) u)))) (actorsOf (r .actors)) covered b at)
+    let lacks = and-false-right (eqb machineKind (b .kind)) (not (eqb (b .owner) 0) && not (covers r moment (b .owner) u))
+    (and-false-right (eqb x (b .id)) (eqb machineKind (b .kind) && (not (eqb (b .owner) 0) && not (covers r moment (b .owner) u)))
+    (none-place (λ a. eqb x (a .id) && (eqb machineKind (a .kind) && (not (eqb (a .owner) 0) && not (covers r moment (a .owner) u)))) (actorsOf (r .actors)) covered b at)
     here) kind in
-    (eqb-false (b .owner) 0 some, not-false (covers r now (b .owner) u) (and-false-right (not (eqb (b .owner) 0)) (not (covers r now (b .owner) u)) lacks (rw some)))
+    (eqb-false (b .owner) 0 some, not-false (covers r moment (b .owner) u) (and-false-right (not (eqb (b .owner) 0)) (not (covers r moment (b .owner) u)) lacks (rw some)))
 
-machine-owned : (r : Register) → sound r ≡ true → (now x : ℕ) (u : Usage) → isOwnerless r x ≡ false → ownerLacks r now x u ≡ false
-    → (b : Actor) → IsIn (actorsOf (r .actors)) b → b .id ≡ x → b .kind ≡ machineKind → Owned r now b u
-machine-owned r h now x u owned covered b at named machine =
-    let told = owner-covers r now x u owned covered b at named machine in
+machine-owned : (r : Register) → sound r ≡ true → (moment x : ℕ) (u : Usage) → isOwnerless r x ≡ false → ownerLacks r moment x u ≡ false
+    → (b : Actor) → IsIn (actorsOf (r .actors)) b → b .id ≡ x → b .kind ≡ machineKind → Owned r moment b u
+machine-owned r h moment x u owned covered b at named machine =
+    let told = owner-covers r moment x u owned covered b at named machine in
     let fits = actor-fits-out (human (actorsOf (r .actors))) b
     (all-place (λ a. actorFits (human (actorsOf (r .actors))) a ≡ true) (actorsOf (r .actors))
     (every-all (actorFits (human (actorsOf (r .actors)))) (actorsOf (r .actors)) (sound-out r h .actors .fit)) b at) in
-    record { owned = told .0; ownerHuman = fits .ownerHuman (told .0); ownerRests = covers-rests r h now (b .owner) u (told .1) }
+    record { owned = told .0; ownerHuman = fits .ownerHuman (told .0); ownerRests = covers-rests r h moment (b .owner) u (told .1) }
 
 -- whatever the gate permits rests, use by use, on traceable authority
 pub permitted-authority : (r : Register) (a : Action) → gated r a .decision ≡ Permitted → (u : Usage) → IsIn (usesOf a) u → Authority r a u

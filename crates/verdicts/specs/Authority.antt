@@ -47,11 +47,11 @@ Attenuates c (p ∷ higher) = DrawnFrom p c × Attenuates p higher
 -- the authority of x for a use: a claim that stands, held by x, live, with the right, on a resource whose path contains the used one's; and
 -- its chain, each claim of which is current, stands and is drawn from the next, of at most 16 hops, up to a root granted by that resource's
 -- keeper
-pub record Traced (r : Register) (now x : ℕ) (u : Usage) : Type 0 where
+pub record Traced (r : Register) (moment x : ℕ) (u : Usage) : Type 0 where
   pub claim : Claim
   pub standing : IsIn (claimsOf (r .claims)) claim
   pub held : claim .holder ≡ x
-  pub lives : live now (latest (claimsOf (r .claims))) claim ≡ true
+  pub lives : live moment (latest (claimsOf (r .claims))) claim ≡ true
   pub right : hasRight (claim .rights) (u .right) ≡ true
   pub outer : Resource
   pub outerStanding : IsIn (resourcesOf (r .resources)) outer
@@ -82,13 +82,13 @@ pub record PublicRead (r : Register) (u : Usage) : Type 0 where
 
 -- what a use by x rests on
 abbrev pub Rests : Register → ℕ → ℕ → Usage → Type 0
-Rests r now x u = PublicRead r u ⊎ Traced r now x u
+Rests r moment x u = PublicRead r u ⊎ Traced r moment x u
 
 -- of a machine: it has an owner, who is a human of the register and for whom the use rests on the same
-pub record Owned (r : Register) (now : ℕ) (machine : Actor) (u : Usage) : Type 0 where
+pub record Owned (r : Register) (moment : ℕ) (machine : Actor) (u : Usage) : Type 0 where
   pub owned : machine .owner ≡ 0 → ⊥
   pub ownerHuman : human (actorsOf (r .actors)) (machine .owner) ≡ true
-  pub ownerRests : Rests r now (machine .owner) u
+  pub ownerRests : Rests r moment (machine .owner) u
 
 -- the authority for a use of an action
 pub record Authority (r : Register) (a : Action) (u : Usage) : Type 0 where

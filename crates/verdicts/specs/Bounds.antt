@@ -52,15 +52,15 @@ choice-most : (covered lacks : Bool) (f s : Violation) → length (cond covered 
 choice-most true lacks f s = owner-most lacks s
 choice-most false lacks f s = omega arith
 
-use-most : (r : Register) (now x n : ℕ) (u : Usage) → length (useViolation r now x n u) ≤ 1
+use-most : (r : Register) (moment x n : ℕ) (u : Usage) → length (useViolation r moment x n u) ≤ 1
 unfolding useViolation
-use-most r now x n u = choice-most (covers r now x u) (ownerLacks r now x u) (NotCovered n) (OwnerNotCovering n)
+use-most r moment x n u = choice-most (covers r moment x u) (ownerLacks r moment x u) (NotCovered n) (OwnerNotCovering n)
 
-uses-most : (r : Register) (now x n : ℕ) (us : List Usage) → length (useViolations r now x n us) ≤ length us
-uses-most r now x n [] = rw (use-violations-nil r now x n) (omega arith)
-uses-most r now x n (u ∷ us) =
-    rw (use-violations-cons r now x n u us)
-    (omega (arith, length-append (useViolation r now x n u) (useViolations r now x (suc n) us), use-most r now x n u, uses-most r now x (suc n) us))
+uses-most : (r : Register) (moment x n : ℕ) (us : List Usage) → length (useViolations r moment x n us) ≤ length us
+uses-most r moment x n [] = rw (use-violations-nil r moment x n) (omega arith)
+uses-most r moment x n (u ∷ us) =
+    rw (use-violations-cons r moment x n u us)
+    (omega (arith, length-append (useViolation r moment x n u) (useViolations r moment x (suc n) us), use-most r moment x n u, uses-most r moment x (suc n) us))
 
 -- an action in range has at most 51 violations: ten flags, one owner, eight governed entries, thirty-two uses
 pub violations-most : (r : Register) (a : Action) → actionFits a ≡ true → length (violationsOf r a) ≤ violationLimit
@@ -90,13 +90,13 @@ listed-length vs h =
 pub hop-counts-length : (r : Register) (a : Action) → length (hopCounts r a) ≡ length (usesOf a)
 hop-counts-length r a = length-map (usesOf a) (λ u. hopsFor r (a .now) (a .actor) u)
 
-pub hops-most : (r : Register) → sound r ≡ true → (now x : ℕ) (u : Usage) → hopsFor r now x u ≤ hopLimit
+pub hops-most : (r : Register) → sound r ≡ true → (moment x : ℕ) (u : Usage) → hopsFor r moment x u ≤ hopLimit
 unfolding hopsFor
-hops-most r h now x u =
-    cases (any (covering r now x u) (claimsOf (r .claims)))
-    (λ e. let found = nearest r now x u e in
+hops-most r h moment x u =
+    cases (any (covering r moment x u) (claimsOf (r .claims)))
+    (λ e. let found = nearest r moment x u e in
     omega (arith, found .2, place-hops-most r h (found .0) (found .1 .place)))
-    (λ e. rw (nearest-none (covering r now x u) (λ c. reachOf r (c .resource) (u .resource)) (claimsOf (r .claims)) e) (omega arith))
+    (λ e. rw (nearest-none (covering r moment x u) (λ c. reachOf r (c .resource) (u .resource)) (claimsOf (r .claims)) e) (omega arith))
 
 pub padded-length : (hs : List ℕ) → length hs ≤ useLimit → length (padded hs) ≡ useLimit
 padded-length hs h = length-append hs (replicate (useLimit - length hs) 0) ∙ omega (arith, length-replicate {A = ℕ} (useLimit - length hs) 0)

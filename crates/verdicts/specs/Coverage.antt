@@ -25,49 +25,49 @@ use Rattle.verdicts.specs.Gate.{publicRead, contains, covering, covers, 
 use Rattle.verdicts.specs.Authority.{IsIn, Nearest}
 
 -- what a covering claim is
-pub record Covering (r : Register) (now x : ℕ) (u : Usage) (c : Claim) : Type 0 where
+pub record Covering (r : Register) (moment x : ℕ) (u : Usage) (c : Claim) : Type 0 where
   pub held : eqb (c .holder) x ≡ true
-  pub lives : live now (latest (claimsOf (r .claims))) c ≡ true
+  pub lives : live moment (latest (claimsOf (r .claims))) c ≡ true
   pub has : hasRight (c .rights) (u .right) ≡ true
   pub containing : contains r (c .resource) (u .resource) ≡ true
 
-pub covering-out : (r : Register) (now x : ℕ) (u : Usage) (c : Claim) → covering r now x u c ≡ true → Covering r now x u c
+pub covering-out : (r : Register) (moment x : ℕ) (u : Usage) (c : Claim) → covering r moment x u c ≡ true → Covering r moment x u c
 unfolding covering
-covering-out r now x u c h =
-    let told = ands-out (eqb (c .holder) x ∷ live now (latest (claimsOf (r .claims))) c ∷ hasRight (c .rights) (u .right) ∷ contains r (c .resource) (u .resource) ∷ []) h in
+covering-out r moment x u c h =
+    let told = ands-out (eqb (c .holder) x ∷ live moment (latest (claimsOf (r .claims))) c ∷ hasRight (c .rights) (u .right) ∷ contains r (c .resource) (u .resource) ∷ []) h in
     record { held = told .0; lives = told .1 .0; has = told .1 .1 .0; containing = told .1 .1 .1 .0 }
 
-pub covering-in : (r : Register) (now x : ℕ) (u : Usage) (c : Claim) → Covering r now x u c → covering r now x u c ≡ true
+pub covering-in : (r : Register) (moment x : ℕ) (u : Usage) (c : Claim) → Covering r moment x u c → covering r moment x u c ≡ true
 unfolding covering
-covering-in r now x u c h = rw (h .held, h .lives, h .has, h .containing)
+covering-in r moment x u c h = rw (h .held, h .lives, h .has, h .containing)
 
 -- who covers a use either reads what is public or holds a covering claim
-pub covers-cases : {A : Type 0} (r : Register) (now x : ℕ) (u : Usage) → covers r now x u ≡ true
-    → (publicRead r u ≡ true → A) → (any (covering r now x u) (claimsOf (r .claims)) ≡ true → A) → A
+pub covers-cases : {A : Type 0} (r : Register) (moment x : ℕ) (u : Usage) → covers r moment x u ≡ true
+    → (publicRead r u ≡ true → A) → (any (covering r moment x u) (claimsOf (r .claims)) ≡ true → A) → A
 unfolding covers
-covers-cases r now x u h f g = cases (publicRead r u) f (λ e. g (rw e at h))
+covers-cases r moment x u h f g = cases (publicRead r u) f (λ e. g (rw e at h))
 
-pub covers-none : (r : Register) (now x : ℕ) (u : Usage) → covers r now x u ≡ false → any (covering r now x u) (claimsOf (r .claims)) ≡ false
+pub covers-none : (r : Register) (moment x : ℕ) (u : Usage) → covers r moment x u ≡ false → any (covering r moment x u) (claimsOf (r .claims)) ≡ false
 unfolding covers
-covers-none r now x u h = or-right (publicRead r u) (any (covering r now x u) (claimsOf (r .claims))) h
+covers-none r moment x u h = or-right (publicRead r u) (any (covering r moment x u) (claimsOf (r .claims))) h
 
 -- a use that is not covered has kind 4 with its position, and hop count 0
-pub not-covered-violation : (r : Register) (now x n : ℕ) (u : Usage) → covers r now x u ≡ false → useViolation r now x n u ≡ NotCovered n ∷ []
+pub not-covered-violation : (r : Register) (moment x n : ℕ) (u : Usage) → covers r moment x u ≡ false → useViolation r moment x n u ≡ NotCovered n ∷ []
 unfolding useViolation
-not-covered-violation r now x n u h = rw h
+not-covered-violation r moment x n u h = rw h
 
-pub not-covered-hops : (r : Register) (now x : ℕ) (u : Usage) → covers r now x u ≡ false → hopsFor r now x u ≡ 0
+pub not-covered-hops : (r : Register) (moment x : ℕ) (u : Usage) → covers r moment x u ≡ false → hopsFor r moment x u ≡ 0
 unfolding hopsFor
-not-covered-hops r now x u h =
-    ap (hopsIn r) (nearest-none (covering r now x u) (λ c. reachOf r (c .resource) (u .resource)) (claimsOf (r .claims)) (covers-none r now x u h))
+not-covered-hops r moment x u h =
+    ap (hopsIn r) (nearest-none (covering r moment x u) (λ c. reachOf r (c .resource) (u .resource)) (claimsOf (r .claims)) (covers-none r moment x u h))
 
 -- where a claim covers, the hop count is that of the nearest covering claim
-pub nearest : (r : Register) (now x : ℕ) (u : Usage) → any (covering r now x u) (claimsOf (r .claims)) ≡ true
-    → (c : Claim) × Nearest (covering r now x u) (λ d. reachOf r (d .resource) (u .resource)) (claimsOf (r .claims)) c
-    × (hopsFor r now x u ≡ hopsOf (latest (claimsOf (r .claims))) c)
+pub nearest : (r : Register) (moment x : ℕ) (u : Usage) → any (covering r moment x u) (claimsOf (r .claims)) ≡ true
+    → (c : Claim) × Nearest (covering r moment x u) (λ d. reachOf r (d .resource) (u .resource)) (claimsOf (r .claims)) c
+    × (hopsFor r moment x u ≡ hopsOf (latest (claimsOf (r .claims))) c)
 unfolding hopsFor
-nearest r now x u h =
-    let found = nearest-found (covering r now x u) (λ d. reachOf r (d .resource) (u .resource)) (claimsOf (r .claims)) h in
+nearest r moment x u h =
+    let found = nearest-found (covering r moment x u) (λ d. reachOf r (d .resource) (u .resource)) (claimsOf (r .claims)) h in
     (found .0, found .1, ap (hopsIn r) (found .1 .alone))
 
 -- what does not stand is contained in nothing, and no one covers it
@@ -87,21 +87,21 @@ absent-private r u h =
     (λ o. and-left (eqb (u .resource) (o .id)) (eqb (o .public) 1)) (resourcesOf (r .resources)) h)
     (and-false (eqb (u .right) reading))
 
-pub absent-not-covered : (r : Register) (now x : ℕ) (u : Usage) → any (λ o. eqb (u .resource) (o .id)) (resourcesOf (r .resources)) ≡ false
-    → covers r now x u ≡ false
+pub absent-not-covered : (r : Register) (moment x : ℕ) (u : Usage) → any (λ o. eqb (u .resource) (o .id)) (resourcesOf (r .resources)) ≡ false
+    → covers r moment x u ≡ false
 unfolding covers
-absent-not-covered r now x u h =
+absent-not-covered r moment x u h =
     rw (absent-private r u h)
-    (all-none (covering r now x u) (claimsOf (r .claims)) (each-all (λ M c. covering r now x u c ≡ false) (λ M c. cases (covering r now x u c)
-    (λ e. clash (contains r (c .resource) (u .resource)) (covering-out r now x u c e .containing)
+    (all-none (covering r moment x u) (claimsOf (r .claims)) (each-all (λ M c. covering r moment x u c ≡ false) (λ M c. cases (covering r moment x u c)
+    (λ e. clash (contains r (c .resource) (u .resource)) (covering-out r moment x u c e .containing)
     (absent-uncontained r (c .resource) (u .resource) h)) (λ e. e)) (claimsOf (r .claims))))
 
 -- so a use of what does not stand is answered as one of what is not held
-pub absent-as-not-held : (r : Register) (now x n : ℕ) (u v : Usage) → any (λ o. eqb (u .resource) (o .id)) (resourcesOf (r .resources)) ≡ false
-    → covers r now x v ≡ false → (useViolation r now x n u ≡ useViolation r now x n v) × (hopsFor r now x u ≡ hopsFor r now x v)
-absent-as-not-held r now x n u v absent lacks =
-    let none = absent-not-covered r now x u absent in
-    (not-covered-violation r now x n u none ∙ sym (not-covered-violation r now x n v lacks), not-covered-hops r now x u none ∙ sym (not-covered-hops r now x v lacks))
+pub absent-as-not-held : (r : Register) (moment x n : ℕ) (u v : Usage) → any (λ o. eqb (u .resource) (o .id)) (resourcesOf (r .resources)) ≡ false
+    → covers r moment x v ≡ false → (useViolation r moment x n u ≡ useViolation r moment x n v) × (hopsFor r moment x u ≡ hopsFor r moment x v)
+absent-as-not-held r moment x n u v absent lacks =
+    let none = absent-not-covered r moment x u absent in
+    (not-covered-violation r moment x n u none ∙ sym (not-covered-violation r moment x n v lacks), not-covered-hops r moment x u none ∙ sym (not-covered-hops r moment x v lacks))
 
 -- the claims of a sound register are sound around each place
 pub sound-place : (r : Register) → sound r ≡ true → (c : Claim) (at : IsIn (claimsOf (r .claims)) c)

@@ -40,24 +40,24 @@ contains r x y =
 
 -- a covering claim of x: held by x, live over its whole chain, with that right, on a resource whose path contains the used resource's path
 unfoldable pub covering : Register → ℕ → ℕ → Usage → Claim → Bool
-covering r now x u c = ands (
+covering r moment x u c = ands (
     eqb (c .holder) x
-    ∷ live now (latest (claimsOf (r .claims))) c
+    ∷ live moment (latest (claimsOf (r .claims))) c
     ∷ hasRight (c .rights) (u .right)
     ∷ contains r (c .resource) (u .resource)
     ∷ [])
 
 -- An actor covers a use when the resource stands and either it is public and the right is READ, or the actor holds a covering claim.
 unfoldable pub covers : Register → ℕ → ℕ → Usage → Bool
-covers r now x u = publicRead r u || any (covering r now x u) (claimsOf (r .claims))
+covers r moment x u = publicRead r u || any (covering r moment x u) (claimsOf (r .claims))
 
 -- whether x is a machine without owner; a machine with an owner who does not cover the use
 unfoldable pub isOwnerless : Register → ℕ → Bool
 isOwnerless r x = any (λ a. eqb x (a .id) && (eqb machineKind (a .kind) && eqb (a .owner) 0)) (actorsOf (r .actors))
 
 unfoldable pub ownerLacks : Register → ℕ → ℕ → Usage → Bool
-ownerLacks r now x u =
-    any (λ a. eqb x (a .id) && (eqb machineKind (a .kind) && (not (eqb (a .owner) 0) && not (covers r now (a .owner) u)))) (actorsOf (r .actors))
+ownerLacks r moment x u =
+    any (λ a. eqb x (a .id) && (eqb machineKind (a .kind) && (not (eqb (a .owner) 0) && not (covers r moment (a .owner) u)))) (actorsOf (r .actors))
 
 -- the first that passes a test, alone in a list, or none
 unfoldable pub firstOf : {A : Type 0} → (A → Bool) → List A → List A
@@ -88,7 +88,7 @@ reachOf r x y = reached (pathBy r x) (pathBy r y)
 -- the claim relied on: the covering claim of x whose resource's path reaches furthest to the used one's, the first in register order on a
 -- tie, or none
 abbrev pub relied : Register → ℕ → ℕ → Usage → List Claim
-relied r now x u = nearestOf (covering r now x u) (λ c. reachOf r (c .resource) (u .resource)) (claimsOf (r .claims))
+relied r moment x u = nearestOf (covering r moment x u) (λ c. reachOf r (c .resource) (u .resource)) (claimsOf (r .claims))
 
 -- 1: one for each set flag, lowest first; flag i is bit i
 unfoldable pub flagsSet : ℕ → List Violation
@@ -101,12 +101,12 @@ governed n (g ∷ entries) = MachineGoverns n ∷ governed (suc n) entries
 
 -- 4, 5: by use position from n, where the actor does not cover it; else where its owner does not
 unfoldable pub useViolation : Register → ℕ → ℕ → ℕ → Usage → List Violation
-useViolation r now x n u =
-    cond (covers r now x u) (cond (ownerLacks r now x u) (OwnerNotCovering n ∷ []) []) (NotCovered n ∷ [])
+useViolation r moment x n u =
+    cond (covers r moment x u) (cond (ownerLacks r moment x u) (OwnerNotCovering n ∷ []) []) (NotCovered n ∷ [])
 
 unfoldable pub useViolations : Register → ℕ → ℕ → ℕ → List Usage → List Violation
-useViolations r now x n [] = []
-useViolations r now x n (u ∷ us) = useViolation r now x n u ++ useViolations r now x (suc n) us
+useViolations r moment x n [] = []
+useViolations r moment x n (u ∷ us) = useViolation r moment x n u ++ useViolations r moment x (suc n) us
 
 -- the violations of an action, in 01's order
 unfoldable pub violationsOf : Register → Action → List Violation
@@ -122,7 +122,7 @@ hopsIn r [] = 0
 hopsIn r (c ∷ cs) = hopsOf (latest (claimsOf (r .claims))) c
 
 unfoldable pub hopsFor : Register → ℕ → ℕ → Usage → ℕ
-hopsFor r now x u = hopsIn r (relied r now x u)
+hopsFor r moment x u = hopsIn r (relied r moment x u)
 
 abbrev pub hopCounts : Register → Action → List ℕ
 hopCounts r a = map (λ u. hopsFor r (a .now) (a .actor) u) (usesOf a)

@@ -147,54 +147,54 @@ violations-none-in r a h =
     rw (h .flagless, h .owned, h .covered) (cases (isMachine (actorsOf (r .actors)) (a .actor)) (λ e. rw (e, h .ungoverning e)) (λ e. rw e))
 
 -- what no violation says of a use by x
-pub record UseClean (r : Register) (now x : ℕ) (u : Usage) : Type 0 where
-  pub covered : covers r now x u ≡ true
-  pub ownerCovers : ownerLacks r now x u ≡ false
+pub record UseClean (r : Register) (moment x : ℕ) (u : Usage) : Type 0 where
+  pub covered : covers r moment x u ≡ true
+  pub ownerCovers : ownerLacks r moment x u ≡ false
 
 use-choice : {A : Type 0} (covered lacks : Bool) (f s : A) → cond covered (cond lacks (s ∷ []) []) (f ∷ []) ≡ []
     → (covered ≡ true) × (lacks ≡ false)
 use-choice true lacks f s h = (refl, choice-none lacks s [] h)
 use-choice false lacks f s h = cons-clash h
 
-pub use-violation-out : (r : Register) (now x n : ℕ) (u : Usage) → useViolation r now x n u ≡ [] → UseClean r now x u
+pub use-violation-out : (r : Register) (moment x n : ℕ) (u : Usage) → useViolation r moment x n u ≡ [] → UseClean r moment x u
 unfolding useViolation
-use-violation-out r now x n u h =
-    let told = use-choice (covers r now x u) (ownerLacks r now x u) (NotCovered n) (OwnerNotCovering n) h in
+use-violation-out r moment x n u h =
+    let told = use-choice (covers r moment x u) (ownerLacks r moment x u) (NotCovered n) (OwnerNotCovering n) h in
     record { covered = told .0; ownerCovers = told .1 }
 
-pub use-violation-in : (r : Register) (now x n : ℕ) (u : Usage) → UseClean r now x u → useViolation r now x n u ≡ []
+pub use-violation-in : (r : Register) (moment x n : ℕ) (u : Usage) → UseClean r moment x u → useViolation r moment x n u ≡ []
 unfolding useViolation
-use-violation-in r now x n u h = rw (h .covered, h .ownerCovers)
+use-violation-in r moment x n u h = rw (h .covered, h .ownerCovers)
 
-pub use-violations-nil : (r : Register) (now x n : ℕ) → useViolations r now x n [] ≡ []
+pub use-violations-nil : (r : Register) (moment x n : ℕ) → useViolations r moment x n [] ≡ []
 unfolding useViolations
-use-violations-nil r now x n = refl
+use-violations-nil r moment x n = refl
 
-pub use-violations-cons : (r : Register) (now x n : ℕ) (u : Usage) (us : List Usage)
-    → useViolations r now x n (u ∷ us) ≡ useViolation r now x n u ++ useViolations r now x (suc n) us
+pub use-violations-cons : (r : Register) (moment x n : ℕ) (u : Usage) (us : List Usage)
+    → useViolations r moment x n (u ∷ us) ≡ useViolation r moment x n u ++ useViolations r moment x (suc n) us
 unfolding useViolations
-use-violations-cons r now x n u us = refl
+use-violations-cons r moment x n u us = refl
 
-pub use-violations-append : (r : Register) (now x n : ℕ) (us vs : List Usage)
-    → useViolations r now x n (us ++ vs) ≡ useViolations r now x n us ++ useViolations r now x (n + length us) vs
-use-violations-append r now x n [] vs = rw (use-violations-nil r now x n, add-zero n)
-use-violations-append r now x n (u ∷ us) vs =
+pub use-violations-append : (r : Register) (moment x n : ℕ) (us vs : List Usage)
+    → useViolations r moment x n (us ++ vs) ≡ useViolations r moment x n us ++ useViolations r moment x (n + length us) vs
+use-violations-append r moment x n [] vs = rw (use-violations-nil r moment x n, add-zero n)
+use-violations-append r moment x n (u ∷ us) vs =
     let counted : suc n + length us ≡ n + length (u ∷ us) = omega arith in
-    rw (use-violations-cons r now x n u (us ++ vs), use-violations-append r now x (suc n) us vs, use-violations-cons r now x n u us, counted)
-    (sym (append-assoc (useViolation r now x n u) (useViolations r now x (suc n) us) (useViolations r now x (n + length (u ∷ us)) vs)))
+    rw (use-violations-cons r moment x n u (us ++ vs), use-violations-append r moment x (suc n) us vs, use-violations-cons r moment x n u us, counted)
+    (sym (append-assoc (useViolation r moment x n u) (useViolations r moment x (suc n) us) (useViolations r moment x (n + length (u ∷ us)) vs)))
 
-pub use-violations-out : (r : Register) (now x n : ℕ) (us : List Usage) → useViolations r now x n us ≡ [] → All (λ u. UseClean r now x u) us
-use-violations-out r now x n [] h = tt
-use-violations-out r now x n (u ∷ us) h =
-    let both = sym (use-violations-cons r now x n u us) ∙ h in (
-      use-violation-out r now x n u (append-none-left (useViolation r now x n u) (useViolations r now x (suc n) us) both),
-      use-violations-out r now x (suc n) us (append-none-right (useViolation r now x n u) (useViolations r now x (suc n) us) both),
+pub use-violations-out : (r : Register) (moment x n : ℕ) (us : List Usage) → useViolations r moment x n us ≡ [] → All (λ u. UseClean r moment x u) us
+use-violations-out r moment x n [] h = tt
+use-violations-out r moment x n (u ∷ us) h =
+    let both = sym (use-violations-cons r moment x n u us) ∙ h in (
+      use-violation-out r moment x n u (append-none-left (useViolation r moment x n u) (useViolations r moment x (suc n) us) both),
+      use-violations-out r moment x (suc n) us (append-none-right (useViolation r moment x n u) (useViolations r moment x (suc n) us) both),
     )
 
-pub use-violations-in : (r : Register) (now x n : ℕ) (us : List Usage) → All (λ u. UseClean r now x u) us → useViolations r now x n us ≡ []
-use-violations-in r now x n [] h = use-violations-nil r now x n
-use-violations-in r now x n (u ∷ us) h =
-    rw (use-violations-cons r now x n u us, use-violation-in r now x n u (h .0)) (use-violations-in r now x (suc n) us (h .1))
+pub use-violations-in : (r : Register) (moment x n : ℕ) (us : List Usage) → All (λ u. UseClean r moment x u) us → useViolations r moment x n us ≡ []
+use-violations-in r moment x n [] h = use-violations-nil r moment x n
+use-violations-in r moment x n (u ∷ us) h =
+    rw (use-violations-cons r moment x n u us, use-violation-in r moment x n u (h .0)) (use-violations-in r moment x (suc n) us (h .1))
 
 -- permitted means that the tests are passed and that there are no violations
 pub record Permits (r : Register) (a : Action) : Type 0 where

@@ -16,9 +16,9 @@ use Rattle.violations.specs.Pushed.{pushed, pushedAll}
 
 -- of the n numbers from 0 the loop has come to i: what f makes of all of them, put to the list begun with, is what f makes of those
 -- left, put to the list now
-pub record Pushing (f : List ℕ → List Violation) (n i : ℕ) (first now : Violations) : Type 0 where
+pub record Pushing (f : List ℕ → List Violation) (n i : ℕ) (first violations : Violations) : Type 0 where
   pub within : i ≤ n
-  pub ahead : pushedAll first (f (counted 0 n)) ≡ pushedAll now (f (counted i (n - i)))
+  pub ahead : pushedAll first (f (counted 0 n)) ≡ pushedAll violations (f (counted i (n - i)))
 
 -- the numbers left, taken apart
 counted-next : (n i : ℕ) → i < n → counted i (n - i) ≡ i ∷ counted (i + 1) (n - (i + 1))
@@ -30,19 +30,19 @@ module _ {f : List ℕ → List Violation} {n : ℕ} {first : Violations} where
   pub begin : {i : ℕ} → i ≡ 0 → Pushing f n i first first
   begin h = record { within = omega arith; ahead = rw (h, sub-zero) }
 
-  module _ {i : ℕ} {now : Violations} (s : Pushing f n i first now) where
+  module _ {i : ℕ} {violations : Violations} (s : Pushing f n i first violations) where
     -- to the next number, the violation put that f makes of this one
-    pub put : (v : Violation) {after : Violations} → i < n → ((l : List ℕ) → f (i ∷ l) ≡ v ∷ f l) → after ≡ pushed now v
+    pub put : (v : Violation) {after : Violations} → i < n → ((l : List ℕ) → f (i ∷ l) ≡ v ∷ f l) → after ≡ pushed violations v
         → Pushing f n (i + 1) first after
     unfolding pushedAll
     put v h one q = record { within = omega arith; ahead = s .ahead ∙ rw (counted-next n i h, one, q) }
 
     -- to the next number, where f makes nothing of this one
-    pub skip : i < n → ((l : List ℕ) → f (i ∷ l) ≡ f l) → Pushing f n (i + 1) first now
+    pub skip : i < n → ((l : List ℕ) → f (i ∷ l) ≡ f l) → Pushing f n (i + 1) first violations
     skip h none = record { within = omega arith; ahead = s .ahead ∙ rw (counted-next n i h, none) }
 
     -- after the loop all is put
-    pub end : n ≤ i → f [] ≡ [] → now ≡ pushedAll first (f (counted 0 n))
+    pub end : n ≤ i → f [] ≡ [] → violations ≡ pushedAll first (f (counted 0 n))
     unfolding pushedAll
     end h none = let last : n - i ≡ 0 = omega arith in sym (s .ahead ∙ rw (last, none))
 

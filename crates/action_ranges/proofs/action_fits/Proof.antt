@@ -32,10 +32,10 @@ returns-6 c =
     let governed = c .before .before in
     let used = governed .before .before in
     let flags = used .before .before in
-    let now = flags .before .before in
-    let actor = now .before .before in
+    let moment = flags .before .before in
+    let actor = moment .before .before in
     rw (c .before .uses-fit .ensures, c .governs-fit .ensures)
-    (sym (entries-decide (actor .before .before .args .a) (actor .if1 .left) (now .if2 .left) (flags .if3 .left) (used .if4 .left) (governed .if5 .left)))
+    (sym (entries-decide (actor .before .before .args .a) (actor .if1 .left) (moment .if2 .left) (flags .if3 .left) (used .if4 .left) (governed .if5 .left)))
 
 pub action-fits-spec : {M : Type 1} → statement M
 action-fits-spec =

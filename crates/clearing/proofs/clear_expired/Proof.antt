@@ -23,7 +23,7 @@ returns : tie.Need-returns
 returns c =
     let entry = c .before .before .before .before .before .args in
     c .withdraw .ensures
-    ∙ rw (c .before .before .before .before .expired-outcome .ensures, c .before .before .mark-expired .ensures) (answered-natural (entry .r) (clearExpired (entry .caller) (entry .now)))
+    ∙ rw (c .before .before .before .before .expired-outcome .ensures, c .before .before .mark-expired .ensures) (answered-natural (entry .r) (clearExpired (entry .caller) (entry .moment)))
 
 pub clear-expired-spec : {M : Type 1} → statement M
 clear-expired-spec =

@@ -17,7 +17,7 @@ use Rattle.clearing.proofs.expired_outcome.Tie as tie
 whole : (e : tie.Else1) → sound (e .before .before .args .r) ≡ true
 whole e = sym (e .before .is-sound .ensures) ∙ not-false (e .before .is-sound .result) (e .if1 .left)
 
-moment : (e : tie.Else2) → ltb (e .before .before .before .args .now) momentEnd ≡ true
+moment : (e : tie.Else2) → ltb (e .before .before .before .args .moment) momentEnd ≡ true
 moment e = lt-ltb _ _ (e .if2 .left)
 
 -- the caller is known
@@ -34,12 +34,12 @@ is-sound-requires c κs = search needs
 returns : tie.Need-returns
 returns c =
     let entry = c .before .before .args in
-    sym (expired-unsound (entry .r) (entry .caller) (entry .now) (sym (c .before .is-sound .ensures) ∙ not-true (c .before .is-sound .result) (c .if1 .taken)))
+    sym (expired-unsound (entry .r) (entry .caller) (entry .moment) (sym (c .before .is-sound .ensures) ∙ not-true (c .before .is-sound .result) (c .if1 .taken)))
 
 returns-2 : tie.Need-returns-2
 returns-2 c =
     let entry = c .before .before .before .args in
-    sym (expired-late (entry .r) (entry .caller) (entry .now) (whole (c .before)) (le-ltb _ _ (c .if2 .taken)))
+    sym (expired-late (entry .r) (entry .caller) (entry .moment) (whole (c .before)) (le-ltb _ _ (c .if2 .taken)))
 
 actor-columns-requires : tie.Need-actor-columns-requires
 actor-columns-requires c κs = search needs
@@ -55,7 +55,7 @@ returns-3 c =
     let timely = c .before .before .before .before .before .before .before in
     let entry = timely .before .before .before .args in
     sym
-    (expired-unknown (entry .r) (entry .caller) (entry .now) (whole (timely .before)) (moment timely)
+    (expired-unknown (entry .r) (entry .caller) (entry .moment) (whole (timely .before)) (moment timely)
     (sym (known-told (entry .r) (entry .caller) (c .before .before .before .before .before .actor-columns .ensures) (c .before .is-among .ensures))
     ∙ not-true (c .before .is-among .result) (c .if3 .taken)))
 
@@ -74,7 +74,7 @@ returns-4 c =
     let timely = knows .before .before .before .before .before .before .before in
     let entry = timely .before .before .before .args in
     sym
-    (expired-machine (entry .r) (entry .caller) (entry .now) (whole (timely .before)) (moment timely) (known knows)
+    (expired-machine (entry .r) (entry .caller) (entry .moment) (whole (timely .before)) (moment timely) (known knows)
     (sym (human-told (entry .r) (entry .caller) (knows .before .before .before .before .before .actor-columns .ensures) (c .before .is-beside .ensures))
     ∙ not-true (c .before .is-beside .result) (c .if4 .taken)))
 
@@ -84,7 +84,7 @@ returns-5 c =
     let timely = knows .before .before .before .before .before .before .before in
     let entry = timely .before .before .before .args in
     sym
-    (expired-accepted (entry .r) (entry .caller) (entry .now) (whole (timely .before)) (moment timely) (known knows)
+    (expired-accepted (entry .r) (entry .caller) (entry .moment) (whole (timely .before)) (moment timely) (known knows)
     (sym (human-told (entry .r) (entry .caller) (knows .before .before .before .before .before .actor-columns .ensures) (c .before .is-beside .ensures))
     ∙ not-false (c .before .is-beside .result) (c .if4 .left)))
 

@@ -11,10 +11,10 @@ use Rattle.clearing.proofs.mark_expired.Statement.{statement}
 use Rattle.clearing.proofs.mark_expired.Tie as tie
 
 abbrev Inv-loop : tie.InvT-loop
-Inv-loop now k marks₀ i₀ marks i = Filling (expired now) (k .list) claimLimit i marks
+Inv-loop moment k marks₀ i₀ marks i = Filling (expired moment) (k .list) claimLimit i marks
 
 abbrev μ-loop : tie.MeasureT-loop
-μ-loop now k marks₀ i₀ marks i = claimLimit - i
+μ-loop moment k marks₀ i₀ marks i = claimLimit - i
 
 loop-holds : tie.Need-loop-holds Inv-loop μ-loop
 loop-holds c = empty (search (needs, length-mapped)) refl

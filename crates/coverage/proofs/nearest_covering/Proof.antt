@@ -7,7 +7,7 @@ use borrow.Author.Needs.{needs}
 use lib.ListN.{take, getD}
 use Rattle.lists.specs.Loops.{Loop, start, turn, next, done}
 use Rattle.coverage.specs.Coverage.{reaching, reachAt, nearestFrom, nearestCovering}
-use Rattle.coverage.specs.Laws.{nearest-none, nearest-found, nearest-taken, nearest-passed}
+use Rattle.coverage.specs.Laws.{nearest-nowhere, nearest-best, nearest-taken, nearest-passed}
 use Rattle.coverage.proofs.Reaching.{not-far, is-far, reach-limit}
 use Rattle.coverage.proofs.nearest_covering.Statement.{statement}
 use Rattle.coverage.proofs.nearest_covering.Tie as tie
@@ -98,7 +98,7 @@ returns c =
     let s = c .before .before .loop in
     sym
     (done (s .inv) (c .before .loop-test .left)
-    ∙ nearest-none (reaching (a .rights .now) (a .spots .now) (a .bytes .now) (a .lens .now) (a .right) (a .spot))
+    ∙ nearest-nowhere (reaching (a .rights .now) (a .spots .now) (a .bytes .now) (a .lens .now) (a .right) (a .spot))
     (reachAt (a .spots .now) (a .bytes .now) (a .lens .now) (a .spot)) (s .best) (s .bar) (c .if1 .taken))
 
 returns-2 : tie.Need-returns-2 Inv-loop μ-loop
@@ -107,7 +107,7 @@ returns-2 c =
     let s = c .before .before .loop in
     sym
     (done (s .inv) (c .before .loop-test .left)
-    ∙ nearest-found (reaching (a .rights .now) (a .spots .now) (a .bytes .now) (a .lens .now) (a .right) (a .spot))
+    ∙ nearest-best (reaching (a .rights .now) (a .spots .now) (a .bytes .now) (a .lens .now) (a .right) (a .spot))
     (reachAt (a .spots .now) (a .bytes .now) (a .lens .now) (a .spot)) (s .best) (s .bar) (c .if1 .left))
 
 pub nearest-covering-spec : {M : Type 1} → statement M

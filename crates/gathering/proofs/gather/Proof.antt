@@ -16,29 +16,29 @@ use Rattle.gathering.proofs.gather.Statement.{statement}
 use Rattle.gathering.proofs.gather.Tie as tie
 
 -- the loop over the first n claims has come to place i, and top is how many are looked at
-record Gathering (holders ends : List ℕ) (n x now top i count : ℕ) (places : List ℕ) : Type 0 where
+record Gathering (holders ends : List ℕ) (n x moment top i count : ℕ) (places : List ℕ) : Type 0 where
   pub whole : top ≡ lookedAt holders ends n
   pub within : Looked holders ends n
-  pub collected : Collecting (λ j. heldAt holders ends x now j) claimLimit top i count places
+  pub collected : Collecting (λ j. heldAt holders ends x moment j) claimLimit top i count places
 
-gathering-start : {holders ends : List ℕ} {n x now top : ℕ} → top ≡ lookedAt holders ends n
-    → Gathering holders ends n x now top 0 0 (replicate claimLimit 0)
+gathering-start : {holders ends : List ℕ} {n x moment top : ℕ} → top ≡ lookedAt holders ends n
+    → Gathering holders ends n x moment top 0 0 (replicate claimLimit 0)
 gathering-start {holders} {ends} {n} e =
     let looked = looked-within holders ends n in
     record { whole = e; within = looked; collected = collecting-start (omega (arith, looked .few)) refl }
 
-module _ {holders ends : List ℕ} {n x now top i count : ℕ} {places : List ℕ} (s : Gathering holders ends n x now top i count places) where
+module _ {holders ends : List ℕ} {n x moment top i count : ℕ} {places : List ℕ} (s : Gathering holders ends n x moment top i count places) where
   module _ (h : i < top) where
     gathering-room : count < claimLimit
     gathering-room = omega (arith, s .whole, s .within .few, collecting-room (s .collected))
 
-    gathering-covers : heldAt holders ends x now i ≡ true → Gathering holders ends n x now top (i + 1) (count + 1) (set places count i)
+    gathering-covers : heldAt holders ends x moment i ≡ true → Gathering holders ends n x moment top (i + 1) (count + 1) (set places count i)
     gathering-covers t = record { whole = s .whole; within = s .within; collected = collecting-hit (s .collected) h t }
 
-    gathering-misses : heldAt holders ends x now i ≡ false → Gathering holders ends n x now top (i + 1) count places
+    gathering-misses : heldAt holders ends x moment i ≡ false → Gathering holders ends n x moment top (i + 1) count places
     gathering-misses t = record { whole = s .whole; within = s .within; collected = collecting-miss (s .collected) h t }
 
-  gathering-done : top ≤ i → _≡_ {A = Gathered} (record { places = places; count = count }) (gatheredBy holders ends n x now)
+  gathering-done : top ≤ i → _≡_ {A = Gathered} (record { places = places; count = count }) (gatheredBy holders ends n x moment)
   unfolding gatheredBy
   gathering-done h = rw (← s .whole, ← collecting-count (s .collected) h, collecting-places (s .collected) h)
 

@@ -15,19 +15,19 @@ enum-told c = search needs
 mul-c : tie.Need-mul-c
 mul-c c =
     let given = c .before .before .before .before .before .before .args in
-    let room = accepted-room (given .r) (given .c) (given .now) (sym (c .before .before .before .before .before .grant-outcome .ensures) ∙ c .before .before .before .enum-told .given .1) in
+    let room = accepted-room (given .r) (given .c) (given .moment) (sym (c .before .before .before .before .before .grant-outcome .ensures) ∙ c .before .before .before .enum-told .given .1) in
     search needs
 
 element-set-from-c : tie.Need-element-set-from-c
 element-set-from-c c =
     let given = c .before .before .before .before .before .before .args in
-    let room = accepted-room (given .r) (given .c) (given .now) (sym (c .before .before .before .before .before .grant-outcome .ensures) ∙ c .before .before .before .enum-told .given .1) in
+    let room = accepted-room (given .r) (given .c) (given .moment) (sym (c .before .before .before .before .before .grant-outcome .ensures) ∙ c .before .before .before .enum-told .given .1) in
     room
 
 add-claims : tie.Need-add-claims
 add-claims c =
     let given = c .before .before .before .before .before .before .args in
-    let room = accepted-room (given .r) (given .c) (given .now) (sym (c .before .before .before .before .before .grant-outcome .ensures) ∙ c .before .before .before .enum-told .given .1) in
+    let room = accepted-room (given .r) (given .c) (given .moment) (sym (c .before .before .before .before .before .grant-outcome .ensures) ∙ c .before .before .before .enum-told .given .1) in
     search needs
 
 enum-known-outcome : tie.Need-enum-known-outcome
@@ -36,7 +36,7 @@ enum-known-outcome c = search needs
 returns : tie.Need-returns
 returns c =
     let given = c .before .before .before .before .before .before .args in
-    granted-accepted (given .r) (given .c) (given .now) (c .before .before .before .before .before .grant-outcome .ensures) (c .before .before .before .enum-told .given .1)
+    granted-accepted (given .r) (given .c) (given .moment) (c .before .before .before .before .before .grant-outcome .ensures) (c .before .before .before .enum-told .given .1)
 
 returns-2 : tie.Need-returns-2
 returns-2 c = search (needs, granted-refused)

@@ -29,7 +29,7 @@ returns : tie.Need-returns
 returns c =
     let given = c .before .before .args in
     sym
-    (unsound (given .r) (given .c) (given .now)
+    (unsound (given .r) (given .c) (given .moment)
     (sym (c .before .is-sound .ensures) ∙ not-true _ (c .if1 .taken)))
 
 claim-fits-requires : tie.Need-claim-fits-requires
@@ -39,7 +39,7 @@ returns-2 : tie.Need-returns-2
 returns-2 c =
     let given = c .before .before .before .before .args in
     sym
-    (claim-unfit (given .r) (given .c) (given .now)
+    (claim-unfit (given .r) (given .c) (given .moment)
     (sym (c .before .before .before .is-sound .ensures) ∙ not-false _ (c .before .before .if1 .left))
     (sym (c .before .claim-fits .ensures) ∙ not-true _ (c .if2 .taken)))
 
@@ -47,7 +47,7 @@ returns-3 : tie.Need-returns-3
 returns-3 c =
     let given = c .before .before .before .before .before .args in
     sym
-    (moment-past (given .r) (given .c) (given .now)
+    (moment-past (given .r) (given .c) (given .moment)
     (sym (c .before .before .before .before .is-sound .ensures) ∙ not-false _ (c .before .before .before .if1 .left))
     (sym (c .before .before .claim-fits .ensures) ∙ not-false _ (c .before .if2 .left))
     (le-ltb _ _ (c .if3 .taken)))
@@ -71,7 +71,7 @@ returns-4 : tie.Need-returns-4
 returns-4 c =
     let given = c .before .before .before .before .before .before .before .before .before .before .before .before .before .before .before .before .before .before .args in
     sym
-    (root-granted (given .r) (given .c) (given .now)
+    (root-granted (given .r) (given .c) (given .moment)
     (sym (c .before .before .before .before .before .before .before .before .before .before .before .before .before .before .before .before .before .is-sound .ensures) ∙ not-false _ (c .before .before .before .before .before .before .before .before .before .before .before .before .before .before .before .before .if1 .left))
     (sym (c .before .before .before .before .before .before .before .before .before .before .before .before .before .before .before .claim-fits .ensures) ∙ not-false _ (c .before .before .before .before .before .before .before .before .before .before .before .before .before .before .if2 .left))
     (lt-ltb _ _ (c .before .before .before .before .before .before .before .before .before .before .before .before .before .if3 .left))
@@ -117,7 +117,7 @@ returns-5 : tie.Need-returns-5
 returns-5 c =
     let given = c .before .before .before .before .before .before .before .before .before .before .before .before .before .before .before .before .before .args in
     sym
-    (world-refuses (given .r) (given .c) (given .now)
+    (world-refuses (given .r) (given .c) (given .moment)
     (sym (c .before .before .before .before .before .before .before .before .before .before .before .before .before .before .before .before .is-sound .ensures) ∙ not-false _ (c .before .before .before .before .before .before .before .before .before .before .before .before .before .before .before .if1 .left))
     (sym (c .before .before .before .before .before .before .before .before .before .before .before .before .before .before .claim-fits .ensures) ∙ not-false _ (c .before .before .before .before .before .before .before .before .before .before .before .before .before .if2 .left))
     (lt-ltb _ _ (c .before .before .before .before .before .before .before .before .before .before .before .before .if3 .left))
@@ -128,14 +128,14 @@ returns-6 : tie.Need-returns-6
 returns-6 c =
     let given = c .before .before .before .before .before .before .before .before .before .before .before .before .before .before .before .before .before .before .before .before .before .before .before .before .args in
     sym
-    (parent-decides (given .r) (given .c) (given .now)
+    (parent-decides (given .r) (given .c) (given .moment)
     (sym (c .before .before .before .before .before .before .before .before .before .before .before .before .before .before .before .before .before .before .before .before .before .before .before .is-sound .ensures) ∙ not-false _ (c .before .before .before .before .before .before .before .before .before .before .before .before .before .before .before .before .before .before .before .before .before .before .if1 .left))
     (sym (c .before .before .before .before .before .before .before .before .before .before .before .before .before .before .before .before .before .before .before .before .before .claim-fits .ensures) ∙ not-false _ (c .before .before .before .before .before .before .before .before .before .before .before .before .before .before .before .before .before .before .before .before .if2 .left))
     (lt-ltb _ _ (c .before .before .before .before .before .before .before .before .before .before .before .before .before .before .before .before .before .before .before .if3 .left))
     (stands-asked (given .r .claims) (given .c) (c .before .before .before .before .before .before .before .before .before .before .before .before .before .before .before .claim-columns .ensures) (c .before .before .before .before .before .before .before .before .before .before .before .is-among .ensures))
     (sym (c .before .before .before .before .before .before .before .before .before .before .world-outcome .ensures) ∙ c .before .before .before .before .before .before .before .before .enum-told .given .1)
     (c .before .before .before .before .before .before .if4 .left)
-    (parent-absent (given .now) (above (latest (claimsOf (given .r .claims))) (given .c)) (given .c)
+    (parent-absent (given .moment) (above (latest (claimsOf (given .r .claims))) (given .c)) (given .c)
     (parent-nowhere (given .r .claims) (given .c) (c .before .before .before .before .before .before .before .before .before .before .before .before .before .before .before .claim-columns .ensures) (sym (c .before .before .latest-place .ensures) ∙ c .enum-told2 .given .1))))
 
 returns-7 : tie.Need-returns-7
@@ -151,19 +151,19 @@ returns-7 c =
     let k = given .r .claims in
     let p = getD (k .list) (placed .place .given .0 .0) noClaim in
     sym
-    (parent-decides (given .r) (given .c) (given .now)
+    (parent-decides (given .r) (given .c) (given .moment)
     (sym (timed .before .before .before .before .is-sound .ensures) ∙ not-false _ (timed .before .before .before .if1 .left))
     (sym (timed .before .before .claim-fits .ensures) ∙ not-false _ (timed .before .if2 .left))
     (lt-ltb _ _ (timed .if3 .left))
     (stands-asked k (given .c) (taken .claim-columns .ensures) (judged .before .before .before .is-among .ensures))
     (sym (judged .before .before .world-outcome .ensures) ∙ judged .enum-told .given .1)
     (looked .before .before .before .before .if4 .left)
-    (parent-present (given .now) (above (latest (claimsOf k)) (given .c)) (given .c)
+    (parent-present (given .moment) (above (latest (claimsOf k)) (given .c)) (given .c)
     (parent-stands k (given .c) (taken .claim-columns .ensures) (sym (looked .latest-place .ensures) ∙ placed .place .given .1)
     (looked .before .before .before .before .if4 .left))
     ∙ ap (λ lives. outcomeOf (drawnTests lives p (given .c) ++ chainTests (λ d. d .grantor) (λ d. d .holder) (withinHops (above (latest (claimsOf k)) (given .c)))
     (above (latest (claimsOf k)) (given .c)) (given .c .holder)))
-    (sym (source-asked k (given .c) (taken .claim-columns .ensures) (given .now) (lived .all-current .ensures)))
+    (sym (source-asked k (given .c) (taken .claim-columns .ensures) (given .moment) (lived .all-current .ensures)))
     ∙ ap (λ tests. outcomeOf (drawnTests (lived .all-current .result) p (given .c) ++ tests)) (sym (chain-asked (given .r)
     (sym (timed .before .before .before .before .is-sound .ensures) ∙ not-false _ (timed .before .before .before .if1 .left))
     (places (timed .before .before .before .before .before)) (given .c) (looked .before .before .before .before .if4 .left)

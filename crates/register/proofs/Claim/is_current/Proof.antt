@@ -19,7 +19,7 @@ returns-3 c =
       lt-ltb 0 (c .before .before .before .before .before .args .self .weight) (omega (arith, c .before .before .before .if1 .left)),
       ne-eqb _ _ (c .before .if2 .left),
     )
-    (sym (above-unpast (c .before .before .before .before .before .args .now) (c .before .before .before .before .before .args .self .expiry)))
+    (sym (above-unpast (c .before .before .before .before .before .args .moment) (c .before .before .before .before .before .args .self .expiry)))
 
 pub is-current-spec : {M : Type 1} → statement M
 is-current-spec = tie.close (tie.spec returns returns-2 returns-3)
