@@ -101,7 +101,7 @@ pub fn sound(shape: Shape, world: &World, name: &str) -> Case {
         name,
         shape: Some(shape),
         bytes: None,
-        goal: Goal::on(shape),
+        goal: Goal::judging(shape, 1.5, 4.47),
         library: Box::new(|_| {
             black_box(library::sound(black_box(register)));
         }),
@@ -126,7 +126,7 @@ pub fn grant(shape: Shape, world: &World, name: &str, grants: Vec<Claim>) -> Cas
         name,
         shape: Some(shape),
         bytes: None,
-        goal: Goal::on(shape),
+        goal: Goal::judging(shape, 1.5, 4.43),
         library: Box::new(move |at| {
             black_box(library::grant(&mut ours, black_box(register), &grants[at % VARIED], NOW));
         }),
@@ -165,7 +165,7 @@ fn withdraw(shape: Shape, world: &World, name: &str, withdrawals: Vec<(u32, With
         name,
         shape: Some(shape),
         bytes: None,
-        goal: Goal::on(shape),
+        goal: Goal::judging(shape, 1.5, 3.02),
         library: Box::new(move |at| {
             black_box(library::withdraw(&mut ours, black_box(register), withdrawals[at % VARIED]));
         }),
@@ -181,6 +181,11 @@ pub fn gate(shape: Shape, world: &World, what: &str, actions: Vec<Action>) -> Ca
     let register = leak(*world.register.clone());
     let actions = leak(actions);
     let known = leak(Sound::of(register).expect("it is sound"));
+    let small = match what {
+        "1 use, 8 claims" => 5.24,
+        "32 uses not covered, 8 claims" => 3.77,
+        _ => 3.17,
+    };
     let name = format!("gate, {what}");
     let mut ours = Box::new(place());
     for (at, action) in actions.iter().enumerate() {
@@ -190,7 +195,7 @@ pub fn gate(shape: Shape, world: &World, what: &str, actions: Vec<Action>) -> Ca
         name,
         shape: Some(shape),
         bytes: None,
-        goal: if shape == FULL { Goal::SoundnessAndGate } else { Goal::on(shape) },
+        goal: Goal::judging(shape, 1.8, small),
         library: Box::new(move |at| {
             black_box(library::gate(&mut ours, black_box(register), &actions[at % VARIED]));
         }),
@@ -222,7 +227,7 @@ pub fn plan(shape: Shape, world: &World, used: usize, whose: &str) -> Case {
         name,
         shape: Some(shape),
         bytes: None,
-        goal: Goal::on(shape),
+        goal: if shape == SMALL { Goal::TwiceTheModelAndFourCopies } else { Goal::judging(shape, 1.5, 2.5) },
         library: Box::new(move |at| {
             black_box(library::judge_plan(&mut ours, black_box(register), &plans[at % VARIED]));
         }),
@@ -244,7 +249,7 @@ pub fn read(shape: Shape, world: &World) -> Case {
         name,
         shape: Some(shape),
         bytes: Some(text.len()),
-        goal: Goal::on(shape),
+        goal: Goal::texts(shape),
         library: Box::new(move |_| {
             black_box(library::read_register(&mut ours, black_box(text)));
         }),
@@ -267,7 +272,7 @@ pub fn write(shape: Shape, world: &World) -> Case {
         name,
         shape: Some(shape),
         bytes: Some(text.len()),
-        goal: Goal::on(shape),
+        goal: Goal::texts(shape),
         library: Box::new(move |_| {
             black_box(library::write_register(black_box(register), black_box(&mut ours)));
         }),
@@ -288,7 +293,7 @@ pub fn read_action(used: usize) -> Case {
         name,
         shape: None,
         bytes: Some(text.len()),
-        goal: Goal::TwiceTheModel,
+        goal: Goal::Times(2.0),
         library: Box::new(move |_| {
             black_box(library::read_action(&mut ours, black_box(text)));
         }),
@@ -311,7 +316,7 @@ pub fn read_json(what: &str, texts: Vec<Vec<u8>>) -> Case {
         name,
         shape: None,
         bytes: Some(texts[0].len()),
-        goal: Goal::HalfAgainTheModel,
+        goal: Goal::Times(1.5),
         library: Box::new(move |at| {
             black_box(library::read_json(&mut ours, black_box(&texts[at % VARIED]), NOW));
         }),
@@ -335,7 +340,7 @@ pub fn write_json(what: &str, actions: Vec<JsonAction>) -> Case {
         name,
         shape: None,
         bytes: Some(actions[0].text().len()),
-        goal: Goal::HalfAgainTheModel,
+        goal: Goal::Times(1.5),
         library: Box::new(move |at| {
             let JsonAction { action, id, kind } = black_box(&actions[at % VARIED]);
             black_box(library::write_json(action, id, *kind, black_box(&mut ours)));
@@ -356,7 +361,7 @@ pub fn contains(what: &str, outer: Vec<u8>, inner: Vec<u8>) -> Case {
         name,
         shape: None,
         bytes: Some(outer.len() + inner.len()),
-        goal: Goal::TwiceTheModel,
+        goal: Goal::Times(2.0),
         library: Box::new(|_| {
             black_box(library::contains(black_box(outer), black_box(inner)));
         }),

@@ -1,7 +1,7 @@
 //! What was measured, and the goals it is held to.
 
 use crate::cases::{self, Case};
-use crate::inputs::{Shape, FULL};
+use crate::inputs::{Shape, FULL, SMALL};
 use crate::measure;
 use guvrendik_model::types::CLAIMS;
 
@@ -23,20 +23,27 @@ pub struct Row {
 }
 
 /// What a call may take.
-#[derive(Clone, Copy, PartialEq, Eq)]
+#[derive(Clone, Copy)]
 pub enum Goal {
-    TwiceTheModel,
+    /// So many times the model.
+    Times(f64),
     TwiceTheModelAndFourCopies,
-    /// 1.5 times our soundness and the model's gate without soundness.
-    SoundnessAndGate,
-    HalfAgainTheModel,
 }
 
 impl Goal {
-    /// Of a call on a register of this shape.
-    pub fn on(shape: Shape) -> Goal {
+    /// Of a call that judges a register: on the full one so many times the model, on the small one so many, on the one between 2.5 times.
+    pub fn judging(shape: Shape, full: f64, small: f64) -> Goal {
+        Goal::Times(match shape {
+            FULL => full,
+            SMALL => small,
+            _ => 2.5,
+        })
+    }
+
+    /// Of a text of a register of this shape.
+    pub fn texts(shape: Shape) -> Goal {
         if shape == FULL {
-            Goal::TwiceTheModel
+            Goal::Times(2.0)
         } else {
             Goal::TwiceTheModelAndFourCopies
         }
@@ -60,11 +67,9 @@ impl Row {
 
     /// The most that the call may take.
     pub fn allowed(&self) -> f64 {
-        match (self.goal, self.parts) {
-            (Goal::SoundnessAndGate, Some([soundness, gate])) => 1.5 * (soundness + gate),
-            (Goal::TwiceTheModelAndFourCopies, _) => 2.0 * self.model + 4.0 * self.copy,
-            (Goal::HalfAgainTheModel, _) => 1.5 * self.model,
-            _ => 2.0 * self.model,
+        match self.goal {
+            Goal::Times(most) => most * self.model,
+            Goal::TwiceTheModelAndFourCopies => 2.0 * self.model + 4.0 * self.copy,
         }
     }
 

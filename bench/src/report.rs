@@ -1,7 +1,7 @@
 //! The tables of RESULTS.md.
 
 use crate::figures::{Figures, Goal, Row};
-use crate::inputs::Shape;
+use crate::inputs::{Shape, FULL};
 use crate::stack::Stack;
 use std::fmt::Write;
 use std::{fs, io};
@@ -10,7 +10,7 @@ const START: &str = "<!-- figures: written by bench/run -->\n";
 const END: &str = "<!-- end of figures -->\n";
 
 /// No call may take more stack than this, and one of a JSON action no more than that.
-const STACK_GOAL: u64 = 256 * 1024;
+const STACK_GOAL: u64 = 100_000;
 const JSON_STACK_GOAL: u64 = 8_000;
 
 /// Puts the tables between the marks of the file.
@@ -45,7 +45,7 @@ pub fn tables(machine: &str, figures: &Figures, stack: &[Stack]) -> String {
     let reached = figures.rows.iter().filter(|row| row.reached()).count();
     let _ =
         writeln!(out, "One copy of a register: {}. Goals reached: {reached} of {}.", time(copy), figures.rows.len());
-    let is_full = |row: &&Row| row.goal == Goal::SoundnessAndGate;
+    let is_full = |row: &&Row| row.shape == Some(FULL) && row.parts.is_some();
     calls(&mut out, "### Calls", &figures.rows);
     gates(&mut out, &figures.rows.iter().filter(is_full).collect::<Vec<_>>());
     texts(&mut out, &figures.rows.iter().filter(|row| row.bytes.is_some()).collect::<Vec<_>>());
@@ -56,18 +56,13 @@ pub fn tables(machine: &str, figures: &Figures, stack: &[Stack]) -> String {
 }
 
 fn calls(out: &mut String, title: &str, rows: &[Row]) {
-    let _ = write!(out, "\n{title}\n\nGoal A: 2 times the model. B: 2 times the model and four copies of a register. ");
-    out.push_str(
-        "C: 1.5 times (the library's soundness + the model's gate without soundness). D: 1.5 times the model.\n\n",
-    );
+    let _ = write!(out, "\n{title}\n\nThe goal is so many times the model, or 2 times and four copies of a register (2+).\n\n");
     out.push_str("| call | register | library | model | library / model | goal | allowed | library / allowed | |\n");
     out.push_str("|---|---|--:|--:|--:|---|--:|--:|---|\n");
     for row in rows {
         let goal = match row.goal {
-            Goal::TwiceTheModel => "A",
-            Goal::TwiceTheModelAndFourCopies => "B",
-            Goal::SoundnessAndGate => "C",
-            Goal::HalfAgainTheModel => "D",
+            Goal::Times(most) => most.to_string(),
+            Goal::TwiceTheModelAndFourCopies => "2+".to_owned(),
         };
         let _ = writeln!(
             out,
@@ -143,7 +138,7 @@ fn growth(out: &mut String, figures: &Figures) {
 
 fn stacks(out: &mut String, stack: &[Stack]) {
     out.push_str(
-        "\n### Stack\n\nGoal: at most 262,144 bytes, of a JSON action 8,000, on the x86-64 library, the caller's copies included.\n\n",
+        "\n### Stack\n\nGoal: at most 100,000 bytes, of a JSON action 8,000, on the x86-64 library, the caller's copies included.\n\n",
     );
     out.push_str("| call | bytes | |\n|---|--:|---|\n");
     for Stack { call, bytes } in stack {

@@ -1,13 +1,22 @@
 -- Laws: An answer put together from numbers that are each the inner answer's is the answer that the inner one is told by. Assumes nothing.
 use mathlib.Core.Path.{_≡_, sym}
+use mathlib.Core.Bool.{true, _&&_, cond}
 use mathlib.Core.List.{List}
 use Prim.Native.Nat.{ℕ}
-use lib.ListN.{length}
+use lib.Dec.{ltb}
 use Rattle.paths.specs.Containment.{reachBetween, contained, isInside, lengthOf}
 use Rattle.paths.specs.Laws.{reach-told}
 use Rattle.paths.specs.declared.Reach.{Reach}
-use Rattle.changes.specs.declared.Granted.{Granted}
-use Rattle.changes.specs.declared.Revoked.{Revoked}
+use Rattle.register.specs.Limits.{claimLimit}
+use Rattle.register.specs.declared.Claim.{Claim}
+use Rattle.register.specs.declared.Register.{Register}
+use Rattle.refusals.specs.Refusals.{outcomeOf, isAccepted}
+use Rattle.refusals.specs.Laws.{outcome-cases, outcome-first}
+use Rattle.refusals.specs.declared.Outcome.{Outcome}
+use Rattle.refusals.specs.declared.Outcome.the-variants.{Accepted}
+use Rattle.changes.specs.Changes.{worldTests, grantTests, appended, granted, Withdrawal, withdrawTests, withdrawn}
+use Rattle.withdrawing.specs.Struck.{struckOf}
+use Rattle.withdrawing.specs.declared.Struck.{Struck}
 use Rattle.actions.specs.declared.Verdict.{Verdict}
 use Rattle.actions.specs.declared.PlanVerdict.{PlanVerdict}
 use Rattle.texts.specs.declared.RegisterRead.{RegisterRead}
@@ -34,13 +43,46 @@ containmentOf w = record { contained = yesNumber (isInside w); length = lengthOf
 pub containment-told : (p q : List ℕ) → containmentOf (reachBetween p q) ≡ containment p q
 containment-told p q = rw (reach-told p q .0, reach-told p q .1)
 
-pub grant-told : {g h : Granted} {a n : ℕ} → g ≡ h → a ≡ acceptedNumber (g .outcome) → n ≡ refusalNumber (g .outcome)
-    → _≡_ {A = GrantAnswer} (record { state = g .register; accepted = a; refusal = n }) (grantAnswer h)
-grant-told same accepted refused = rw (sym same, accepted, refused)
+-- a grant of the claim c with an outcome: accepted, and where there is room, the claim goes to the end of the list
+abbrev pub grantedAnswer : Register → Claim → Outcome → GrantAnswer
+grantedAnswer r c o = record {
+  state = cond (isAccepted o && ltb (r .claims .count) claimLimit) (appended r c) r;
+  accepted = acceptedNumber o;
+  refusal = refusalNumber o;
+}
 
-pub revoke-told : {g h : Revoked} {a n : ℕ} → g ≡ h → a ≡ acceptedNumber (g .outcome) → n ≡ refusalNumber (g .outcome)
-    → _≡_ {A = RevokeAnswer} (record { state = g .register; accepted = a; refusal = n; removed = g .removed }) (revokeAnswer h)
-revoke-told same accepted refused = rw (sym same, accepted, refused)
+-- an accepted claim finds room
+accepted-room : (r : Register) (c : Claim) (moment : ℕ) → outcomeOf (grantTests r c moment) ≡ Accepted → ltb (r .claims .count) claimLimit ≡ true
+unfolding grantTests worldTests
+accepted-room r c moment q =
+    let behind-sound = outcome-first _ _ q .1 in
+    let behind-fit = outcome-first _ _ behind-sound .1 in
+    let behind-names = outcome-first _ _ behind-fit .1 in
+    let behind-fresh = outcome-first _ _ behind-names .1 in
+    outcome-first _ _ behind-fresh .0
+
+-- with the outcome of a grant's tests it is what the grant answers
+pub granted-natural : (r : Register) (c : Claim) (moment : ℕ) → grantedAnswer r c (outcomeOf (grantTests r c moment)) ≡ grantAnswer (granted r c moment)
+unfolding granted
+granted-natural r c moment = outcome-cases (outcomeOf (grantTests r c moment))
+    (λ accepted. rw (accepted, accepted-room r c moment accepted))
+    (λ why refused. rw refused)
+
+-- a withdrawal that left some claims, beside its outcome and how many went
+abbrev pub withdrawnAnswer : Register → Struck → RevokeAnswer
+withdrawnAnswer r k = record {
+  state = record { actors = r .actors; resources = r .resources; claims = k .claims };
+  accepted = acceptedNumber (k .outcome);
+  refusal = refusalNumber (k .outcome);
+  removed = k .removed;
+}
+
+-- of what a withdrawal leaves it is what the withdrawal answers
+pub withdrawn-natural : (r : Register) (w : Withdrawal) → withdrawnAnswer r (struckOf (withdrawn r w)) ≡ revokeAnswer (withdrawn r w)
+unfolding withdrawn
+withdrawn-natural r w = outcome-cases (outcomeOf (withdrawTests r w))
+    (λ accepted. rw accepted)
+    (λ why refused. rw refused)
 
 pub gate-told : {v w : Verdict} {d n : ℕ} {l : List ViolationNumbers} → v ≡ w → d ≡ decisionNumber (v .decision) → n ≡ stopNumber (v .decision)
     → l ≡ violationList (v .violations)

@@ -1,9 +1,8 @@
 // The answers that cross to the portal: structs of numbers, and what gives the numbers of an inner answer. No call asks anything of its
 // caller, and no answer whose numbers are all zero is a yes.
 ghost use mathlib.Core.Path.{_≡_};
-ghost use Rattle.answers.specs.Answers.{yesNumber, acceptedNumber, refusalNumber, decisionNumber, stopNumber, violationNumbers, violationList, judgementNumbers};
-ghost use Rattle.answers.specs.Answers.{judgementList, writtenAnswer, versionNumbers};
-ghost use Rattle.answers.specs.Laws.{containmentOf};
+ghost use Rattle.answers.specs.Answers.{yesNumber, acceptedNumber, refusalNumber, decisionNumber, stopNumber, violationNumbers, violationList, judgementNumbers, judgementList, writtenAnswer, versionNumbers};
+ghost use Rattle.answers.specs.Laws.{containmentOf, grantedAnswer, withdrawnAnswer};
 use actions::Action;
 use actions::Decision;
 use actions::Judgement;
@@ -14,8 +13,13 @@ use actions::Violations;
 use json_actions::ID_BYTES;
 use paths::Reach;
 use refusals::Outcome;
+use register::Actors;
+use register::Claim;
+use register::Claims;
 use register::Register;
+use register::Resources;
 use texts::Written;
+use withdrawing::Struck;
 
 // The answer of a containment: 1 for a yes, with the length of the trimmed outer path, which may be 0. Else zeros.
 #[repr(C)]
@@ -220,7 +224,7 @@ fn violation(v: Violation) -> ViolationNumbers
 pub fn violations(vs: Violations) -> [ViolationNumbers; Violations::MOST]
     ensures { λ y. ⌜ y ≡ violationList vs ⌝ }
 {
-    let top = columns::least(vs.count, Violations::MOST);
+    let top = lists::least(vs.count, Violations::MOST);
     let none = ViolationNumbers { kind: 0, value: 0 };
     let mut list = [none; Violations::MOST];
     let mut i: usize = 0;
@@ -246,7 +250,7 @@ fn judgement(j: Judgement) -> JudgementNumbers
 pub fn judgements(v: PlanVerdict) -> [JudgementNumbers; Plan::ACTIONS]
     ensures { λ y. ⌜ y ≡ judgementList v ⌝ }
 {
-    let top = columns::least(v.count, Plan::ACTIONS);
+    let top = lists::least(v.count, Plan::ACTIONS);
     let none = JudgementNumbers {
         decision: 0,
         violations: 0,
@@ -271,5 +275,75 @@ pub fn written(w: Written) -> WrittenAnswer
         accepted: accepted(outcome),
         refusal: refusal(outcome),
         length: w.length,
+    }
+}
+
+// A grant of a claim with this outcome: accepted, and where there is room, the claim goes to the end of the list; else the register is as it
+// came. Each part is put in place once.
+pub fn granted(r: Register, c: Claim, outcome: Outcome) -> GrantAnswer
+    ensures { λ y. ⌜ y ≡ grantedAnswer r c outcome ⌝ }
+{
+    let a = r.actors;
+    let o = r.resources;
+    let mut claims = r.claims;
+    let at = claims.count;
+    let accepted = accepted(outcome);
+    if (accepted == 1) & (at < Register::CLAIMS) {
+        claims.list[at] = c;
+        claims.count = at + 1;
+    }
+    let people = a.list;
+    let things = o.list;
+    let actors = Actors {
+        list: people,
+        count: a.count,
+    };
+    let resources = Resources {
+        list: things,
+        count: o.count,
+    };
+    GrantAnswer {
+        state: Register {
+            actors,
+            resources,
+            claims,
+        },
+        accepted,
+        refusal: refusal(outcome),
+    }
+}
+
+// A withdrawal that left these claims, with its outcome and how many went. Each part is put in place once.
+pub fn withdrawn(r: Register, struck: Struck) -> RevokeAnswer
+    ensures { λ y. ⌜ y ≡ withdrawnAnswer r struck ⌝ }
+{
+    let a = r.actors;
+    let o = r.resources;
+    let k = struck.claims;
+    let outcome = struck.outcome;
+    let people = a.list;
+    let things = o.list;
+    let actors = Actors {
+        list: people,
+        count: a.count,
+    };
+    let resources = Resources {
+        list: things,
+        count: o.count,
+    };
+    let left = k.list;
+    let claims = Claims {
+        list: left,
+        count: k.count,
+    };
+    RevokeAnswer {
+        state: Register {
+            actors,
+            resources,
+            claims,
+        },
+        accepted: accepted(outcome),
+        refusal: refusal(outcome),
+        removed: struck.removed,
     }
 }

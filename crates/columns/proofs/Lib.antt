@@ -1,2 +1,4 @@
 pub mod Pairing
+pub mod Sheets
 pub mod Walking
+pub mod Filling

@@ -12,7 +12,6 @@ use Rattle.register.specs.declared.Resource.{Resource}
 use Rattle.register.specs.declared.Claim.{Claim}
 use Rattle.columns.specs.declared.ActorColumns.{ActorColumns}
 use Rattle.columns.specs.declared.ResourceColumns.{ResourceColumns}
-use Rattle.columns.specs.declared.ClaimColumns.{ClaimColumns}
 use Rattle.columns.specs.declared.Hops.{Hops}
 use Rattle.columns.specs.declared.Hops.the-variants.{Up, Beyond}
 use Rattle.columns.specs.declared.Place.{Place}
@@ -60,24 +59,12 @@ weightOf c = c .weight
 abbrev pub expiryOf : Claim → ℕ
 expiryOf c = c .expiry
 
--- the columns of a list of actors, of resources, of claims
+-- the columns of a list of actors, of resources
 abbrev pub actorColumns : List Actor → ActorColumns
 actorColumns l = record { ids = map actorId l; kinds = map actorKind l; owners = map ownerOf l }
 
 abbrev pub resourceColumns : List Resource → ResourceColumns
 resourceColumns l = record { ids = map resourceId l; keepers = map keeperOf l; publics = map publicOf l }
-
-abbrev pub claimColumns : List Claim → ClaimColumns
-claimColumns l = record {
-  ids = map claimId l;
-  parents = map parentOf l;
-  grantors = map grantorOf l;
-  holders = map holderOf l;
-  claimed = map claimedOf l;
-  rights = map rightsOf l;
-  weights = map weightOf l;
-  expiries = map expiryOf l;
-}
 
 -- the places below n of an array, the latest first
 unfoldable pub places : ℕ → List ℕ

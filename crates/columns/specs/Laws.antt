@@ -26,7 +26,7 @@ and-none true b e = e
 and-none false b e = refl
 
 -- inside a list the default is not looked at
-pub getD-inside : (l : List ℕ) (i d e : ℕ) → i < length l → getD l i d ≡ getD l i e
+pub getD-inside : {A : Type 0} (l : List A) (i : ℕ) (d e : A) → i < length l → getD l i d ≡ getD l i e
 getD-inside [] i d e h = absurd (omega arith)
 getD-inside (x ∷ l) zero d e h = refl
 getD-inside (x ∷ l) (suc i) d e h = getD-inside l i d e (omega arith)

@@ -1,3 +1,4 @@
 pub mod Columns
 pub mod Laws
-pub mod Filling
+pub mod Sheet
+pub mod SheetLaws

@@ -2,17 +2,42 @@
 // them, and copy nothing. Every call answers for every column and count: past the end of a column there is nothing, and a number
 // is 0.
 ghost use mathlib.Core.Path.{_≡_};
-ghost use Prim.Native.Nat.{min};
+ghost use Prim.Native.Nat.{_<_, min};
 ghost use lib.Dec.{eqb};
-ghost use lib.ListN.{getD, take};
-ghost use Rattle.lists.specs.Lists.{any, every};
-ghost use Rattle.register.specs.Chain.{circling};
-ghost use Rattle.columns.specs.Columns.{latestPlace, chainPlaces, stepsUp, beside, currentAt, actorColumns, resourceColumns, claimColumns, placesUp};
+ghost use lib.ListN.{length, getD, take};
+ghost use Rattle.lists.specs.Lists.{any};
+ghost use Rattle.register.specs.Limits.{claimLimit};
+ghost use Rattle.register.specs.Register.{claimsOf};
+ghost use Rattle.columns.specs.Columns.{latestPlace, stepsUp, beside, actorColumns, resourceColumns, placesUp};
+ghost use Rattle.columns.specs.Sheet.{sheetLimit, columnOf, claimAt, claimPut, sheetWith};
 use register::Actors;
 use register::Claim;
 use register::Claims;
 use register::Register;
 use register::Resources;
+
+// A sheet of claims: nine columns one behind the other, each with a number for every place that a claim may stand at.
+pub const SHEET: usize = 2304;
+
+// The columns of a sheet. An expiry is kept as what it is past the last whole run of moments, and how many such runs there are: none where it is in
+// range.
+pub const IDS: usize = 0;
+
+pub const PARENTS: usize = 1;
+
+pub const GRANTORS: usize = 2;
+
+pub const HOLDERS: usize = 3;
+
+pub const CLAIMED: usize = 4;
+
+pub const RIGHTS: usize = 5;
+
+pub const WEIGHTS: usize = 6;
+
+pub const EXPIRIES: usize = 7;
+
+pub const LATE: usize = 8;
 
 // Where a number stands in a column.
 pub enum Place {
@@ -38,18 +63,6 @@ pub struct ResourceColumns {
     pub ids: [u32; Register::RESOURCES],
     pub keepers: [u32; Register::RESOURCES],
     pub publics: [u32; Register::RESOURCES],
-}
-
-// The columns of a list of claims.
-pub struct ClaimColumns {
-    pub ids: [u32; Register::CLAIMS],
-    pub parents: [u32; Register::CLAIMS],
-    pub grantors: [u32; Register::CLAIMS],
-    pub holders: [u32; Register::CLAIMS],
-    pub claimed: [u32; Register::CLAIMS],
-    pub rights: [u32; Register::CLAIMS],
-    pub weights: [u32; Register::CLAIMS],
-    pub expiries: [u64; Register::CLAIMS],
 }
 
 // The actors' columns, in one pass.
@@ -90,40 +103,74 @@ pub fn resource_columns(k: Resources) -> ResourceColumns
     columns
 }
 
-// The claims' columns, in one pass.
-pub fn claim_columns(k: Claims) -> ClaimColumns
-    ensures { λ r. ⌜ r ≡ claimColumns (k .list) ⌝ }
+// Puts a claim's numbers into their columns at place `i`.
+fn put_claim(sheet: &mut [u32], i: usize, c: Claim)
+    requires { ⌜ (i < claimLimit) × (length (now sheet) ≡ sheetLimit) ⌝ }
+    ensures { λ _. ⌜ now (sheet .exit) ≡ claimPut (now (sheet .entry)) i c ⌝ }
 {
-    let mut columns = ClaimColumns {
-        ids: [0; Register::CLAIMS],
-        parents: [0; Register::CLAIMS],
-        grantors: [0; Register::CLAIMS],
-        holders: [0; Register::CLAIMS],
-        claimed: [0; Register::CLAIMS],
-        rights: [0; Register::CLAIMS],
-        weights: [0; Register::CLAIMS],
-        expiries: [0; Register::CLAIMS],
-    };
-    let mut i: usize = 0;
-    while i < Register::CLAIMS {
-        columns.ids[i] = k.list[i].id;
-        columns.parents[i] = k.list[i].parent;
-        columns.grantors[i] = k.list[i].grantor;
-        columns.holders[i] = k.list[i].holder;
-        columns.claimed[i] = k.list[i].resource;
-        columns.rights[i] = k.list[i].rights;
-        columns.weights[i] = k.list[i].weight;
-        columns.expiries[i] = k.list[i].expiry;
-        i += 1;
-    }
-    columns
+    sheet[IDS * Register::CLAIMS + i] = c.id;
+    sheet[PARENTS * Register::CLAIMS + i] = c.parent;
+    sheet[GRANTORS * Register::CLAIMS + i] = c.grantor;
+    sheet[HOLDERS * Register::CLAIMS + i] = c.holder;
+    sheet[CLAIMED * Register::CLAIMS + i] = c.resource;
+    sheet[RIGHTS * Register::CLAIMS + i] = c.rights;
+    sheet[WEIGHTS * Register::CLAIMS + i] = c.weight;
+    sheet[EXPIRIES * Register::CLAIMS + i] = (c.expiry % register::MOMENT_END) as u32;
+    sheet[LATE * Register::CLAIMS + i] = (c.expiry / register::MOMENT_END) as u32;
 }
 
-// The lesser of two numbers.
-pub fn least(a: usize, b: usize) -> usize
-    ensures { λ r. ⌜ r ≡ min a b ⌝ }
+// Puts the claims that stand into a sheet, from its first place on. What is no sheet is left as it is.
+pub fn put_claims(sheet: &mut [u32], k: Claims)
+    ensures { λ _. ⌜ now (sheet .exit) ≡ sheetWith (now (sheet .entry)) (claimsOf k) ⌝ }
 {
-    if a < b { a } else { b }
+    if sheet.len() == SHEET {
+        let top = lists::least(k.count, Register::CLAIMS);
+        let mut i: usize = 0;
+        while i < top {
+            let c = k.list[i];
+            put_claim(sheet, i, c);
+            i += 1;
+        }
+    }
+}
+
+// A column of a sheet: none where the sheet is too short, or has no such column.
+pub fn column<'a>(sheet: &'a [u32], which: usize) -> &'a [u32]
+    ensures { λ r. ⌜ now r ≡ columnOf which (now (sheet .entry)) ⌝ }
+{
+    if sheet.len() < SHEET {
+        return &sheet[..0];
+    }
+    if LATE < which {
+        return &sheet[..0];
+    }
+    let start = which * Register::CLAIMS;
+    let end = start + Register::CLAIMS;
+    &sheet[start..end]
+}
+
+// The claim at a place of a sheet, all zeros past its end.
+pub fn claim_at(sheet: &[u32], i: usize) -> Claim
+    ensures { λ r. ⌜ r ≡ claimAt (now (sheet .entry)) i ⌝ }
+{
+    if sheet.len() < SHEET {
+        return Claim::none();
+    }
+    if Register::CLAIMS <= i {
+        return Claim::none();
+    }
+    let low = sheet[EXPIRIES * Register::CLAIMS + i] as u64;
+    let late = sheet[LATE * Register::CLAIMS + i] as u64;
+    Claim {
+        id: sheet[IDS * Register::CLAIMS + i],
+        parent: sheet[PARENTS * Register::CLAIMS + i],
+        grantor: sheet[GRANTORS * Register::CLAIMS + i],
+        holder: sheet[HOLDERS * Register::CLAIMS + i],
+        resource: sheet[CLAIMED * Register::CLAIMS + i],
+        rights: sheet[RIGHTS * Register::CLAIMS + i],
+        weight: sheet[WEIGHTS * Register::CLAIMS + i],
+        expiry: low + register::MOMENT_END * late,
+    }
 }
 
 // The number at a place of a column, 0 past its end.
@@ -137,7 +184,7 @@ pub fn number_at(column: &[u32], at: usize) -> u32
 pub fn is_among(column: &[u32], n: usize, x: u32) -> bool
     ensures { λ r. ⌜ r ≡ any (eqb x) (take n (now (column .entry))) ⌝ }
 {
-    let top = least(n, column.len());
+    let top = lists::least(n, column.len());
     let mut hit = false;
     let mut i: usize = 0;
     while i < top {
@@ -151,7 +198,7 @@ pub fn is_among(column: &[u32], n: usize, x: u32) -> bool
 pub fn is_beside<'a>(column: &'a [u32], other: &'a [u32], n: usize, x: u32, y: u32) -> bool
     ensures { λ r. ⌜ r ≡ beside (take n (now (column .entry))) (take n (now (other .entry))) x y ⌝ }
 {
-    let top = least(n, least(column.len(), other.len()));
+    let top = lists::least(n, lists::least(column.len(), other.len()));
     let mut hit = false;
     let mut i: usize = 0;
     while i < top {
@@ -165,7 +212,7 @@ pub fn is_beside<'a>(column: &'a [u32], other: &'a [u32], n: usize, x: u32, y: u
 pub fn latest_place(column: &[u32], n: usize, x: u32) -> Place
     ensures { λ r. ⌜ r ≡ latestPlace (now (column .entry)) n x ⌝ }
 {
-    let mut i = least(n, column.len());
+    let mut i = lists::least(n, column.len());
     while 0 < i {
         i -= 1;
         if column[i] == x {
@@ -176,15 +223,15 @@ pub fn latest_place(column: &[u32], n: usize, x: u32) -> Place
 }
 
 // The place that is kept for a place, the place itself past the end.
-fn place_above(ups: &[usize], at: usize) -> usize
+pub fn place_above(ups: &[u16], at: usize) -> usize
     ensures { λ r. ⌜ r ≡ getD (now (ups .entry)) at at ⌝ }
 {
-    if at < ups.len() { ups[at] } else { at }
+    if at < ups.len() { ups[at] as usize } else { at }
 }
 
 // The walk up the chain of the claim at the place `from`, by the places of the parents: at most 16 steps. A parent's place is an earlier one;
 // any other number says that there is none.
-pub fn hop_count(ups: &[usize], from: usize) -> Hops
+pub fn hop_count(ups: &[u16], from: usize) -> Hops
     ensures { λ r. ⌜ r ≡ stepsUp (placesUp (now (ups .entry)) from) ⌝ }
 {
     let mut at = from;
@@ -202,102 +249,4 @@ pub fn hop_count(ups: &[usize], from: usize) -> Hops
         return Hops::Up(steps);
     }
     Hops::Beyond
-}
-
-// Whether `h` holds a claim on the chain from the parent number `p` up, or is the grantor of that chain's root.
-pub fn circles<'a>(
-    ids: &'a [u32],
-    parents: &'a [u32],
-    grantors: &'a [u32],
-    holders: &'a [u32],
-    n: usize,
-    p: u32,
-    h: u32,
-) -> bool
-    ensures { λ r. ⌜ r ≡ circling (λ j. getD (now (grantors .entry)) j 0) (λ j. getD (now (holders .entry)) j 0) (chainPlaces (now (ids .entry)) (now (parents .entry)) n p) h ⌝ }
-{
-    let mut below = n;
-    let mut next = p;
-    let mut top = false;
-    while 0 < below {
-        if next == 0 {
-            return top;
-        }
-        let place = latest_place(ids, below, next);
-        match place {
-            Place::At(member) => {
-                if number_at(holders, member) == h {
-                    return true;
-                }
-                top = number_at(grantors, member) == h;
-                next = number_at(parents, member);
-                below = member;
-            }
-            Place::Nowhere => {
-                return top;
-            }
-        }
-    }
-    top
-}
-
-// The moment at a place of a column, 0 past its end.
-fn moment_at(column: &[u64], at: usize) -> u64
-    ensures { λ r. ⌜ r ≡ getD (now (column .entry)) at 0 ⌝ }
-{
-    if at < column.len() { column[at] } else { 0 }
-}
-
-// Whether the claim at a place is current at the moment, by the columns of weights and expiries.
-fn is_current_at<'a>(weights: &'a [u32], expiries: &'a [u64], at: usize, moment: u64) -> bool
-    ensures { λ r. ⌜ r ≡ currentAt (now (weights .entry)) (now (expiries .entry)) moment at ⌝ }
-{
-    let weight = number_at(weights, at);
-    let expiry = moment_at(expiries, at);
-    let c = Claim {
-        id: 0,
-        parent: 0,
-        grantor: 0,
-        holder: 0,
-        resource: 0,
-        rights: 0,
-        weight,
-        expiry,
-    };
-    c.is_current(moment)
-}
-
-// Whether every claim on the chain from the number `p` up is current at the moment; the chain of a number that no claim has is empty.
-pub fn all_current<'a>(
-    ids: &'a [u32],
-    parents: &'a [u32],
-    weights: &'a [u32],
-    expiries: &'a [u64],
-    n: usize,
-    p: u32,
-    moment: u64,
-) -> bool
-    ensures { λ r. ⌜ r ≡ every (currentAt (now (weights .entry)) (now (expiries .entry)) moment) (chainPlaces (now (ids .entry)) (now (parents .entry)) n p) ⌝ }
-{
-    let mut below = n;
-    let mut next = p;
-    while 0 < below {
-        if next == 0 {
-            return true;
-        }
-        let place = latest_place(ids, below, next);
-        match place {
-            Place::At(member) => {
-                if !is_current_at(weights, expiries, member, moment) {
-                    return false;
-                }
-                next = number_at(parents, member);
-                below = member;
-            }
-            Place::Nowhere => {
-                return true;
-            }
-        }
-    }
-    true
 }

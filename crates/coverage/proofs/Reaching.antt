@@ -13,8 +13,8 @@ use Rattle.paths.specs.Containment.{reachBetween}
 use Rattle.paths.specs.Laws.{reached-written}
 use Rattle.paths.specs.declared.Reach.the-variants.{Outside, Inside}
 use Rattle.register.specs.Limits.{resourceLimit, pathLimit}
-use Rattle.flat_paths.specs.Laid.{partAt}
-use Rattle.flat_paths.specs.Laws.{part-length}
+use Rattle.coverage.specs.Laid.{partAt}
+use Rattle.coverage.specs.LaidLaws.{part-length}
 use Rattle.coverage.specs.Coverage.{reaching, reachAt, reachTo, reachFrom, shortAt}
 
 -- what was asked of the number at a place was asked of the column; the test is whether the right is missing

@@ -1,4 +1,4 @@
--- Working: Covering by columns. What they are in 01's words is proved in Laws (`reaching-natural`, `covering-first`) and in sights/specs/Relying
+-- Working: Covering by columns. What they are in 01's words is proved in Laws (`reaching-natural`, `covering-first`) and in uses/specs/Relying
 -- (`nearest-natural`).
 use mathlib.Core.Bool.{Bool, _&&_, cond}
 use mathlib.Core.List.{List, [], _∷_}
@@ -12,7 +12,7 @@ use Rattle.paths.specs.declared.Reach.the-variants.{Outside, Inside}
 use Rattle.register.specs.Limits.{resourceLimit}
 use Rattle.columns.specs.declared.Place.{Place}
 use Rattle.columns.specs.declared.Place.the-variants.{At, Nowhere}
-use Rattle.flat_paths.specs.Laid.{partAt}
+use Rattle.coverage.specs.Laid.{partAt}
 
 -- the claim at place j has the right, on a resource whose path contains the one at the spot
 abbrev pub reaching : List ℕ → List ℕ → List ℕ → List ℕ → ℕ → ℕ → ℕ → Bool

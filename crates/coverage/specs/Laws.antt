@@ -14,21 +14,21 @@ use Rattle.lists.specs.Lists.{All, filter}
 use Rattle.rights.specs.Rights.{hasRight}
 use Rattle.paths.specs.Containment.{contained}
 use Rattle.register.specs.Limits.{resourceLimit, pathLimit}
-use Rattle.register.specs.Register.{pathOf, noResource, noClaim}
+use Rattle.register.specs.Register.{resourcesOf, pathOf, noResource, noClaim}
 use Rattle.register.specs.declared.Claim.{Claim}
 use Rattle.register.specs.declared.Resources.{Resources}
 use Rattle.columns.specs.Columns.{rightsOf}
 use Rattle.columns.specs.declared.Place.{Place}
 use Rattle.columns.specs.declared.Place.the-variants.{At, Nowhere}
-use Rattle.flat_paths.specs.Laid.{laid}
-use Rattle.flat_paths.specs.Laws.{part-laid}
+use Rattle.coverage.specs.Laid.{laid}
+use Rattle.coverage.specs.LaidLaws.{part-laid}
 use Rattle.coverage.specs.Coverage.{reaching, firstCovering, nearestFrom}
 
 -- ---- a claim reaches by its rights and by the paths of two resources
 
 -- whether the path of the resource at place x contains that of the resource at place y
 abbrev pub containing : Resources → ℕ → ℕ → Bool
-containing k x y = contained (pathOf (getD (k .list) x noResource)) (pathOf (getD (k .list) y noResource))
+containing k x y = contained (pathOf (getD (resourcesOf k) x noResource)) (pathOf (getD (resourcesOf k) y noResource))
 
 module _ (cs : List Claim) (spots : List ℕ) (k : Resources) (sized : All (λ o. length (o .path) ≡ pathLimit) (k .list)) (right spot j : ℕ) where
   pub reaching-natural : reaching (map rightsOf cs) spots (laid k .bytes) (laid k .lens) right spot j

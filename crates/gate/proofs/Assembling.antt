@@ -2,8 +2,10 @@
 use mathlib.Core.Path.{_≡_, refl, sym, ap, _∙_}
 use mathlib.Core.Bool.{true, false, cond}
 use mathlib.Core.List.{List, [], _∷_}
+use Prim.Native.Nat.{ℕ}
 use lib.Dec.{eqb, eqb·suc-zero}
 use lib.ListN.{length}
+use Rattle.register.specs.Limits.{claimLimit}
 use Rattle.register.specs.Register.{Shaped}
 use Rattle.register.specs.declared.Register.{Register}
 use Rattle.rules.specs.Sound.{sound}
@@ -19,21 +21,28 @@ use Rattle.refusals.specs.declared.Refusal.{Refusal}
 use Rattle.refusals.specs.declared.Refusal.the-variants.{Unsound}
 use Rattle.verdicts.specs.Gate.{violationsOf, listed, padded, decided, actionTests, gateTests, gated}
 use Rattle.verdicts.specs.Laws.{gated-stopped, gated-judged}
-use Rattle.uses_judging.specs.declared.UsesJudged.{UsesJudged}
+use Rattle.verdicts.specs.Sameness.{gated-same}
+use Rattle.columns.specs.Sheet.{sheetOf}
+use Rattle.soundness.specs.Laws.{register-standing}
+use Rattle.coverage.specs.Laid.{laid}
+use Rattle.uses.specs.declared.UsesJudged.{UsesJudged}
 use Rattle.gate.specs.Judged.{actionJudged, viewOf, lentOf, lentTests, judgedBy}
+use Rattle.gate.specs.Sheets.{sheeted}
 use Rattle.gate.specs.Laws.{judged-natural, tests-natural, view-natural}
 use Rattle.gate.specs.declared.View.{View}
 
 -- what is told of the view of a register is told of the register
 module _ (r : Register) (a : Action) {v : View} (viewed : v ≡ viewOf r) where
-  pub outcome-seen : {outcome : Outcome} → outcome ≡ outcomeOf (lentTests (v .actors .ids) (v .counts .actors) a) → outcome ≡ outcomeOf (actionTests r a)
+  pub outcome-seen : {outcome : Outcome} → outcome ≡ outcomeOf (lentTests (v .actors .ids) (v .counts .actors) a)
+      → outcome ≡ outcomeOf (actionTests (sheeted r) a)
   outcome-seen e = e ∙ ap (λ w. outcomeOf (lentTests (w .actors .ids) (w .counts .actors) a)) viewed ∙ ap outcomeOf (tests-natural r a)
 
-  pub judged-seen : Shaped r → sound r ≡ true → outcomeOf (actionTests r a) ≡ Accepted → {judged : UsesJudged}
-      → judged ≡ judgedBy (lentOf v) a → judged ≡ actionJudged r a
+  pub judged-seen : {sheet bytes : List ℕ} → sheet ≡ sheetOf (r .claims) → bytes ≡ laid (r .resources) .bytes
+      → Shaped r → sound (sheeted r) ≡ true → outcomeOf (actionTests (sheeted r) a) ≡ Accepted → {judged : UsesJudged}
+      → judged ≡ judgedBy (lentOf v sheet bytes) a → judged ≡ actionJudged (sheeted r) a
   unfolding actionTests
-  judged-seen shaped h passed e =
-      e ∙ ap (λ w. judgedBy (lentOf w) a) viewed ∙ view-natural r shaped h a (outcome-accepted _ _ passed)
+  judged-seen put of-bytes shaped h passed e =
+      e ∙ rw (viewed, put, of-bytes) (view-natural r shaped h a (outcome-accepted _ _ passed))
 
 -- permitted means an empty list
 decided-natural : (vs : List Violation) → cond (eqb (length vs) 0) Permitted Refused ≡ decided vs
@@ -59,3 +68,7 @@ pub gate-stopped : (r : Register) (a : Action) (why : Refusal) → sound r ≡ t
     _≡_ {A = Verdict} (record { decision = Stopped why; violations = listed []; hops = padded [] }) (gated r a)
 unfolding gateTests
 gate-stopped r a why h stops = sym (gated-stopped r a why (outcome-pass _ _ h ∙ stops))
+
+-- a register whose claims are read from their sheet gets the same answer
+pub gate-sheeted : (r : Register) → length (r .claims .list) ≡ claimLimit → (a : Action) → gated (sheeted r) a ≡ gated r a
+gate-sheeted r long a = gated-same (sheeted r) r (register-standing r long) a

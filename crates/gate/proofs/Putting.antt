@@ -3,8 +3,8 @@ use mathlib.Core.Path.{_≡_, sym}
 use mathlib.Core.List.{List, _∷_, _++_}
 use Rattle.actions.specs.declared.Violation.{Violation}
 use Rattle.actions.specs.declared.Violations.{Violations}
-use Rattle.violations.specs.Pushed.{pushed, pushedAll}
-use Rattle.violations.specs.Laws.{pushed-all-append}
+use Rattle.uses.specs.Pushed.{pushed, pushedAll}
+use Rattle.uses.specs.PushedLaws.{pushed-all-append}
 
 pub two-pushed : (vs : Violations) (l m : List Violation) (first : Violations) → first ≡ pushedAll vs l → pushedAll first m ≡ pushedAll vs (l ++ m)
 two-pushed vs l m first e = rw e (sym (pushed-all-append vs l m))

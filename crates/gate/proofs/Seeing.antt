@@ -1,78 +1,81 @@
 -- What is taken out of a register is its view, and an action judged step by step is judged by what is lent. Assumes nothing.
-use mathlib.Core.Path.{_≡_, _∙_}
+use mathlib.Core.Path.{_≡_}
 use mathlib.Core.Bool.{Bool, not, _&&_, cond}
 use mathlib.Core.List.{List, []}
-use Prim.Native.Nat.{ℕ}
+use Prim.Native.Nat.{ℕ, _≤_}
 use lib.Dec.{eqb}
-use lib.ListN.{take}
-use Rattle.register.specs.Limits.{resourceLimit, claimLimit}
-use Rattle.register.specs.declared.Register.{Register}
-use Rattle.columns.specs.Columns.{actorColumns, resourceColumns, claimColumns}
+use lib.ListN.{length, take}
+use Rattle.register.specs.Limits.{resourceLimit}
+use Rattle.register.specs.declared.Actors.{Actors}
+use Rattle.register.specs.declared.Resources.{Resources}
+use Rattle.columns.specs.Columns.{actorColumns, resourceColumns}
+use Rattle.columns.specs.Sheet.{columnOf}
 use Rattle.columns.specs.declared.ActorColumns.{ActorColumns}
 use Rattle.columns.specs.declared.ResourceColumns.{ResourceColumns}
-use Rattle.columns.specs.declared.ClaimColumns.{ClaimColumns}
-use Rattle.finding.specs.Finding.{placesOf, earlierPlaces}
+use Rattle.actions.specs.Actions.{useLimit}
 use Rattle.actions.specs.declared.Action.{Action}
 use Rattle.actions.specs.declared.Violations.{Violations}
 use Rattle.verdicts.specs.Gate.{listed}
-use Rattle.violations.specs.Pushed.{pushedAll}
-use Rattle.flat_paths.specs.Laid.{laid}
-use Rattle.flat_paths.specs.declared.Paths.{Paths}
-use Rattle.gathering.specs.Gathering.{endsOf, gatheredBy}
-use Rattle.gathering.specs.Laws.{gathered-first}
-use Rattle.gathering.specs.declared.Gathered.{Gathered}
-use Rattle.uses_judging.specs.Judging.{usesJudged}
-use Rattle.uses_judging.specs.declared.UsesJudged.{UsesJudged}
-use Rattle.gate.specs.Judged.{besides, viewOf, Lent, machineBy, ownerBy, ownedBy, judgedBy}
+use Rattle.uses.specs.Pushed.{pushedAll}
+use Rattle.soundness.specs.declared.Findings.{Findings}
+use Rattle.coverage.specs.Gathering.{endsOf, gatheredBy}
+use Rattle.coverage.specs.GatheringLaws.{gathered-first, held-below}
+use Rattle.coverage.specs.declared.Gathered.{Gathered}
+use Rattle.uses.specs.Passes.{usesBy, reliedAll, coveredAll, hopsAll, faultsAll}
+use Rattle.uses.specs.PassesLaws.{passes-natural}
+use Rattle.uses.specs.declared.Uses.{Uses}
+use Rattle.uses.specs.declared.UsesJudged.{UsesJudged}
+use Rattle.gate.specs.Judged.{besides, viewBy, Lent, machineBy, ownerBy, ownedBy, sightBy, judgedBy}
 use Rattle.gate.specs.declared.View.{View}
 
--- columns that are each the register's are its view
-pub viewed : (r : Register) {actors : ActorColumns} {resources : ResourceColumns} {claims : ClaimColumns} {paths : Paths} {spots ups ends : List ℕ}
-    → actors ≡ actorColumns (r .actors .list) → resources ≡ resourceColumns (r .resources .list) → claims ≡ claimColumns (r .claims .list)
-    → paths ≡ laid (r .resources) → spots ≡ placesOf (resources .ids) (r .resources .count) (claims .claimed) (r .claims .count) resourceLimit
-    → ups ≡ earlierPlaces (claims .ids) (claims .parents) (r .claims .count) claimLimit
-    → ends ≡ endsOf (claims .weights) (claims .expiries) ups (r .claims .count)
+-- columns that are each those of the actors, the resources and the claims are the view
+pub viewed : (a : Actors) (o : Resources) (s : List ℕ) (n : ℕ) (lens : List ℕ) (known : Findings) {actors : ActorColumns} {resources : ResourceColumns}
+    {weights expiries ends : List ℕ} → actors ≡ actorColumns (a .list) → resources ≡ resourceColumns (o .list) → weights ≡ columnOf 6 s
+    → expiries ≡ columnOf 7 s → ends ≡ endsOf weights expiries (known .ups) n
     → _≡_ {A = View} (record {
-      counts = record { actors = r .actors .count; resources = r .resources .count; claims = r .claims .count };
+      counts = record { actors = a .count; resources = o .count; claims = n };
       actors = actors;
       resources = resources;
-      claims = claims;
-      paths = paths;
-      spots = spots;
-      ups = ups;
+      lens = lens;
+      ups = known .ups;
+      spots = known .spots;
       ends = ends;
-    }) (viewOf r)
-viewed r of-actors of-resources of-claims of-paths of-spots of-ups of-ends =
-    rw (of-ends, of-spots, of-ups, of-actors, of-resources, of-claims, of-paths)
+    }) (viewBy a o s n lens known)
+viewed a o s n lens known of-actors of-resources of-weights of-expiries of-ends = rw (of-ends, of-actors, of-resources, of-weights, of-expiries)
 
-module _ (l : Lent) (a : Action) {machine : Bool} {owner asked : ℕ} {vs : Violations} {own theirs : Gathered} {y : UsesJudged} where
+module _ (l : Lent) (a : Action) (few : length (l .reports) ≤ resourceLimit) (long : length (a .uses) ≡ useLimit) {machine : Bool} {owner asked : ℕ}
+    {vs violations : Violations} {holders rights relied covering hops : List ℕ} {own theirs : Gathered} {uses : Uses} where
   -- the uses judged by what was gathered, behind the other violations
   pub judged-lent : machine ≡ machineBy l (a .actor) → owner ≡ ownerBy l (a .actor) → vs ≡ pushedAll (listed []) (besides machine owner a)
-      → own ≡ gatheredBy (l .holders) (l .ends) (l .claims) (a .actor) (a .now)
+      → holders ≡ l .holders → rights ≡ l .rights
+      → own ≡ gatheredBy holders (l .ends) (l .claims) (a .actor) (a .now)
       → asked ≡ cond (machine && not (eqb owner 0)) (l .claims) 0
-      → theirs ≡ gatheredBy (l .holders) (l .ends) asked owner (a .now)
-      → y ≡ usesJudged (record {
-        own = take (own .count) (own .places);
-        theirs = take (theirs .count) (theirs .places);
-        owned = machine && not (eqb owner 0);
-        rights = l .rights;
-        spots = l .spots;
-        bytes = l .bytes;
-        lens = l .lens;
-        publics = l .publics;
-        ups = l .ups;
-      }) (l .reports) (l .resources) a vs
-      → y ≡ judgedBy l a
+      → theirs ≡ gatheredBy holders (l .ends) asked owner (a .now)
+      → uses ≡ usesBy (l .reports) (l .resources) a
+      → relied ≡ reliedAll (take (own .count) (own .places)) rights (l .spots) (l .bytes) (l .lens) uses
+      → covering ≡ coveredAll (take (theirs .count) (theirs .places)) rights (l .spots) (l .bytes) (l .lens) uses
+      → hops ≡ hopsAll (l .ups) relied (uses .count)
+      → violations ≡ pushedAll vs (faultsAll relied covering (machine && not (eqb owner 0)) (l .publics) uses)
+      → _≡_ {A = UsesJudged} (record { violations = violations; hops = hops }) (judgedBy l a)
   unfolding judgedBy
-  judged-lent of-machine of-owner of-violations of-own of-asked of-theirs judged =
-      judged
-      ∙ rw (
+  judged-lent of-machine of-owner of-first of-holders of-rights of-own of-asked of-theirs of-uses of-relied of-covering of-hops of-violations =
+      rw (
         of-violations,
+        of-hops,
+        of-relied,
+        of-covering,
+        of-uses,
         of-own,
         of-theirs,
         of-asked,
+        of-first,
+        of-holders,
+        of-rights,
         of-machine,
         of-owner,
         gathered-first (l .holders) (l .ends) (l .claims) (a .actor) (a .now),
         gathered-first (l .holders) (l .ends) (cond (ownedBy l (a .actor)) (l .claims) 0) (ownerBy l (a .actor)) (a .now),
       )
+      (passes-natural (sightBy l (a .now) (a .actor)) (l .reports) (l .resources) a few long (held-below (l .holders) (l .ends) (l .claims) (a .actor) (a .now))
+      (held-below (l .holders) (l .ends) (cond (ownedBy l (a .actor)) (l .claims) 0) (ownerBy l (a .actor)) (a .now))
+      (pushedAll (listed []) (besides (machineBy l (a .actor)) (ownerBy l (a .actor)) a)))

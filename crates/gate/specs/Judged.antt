@@ -7,9 +7,12 @@ use lib.ListN.{take}
 use Rattle.lists.specs.Lists.{any}
 use Rattle.register.specs.Limits.{machineKind}
 use Rattle.register.specs.Register.{actorsOf}
+use Rattle.register.specs.declared.Actors.{Actors}
+use Rattle.register.specs.declared.Resources.{Resources}
 use Rattle.register.specs.declared.Register.{Register}
 use Rattle.rules.specs.Sound.{isMachine}
-use Rattle.columns.specs.Columns.{resourceId, actorColumns, resourceColumns, claimColumns, latestPlace, beside}
+use Rattle.columns.specs.Columns.{resourceId, actorColumns, resourceColumns, latestPlace, beside}
+use Rattle.columns.specs.Sheet.{columnOf, sheetOf}
 use Rattle.refusals.specs.Refusals.{Test}
 use Rattle.refusals.specs.declared.Refusal.the-variants.{OutOfRange, Unknown}
 use Rattle.actions.specs.Actions.{governsOf, actionFits}
@@ -17,13 +20,14 @@ use Rattle.actions.specs.declared.Action.{Action}
 use Rattle.actions.specs.declared.Violation.{Violation}
 use Rattle.actions.specs.declared.Violation.the-variants.{NoOwner}
 use Rattle.verdicts.specs.Gate.{flagsSet, governed, listed}
-use Rattle.violations.specs.Pushed.{pushedAll}
-use Rattle.flat_paths.specs.Laid.{laid}
-use Rattle.gathering.specs.Gathering.{heldPlaces}
-use Rattle.use_judging.specs.Uses.{Sight}
-use Rattle.sights.specs.Sights.{ownerAt, ownerIn, spotsOf, upsOf, sightOf, endsIn}
-use Rattle.uses_judging.specs.Judging.{usesJudged}
-use Rattle.uses_judging.specs.declared.UsesJudged.{UsesJudged}
+use Rattle.uses.specs.Pushed.{pushedAll}
+use Rattle.soundness.specs.Judged.{judgedBy as soundnessBy}
+use Rattle.soundness.specs.declared.Findings.{Findings}
+use Rattle.coverage.specs.Laid.{laid}
+use Rattle.coverage.specs.Gathering.{heldPlaces, endsOf}
+use Rattle.uses.specs.Uses.{Sight, usesJudged}
+use Rattle.uses.specs.declared.UsesJudged.{UsesJudged}
+use Rattle.uses.specs.Sights.{ownerAt, ownerIn, sightOf}
 use Rattle.gate.specs.declared.View.{View}
 
 -- the violations besides those of the uses, in 01's order, of an actor that is a machine or not and has this owner or none
@@ -37,18 +41,24 @@ actionJudged r a =
     usesJudged (sightOf r (a .now) (a .actor)) (map resourceId (r .resources .list)) (r .resources .count) a
     (pushedAll (listed []) (besides (isMachine (actorsOf (r .actors)) (a .actor)) (ownerIn r (a .actor)) a))
 
--- what is looked at of a register, taken out of it
-abbrev pub viewOf : Register → View
-viewOf r = record {
-  counts = record { actors = r .actors .count; resources = r .resources .count; claims = r .claims .count };
-  actors = actorColumns (r .actors .list);
-  resources = resourceColumns (r .resources .list);
-  claims = claimColumns (r .claims .list);
-  paths = laid (r .resources);
-  spots = spotsOf r;
-  ups = upsOf r;
-  ends = endsIn r;
+-- what is looked at besides the claims' sheet and the bytes of the paths, by the actors and resources, that sheet, the number of claims, the lengths
+-- of the paths, and where parents and resources stand
+abbrev pub viewBy : Actors → Resources → List ℕ → ℕ → List ℕ → Findings → View
+viewBy a o s n lens known = record {
+  counts = record { actors = a .count; resources = o .count; claims = n };
+  actors = actorColumns (a .list);
+  resources = resourceColumns (o .list);
+  lens = lens;
+  ups = known .ups;
+  spots = known .spots;
+  ends = endsOf (columnOf 6 s) (columnOf 7 s) (known .ups) n;
 }
+
+-- that of a register
+abbrev pub viewOf : Register → View
+viewOf r =
+    viewBy (r .actors) (r .resources) (sheetOf (r .claims)) (r .claims .count) (laid (r .resources) .lens)
+    (soundnessBy (r .actors) (r .resources) (sheetOf (r .claims)) (r .claims .count))
 
 -- the columns that are lent, with the counts of the lists
 pub record Lent : Type 0 where
@@ -68,9 +78,9 @@ pub record Lent : Type 0 where
   pub ups : List ℕ
   pub claims : ℕ
 
--- those of a view
-abbrev pub lentOf : View → Lent
-lentOf v = record {
+-- those of a view, a sheet of claims and the bytes of the paths
+abbrev pub lentOf : View → List ℕ → List ℕ → Lent
+lentOf v s bytes = record {
   names = v .actors .ids;
   kinds = v .actors .kinds;
   owners = v .actors .owners;
@@ -78,15 +88,19 @@ lentOf v = record {
   reports = v .resources .ids;
   publics = v .resources .publics;
   resources = v .counts .resources;
-  bytes = v .paths .bytes;
-  lens = v .paths .lens;
-  holders = v .claims .holders;
-  rights = v .claims .rights;
+  bytes = bytes;
+  lens = v .lens;
+  holders = columnOf 3 s;
+  rights = columnOf 5 s;
   ends = v .ends;
   spots = v .spots;
   ups = v .ups;
   claims = v .counts .claims;
 }
+
+-- those of a register
+abbrev pub lentIn : Register → Lent
+lentIn r = lentOf (viewOf r) (sheetOf (r .claims)) (laid (r .resources) .bytes)
 
 -- tests 2 and 3, over the ids of the first n actors
 abbrev pub lentTests : List ℕ → ℕ → Action → List Test

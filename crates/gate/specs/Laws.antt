@@ -4,33 +4,40 @@ use mathlib.Core.Bool.{Bool, true, false, _&&_, cond}
 use mathlib.Core.List.{List, [], _∷_, _++_, map, append-assoc}
 use Prim.Native.Nat.{ℕ, suc}
 use native.Mathlib.Omega.{arith}
-use borrow.Author.Tests.{lt-ltb}
+use borrow.Author.Tests.{lt-ltb, eq-eqb}
 use lib.Dec.{eqb, ltb}
-use lib.ListN.{getD, List·getD-map}
+use lib.ListN.{length, getD, List·getD-map}
 use Rattle.register.specs.Limits.{machineKind, momentEnd}
 use Rattle.register.specs.Register.{actorsOf, noActor, Shaped}
 use Rattle.register.specs.declared.Register.{Register}
 use Rattle.rules.specs.Sound.{sound, isMachine}
 use Rattle.columns.specs.Columns.{actorId, ownerOf, resourceId, holderOf, latestPlace, actorKind}
 use Rattle.columns.specs.Laws.{among-natural, beside-natural}
+use Rattle.columns.specs.Sheet.{sheetLimit, sheetOf}
+use Rattle.columns.specs.SheetLaws.{column-natural-ids, column-natural-parents, column-natural-holders, column-natural-claimed, column-natural-rights, column-natural-weights, sheet-long}
 use Rattle.columns.specs.declared.Place.{Place}
 use Rattle.columns.specs.declared.Place.the-variants.{At, Nowhere}
-use Rattle.finding.specs.Asked.{askedAt}
+use Rattle.lookup.specs.Asked.{askedAt}
 use Rattle.actions.specs.Actions.{usesOf, actionFits}
 use Rattle.actions.specs.declared.Action.{Action}
 use Rattle.actions.specs.declared.Usage.{Usage}
 use Rattle.verdicts.specs.Gate.{isOwnerless, useViolations, hopsFor, hopCounts, violationsOf, listed, padded, actionTests}
 use Rattle.verdicts.specs.Laws.{use-violations-nil, use-violations-cons, action-fits-out}
 use Rattle.verdicts.specs.Bounds.{violations-most}
-use Rattle.violations.specs.Pushed.{pushedAll}
-use Rattle.violations.specs.Laws.{pushed-all-natural, pushed-all-append}
-use Rattle.gathering.specs.Gathering.{coverPlaces, heldPlaces}
-use Rattle.gathering.specs.Laws.{held-none}
-use Rattle.sights.specs.Sights.{ownerAt, ownerIn, ownedIn, sightOf, endsIn}
-use Rattle.sights.specs.Laws.{use-natural, asked-actor}
-use Rattle.sights.specs.Ends.{cover-natural}
-use Rattle.uses_judging.specs.Judging.{judgedIn, faultsFrom, usesJudged}
-use Rattle.gate.specs.Judged.{besides, actionJudged, viewOf, lentOf, lentTests, machineBy, sightBy, judgedBy}
+use Rattle.uses.specs.Pushed.{pushedAll}
+use Rattle.uses.specs.PushedLaws.{pushed-all-natural, pushed-all-append}
+use Rattle.coverage.specs.Gathering.{coverPlaces, heldPlaces}
+use Rattle.coverage.specs.GatheringLaws.{held-none}
+use Rattle.coverage.specs.Laid.{laid}
+use Rattle.soundness.specs.Judged.{judgedBy as soundnessBy}
+use Rattle.soundness.specs.declared.Findings.{Findings}
+use Rattle.uses.specs.Sights.{ownerAt, ownerIn, ownedIn, spotsOf, upsOf, endsIn, sightOf, spotFor}
+use Rattle.uses.specs.SightsLaws.{use-natural, asked-actor}
+use Rattle.uses.specs.Ends.{cover-natural}
+use Rattle.uses.specs.Uses.{useHops, faultsFrom, usesJudged}
+use Rattle.gate.specs.Judged.{besides, actionJudged, viewBy, viewOf, lentIn, lentTests, machineBy, sightBy, judgedBy}
+use Rattle.gate.specs.declared.View.{View}
+use Rattle.gate.specs.Sheets.{sheeted, sheeted-shaped, column-natural-expiries}
 
 -- a machine without owner: by its place, since ids are distinct
 ownerless-natural : (r : Register) → sound r ≡ true → (x : ℕ) → isOwnerless r x ≡ isMachine (actorsOf (r .actors)) x && eqb (ownerIn r x) 0
@@ -55,7 +62,7 @@ module _ (r : Register) (shaped : Shaped r) (h : sound r ≡ true) where
       rw (use-violations-cons r moment x n u us, use-natural r shaped h moment x n u .0, faults-natural moment x (suc n) us)
 
   hops-judged : (moment x : ℕ) (us : List Usage) →
-      map (λ u. judgedIn (sightOf r moment x) (map resourceId (r .resources .list)) (r .resources .count) u .hops) us ≡ map (λ u. hopsFor r moment x u) us
+      map (λ u. useHops (sightOf r moment x) (spotFor r u) (u .right)) us ≡ map (λ u. hopsFor r moment x u) us
   hops-judged moment x [] = refl
   hops-judged moment x (u ∷ us) = rw (use-natural r shaped h moment x 0 u .1, hops-judged moment x us)
 
@@ -78,31 +85,71 @@ module _ (r : Register) (shaped : Shaped r) (h : sound r ≡ true) where
   unfolding usesJudged
   judged-natural a fits = rw (judged-violations a fits, hops-judged (a .now) (a .actor) (usesOf a))
 
--- ---- what is lent of a register's view
+-- ---- what is lent of a register
 
 module _ (r : Register) where
   -- tests 2 and 3 by the ids of the actors
-  pub tests-natural : (a : Action) → lentTests (viewOf r .actors .ids) (viewOf r .counts .actors) a ≡ actionTests r a
+  pub tests-natural : (a : Action) → lentTests (viewOf r .actors .ids) (viewOf r .counts .actors) a ≡ actionTests (sheeted r) a
   unfolding actionTests
   tests-natural a = rw (among-natural actorId (a .actor) (r .actors .count) (r .actors .list))
 
   -- a machine, by the columns of ids and kinds
-  machine-natural : (x : ℕ) → machineBy (lentOf (viewOf r)) x ≡ isMachine (actorsOf (r .actors)) x
+  machine-natural : (x : ℕ) → machineBy (lentIn r) x ≡ isMachine (actorsOf (r .actors)) x
   machine-natural x = beside-natural actorId actorKind x machineKind (r .actors .count) (r .actors .list)
 
-  -- in a sound register, at a moment in range
-  module _ (shaped : Shaped r) (h : sound r ≡ true) (moment : ℕ) (timely : ltb moment momentEnd ≡ true) where
-    -- the claims gathered for an owner that is asked or not
-    theirs-natural : (owned : Bool) (x : ℕ)
-        → heldPlaces (map holderOf (r .claims .list)) (endsIn r) (cond owned (r .claims .count) 0) x moment ≡ cond owned (coverPlaces (r .claims) x moment) []
-    theirs-natural true x = cover-natural r shaped h moment timely x
-    theirs-natural false x = held-none (map holderOf (r .claims .list)) (endsIn r) x moment
+-- in a sound register, at a moment in range, the claims gathered for an owner that is asked or not
+theirs-natural : (r : Register) → Shaped r → sound r ≡ true → (moment : ℕ) → ltb moment momentEnd ≡ true → (owned : Bool) (x : ℕ)
+    → heldPlaces (map holderOf (r .claims .list)) (endsIn r) (cond owned (r .claims .count) 0) x moment ≡ cond owned (coverPlaces (r .claims) x moment) []
+theirs-natural r shaped h moment timely true x = cover-natural r shaped h moment timely x
+theirs-natural r shaped h moment timely false x = held-none (map holderOf (r .claims .list)) (endsIn r) x moment
 
-    sight-natural : (x : ℕ) → sightBy (lentOf (viewOf r)) moment x ≡ sightOf r moment x
-    sight-natural x = rw (machine-natural x, cover-natural r shaped h moment timely x, theirs-natural (ownedIn r x) (ownerIn r x))
+-- where the columns are those of a register
+module _ (r : Register) (shaped : Shaped r) (h : sound (sheeted r) ≡ true) where
+  abbrev sheet : List ℕ
+  sheet = sheetOf (r .claims)
 
-  -- an action in range that is judged by what is lent of a sound register's view is judged by the register
-  pub view-natural : Shaped r → sound r ≡ true → (a : Action) → actionFits a ≡ true → judgedBy (lentOf (viewOf r)) a ≡ actionJudged r a
+  long : length sheet ≡ sheetLimit
+  long = sheet-long (r .claims)
+
+  ups-natural : lentIn r .ups ≡ upsOf (sheeted r)
+  ups-natural = rw (column-natural-ids sheet long, column-natural-parents sheet long)
+
+  spots-natural : lentIn r .spots ≡ spotsOf (sheeted r)
+  spots-natural = rw (column-natural-claimed sheet long)
+
+  ends-natural : lentIn r .ends ≡ endsIn (sheeted r)
+  ends-natural = rw (ups-natural, column-natural-weights sheet long, column-natural-expiries r shaped h)
+
+  -- an actor's sight is that of the register
+  sight-natural : (moment : ℕ) → ltb moment momentEnd ≡ true → (x : ℕ) → sightBy (lentIn r) moment x ≡ sightOf (sheeted r) moment x
+  sight-natural moment timely x =
+      let wholly = sheeted-shaped r shaped in
+      rw (
+        machine-natural r x,
+        column-natural-holders sheet long,
+        column-natural-rights sheet long,
+        ends-natural,
+        spots-natural,
+        ups-natural,
+        cover-natural (sheeted r) wholly h moment timely x,
+        theirs-natural (sheeted r) wholly h moment timely (ownedIn r x) (ownerIn r x),
+      )
+
+  -- an action in range that is judged by what is lent of a sound register is judged by the register
+  pub view-natural : (a : Action) → actionFits a ≡ true → judgedBy (lentIn r) a ≡ actionJudged (sheeted r) a
   unfolding judgedBy
-  view-natural shaped h a fits =
-      rw (sight-natural shaped h (a .now) (lt-ltb (a .now) momentEnd (action-fits-out a fits .momentBelow)) (a .actor), machine-natural (a .actor))
+  view-natural a fits =
+      rw (sight-natural (a .now) (lt-ltb (a .now) momentEnd (action-fits-out a fits .momentBelow)) (a .actor), machine-natural r (a .actor))
+
+-- what was found of a register when its claims were put into a sheet
+module _ (r : Register) {sheet : List ℕ} (put : sheet ≡ sheetOf (r .claims)) {known : Findings}
+    (told : known ≡ soundnessBy (r .actors) (r .resources) sheet (r .claims .count)) where
+  known-told : known ≡ soundnessBy (r .actors) (r .resources) (sheetOf (r .claims)) (r .claims .count)
+  known-told = told ∙ ap (λ s. soundnessBy (r .actors) (r .resources) s (r .claims .count)) put
+
+  pub known-sound : known .sound ≡ sound (sheeted r)
+  known-sound = ap (λ k. k .sound) known-told ∙ rw (eq-eqb (length (sheetOf (r .claims))) sheetLimit (sheet-long (r .claims)))
+
+  pub view-told : {lens : List ℕ} → lens ≡ laid (r .resources) .lens → {v : View}
+      → v ≡ viewBy (r .actors) (r .resources) sheet (r .claims .count) lens known → v ≡ viewOf r
+  view-told of-lens viewed = viewed ∙ rw (put, known-told, of-lens)

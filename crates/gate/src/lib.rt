@@ -1,35 +1,33 @@
-// The gate for one action: tests 1, 2 and 3, then every violation in 01's order, and a hop count for each use. What is looked at is taken out
-// of the register once, as columns (`view_of`), and lent: no part of the register is copied for an action or a use. A claim is live over its whole
-// chain; its end says until when, and is found once for the register, so no chain is walked for an action. The claims that can cover are gathered
-// once for an action, for the actor and for the owner of a machine.
+// The gate for one action: tests 1, 2 and 3, then every violation in 01's order, and a hop count for each use. The claims are put into a sheet and
+// the paths laid one after the other, once, and both are lent; what else is looked at of the register is taken out of it as columns
+// (`view_of`). A claim is live over its whole chain; its end says until when, and is found once for the register, so no chain is walked for an
+// action. The claims that can cover are gathered once for an action, for the actor and for the owner of a machine.
 ghost use mathlib.Core.Path.{_≡_};
 ghost use mathlib.Core.Bool.{cond};
 ghost use mathlib.Core.List.{[]};
 ghost use lib.Dec.{eqb};
-ghost use lib.ListN.{length};
-ghost use Rattle.lists.specs.Lists.{All};
-ghost use Rattle.register.specs.Limits.{pathLimit};
 ghost use Rattle.columns.specs.Columns.{latestPlace};
 ghost use Rattle.refusals.specs.Refusals.{outcomeOf};
 ghost use Rattle.verdicts.specs.Gate.{listed, padded, gated};
-ghost use Rattle.violations.specs.Pushed.{pushedAll};
-ghost use Rattle.sights.specs.Sights.{ownerAt};
-ghost use Rattle.gate.specs.Judged.{viewOf, lentTests, besides, judgedBy};
+ghost use Rattle.uses.specs.Pushed.{pushedAll};
+ghost use Rattle.uses.specs.Sights.{ownerAt};
+ghost use Rattle.gate.specs.Judged.{viewBy, lentOf, lentTests, besides, judgedBy};
 use actions::Action;
 use actions::Decision;
 use actions::Verdict;
 use actions::Violation;
 use actions::Violations;
 use columns::ActorColumns;
-use columns::ClaimColumns;
 use columns::Place;
 use columns::ResourceColumns;
-use flat_paths::Paths;
 use refusals::Outcome;
 use refusals::Refusal;
 use register::Actor;
+use register::Actors;
 use register::Register;
-use uses_judging::UsesJudged;
+use register::Resources;
+use soundness::Findings;
+use uses::UsesJudged;
 
 // How many actors, resources and claims a register has.
 pub struct Counts {
@@ -38,53 +36,49 @@ pub struct Counts {
     pub claims: usize,
 }
 
-// What the gate looks at of a register: the columns of its lists with their counts, the paths, the place of each claim's resource, 64 for none,
-// and that of its parent among the claims before it, 256 for none, and each claim's end, the first moment at which it or a claim that it is drawn
-// from is not live any more. The counts stand here so that the register need not be kept.
+// What the gate looks at of a register besides the sheet of its claims and the bytes of its paths: the columns of its actors and resources, the
+// lengths of the paths, the place of each claim's parent among the claims before it and that of its resource, 256 for none, and each claim's
+// end, the first moment at which it or a claim that it is drawn from is not live any more. The counts stand here so that the register need not
+// be kept.
 pub struct View {
     pub counts: Counts,
     pub actors: ActorColumns,
     pub resources: ResourceColumns,
-    pub claims: ClaimColumns,
-    pub paths: Paths,
-    pub spots: [usize; Register::CLAIMS],
-    pub ups: [usize; Register::CLAIMS],
+    pub lens: [usize; Register::RESOURCES],
+    pub ups: [u16; Register::CLAIMS],
+    pub spots: [u16; Register::CLAIMS],
     pub ends: [u64; Register::CLAIMS],
 }
 
-pub fn view_of(r: Register) -> View
-    ensures viewed { λ v. ⌜ v ≡ viewOf r ⌝ }
-    ensures sized { λ _. ⌜ All (λ o. length (o .path) ≡ pathLimit) (r .resources .list) ⌝ }
+// What is looked at of the actors, the resources and the first `n` claims of a sheet, with the lengths of the paths and what was found when
+// soundness was judged.
+pub fn view_of(
+    a: Actors,
+    o: Resources,
+    sheet: &[u32],
+    n: usize,
+    lens: [usize; Register::RESOURCES],
+    known: Findings,
+) -> View
+    ensures { λ v. ⌜ v ≡ viewBy a o (now (sheet .entry)) n lens known ⌝ }
 {
-    let a = r.actors;
-    let o = r.resources;
-    let c = r.claims;
     let actors = columns::actor_columns(a);
     let resources = columns::resource_columns(o);
-    let claims = columns::claim_columns(c);
-    let paths = flat_paths::lay(o);
-    let spots = finding::places_of(
-        &resources.ids,
-        o.count,
-        &claims.claimed,
-        c.count,
-        Register::RESOURCES,
-    );
-    let ups = finding::earlier_places(&claims.ids, &claims.parents, c.count, Register::CLAIMS);
-    let ends = gathering::ends(&claims.weights, &claims.expiries, &ups, c.count);
+    let weights = columns::column(sheet, columns::WEIGHTS);
+    let expiries = columns::column(sheet, columns::EXPIRIES);
+    let ends = coverage::ends(weights, expiries, &known.ups, n);
     let counts = Counts {
         actors: a.count,
         resources: o.count,
-        claims: c.count,
+        claims: n,
     };
     View {
         counts,
         actors,
         resources,
-        claims,
-        paths,
-        spots,
-        ups,
+        lens,
+        ups: known.ups,
+        spots: known.spots,
         ends,
     }
 }
@@ -104,13 +98,13 @@ fn owner_of<'a>(names: &'a [u32], owners: &'a [u32], n: usize, x: u32) -> u32
 fn first_violations(a: Action, machine: bool, owner: u32) -> Violations
     ensures { λ r. ⌜ r ≡ pushedAll (listed []) (besides machine owner a) ⌝ }
 {
-    let flagged = violations::push_flags(violations::none(), a.flags);
+    let flagged = uses::push_flags(uses::none(), a.flags);
     if machine {
         if owner == 0 {
-            let unowned = violations::push(flagged, Violation::NoOwner(a.actor));
-            return violations::push_governs(unowned, a);
+            let unowned = uses::push(flagged, Violation::NoOwner(a.actor));
+            return uses::push_governs(unowned, a);
         }
-        return violations::push_governs(flagged, a);
+        return uses::push_governs(flagged, a);
     }
     flagged
 }
@@ -122,60 +116,56 @@ fn asked_for(owned: bool, n: usize) -> usize
     if owned { n } else { 0 }
 }
 
-// An action judged by lent columns of `actors` actors, `resources` resources and `claims` claims: its violations in 01's order and the hop
-// count of each use. By the columns of a sound register, and where the action is in range, these are the gate's (`view-natural` and
-// `judged-natural` of specs/Laws); the tests are the caller's.
-pub fn judge_by<'a>(
-    names: &'a [u32],
-    kinds: &'a [u32],
-    owners: &'a [u32],
-    actors: usize,
-    reports: &'a [u32],
-    publics: &'a [u32],
-    resources: usize,
-    bytes: &'a [u8],
-    lens: &'a [usize],
-    holders: &'a [u32],
-    rights: &'a [u32],
-    ends: &'a [u64],
-    spots: &'a [usize],
-    ups: &'a [usize],
-    claims: usize,
-    a: Action,
-) -> UsesJudged
-    ensures { λ y. ⌜ y ≡ judgedBy (record { names = now (names .entry); kinds = now (kinds .entry); owners = now (owners .entry); actors = actors; reports = now (reports .entry); publics = now (publics .entry); resources = resources; bytes = now (bytes .entry); lens = now (lens .entry); holders = now (holders .entry); rights = now (rights .entry); ends = now (ends .entry); spots = now (spots .entry); ups = now (ups .entry); claims = claims }) a ⌝ }
+// An action judged by a view, a sheet of claims and the bytes of the paths: its violations in 01's order and the hop count of each use. By those of
+// a sound register, and where the action is in range, these are the gate's (`view-natural` and `judged-natural` of specs/Laws); the tests are
+// the caller's.
+pub fn judge_by<'a>(v: View, sheet: &'a [u32], bytes: &'a [u8], a: Action) -> UsesJudged
+    ensures { λ y. ⌜ y ≡ judgedBy (lentOf v (now (sheet .entry)) (now (bytes .entry))) a ⌝ }
 {
-    let machine = columns::is_beside(names, kinds, actors, a.actor, Actor::MACHINE);
-    let owner = owner_of(names, owners, actors, a.actor);
+    let machine = columns::is_beside(
+        &v.actors.ids,
+        &v.actors.kinds,
+        v.counts.actors,
+        a.actor,
+        Actor::MACHINE,
+    );
+    let owner = owner_of(&v.actors.ids, &v.actors.owners, v.counts.actors, a.actor);
     let owned = machine & (owner != 0);
     let vs = first_violations(a, machine, owner);
-    let own = gathering::gather(holders, ends, claims, a.actor, a.now);
-    let asked = asked_for(owned, claims);
-    let theirs = gathering::gather(holders, ends, asked, owner, a.now);
-    uses_judging::judge_uses(
-        a,
-        vs,
+    let holders = columns::column(sheet, columns::HOLDERS);
+    let rights = columns::column(sheet, columns::RIGHTS);
+    let own = coverage::gather(holders, &v.ends, v.counts.claims, a.actor, a.now);
+    let asked = asked_for(owned, v.counts.claims);
+    let theirs = coverage::gather(holders, &v.ends, asked, owner, a.now);
+    let uses = uses::uses_of(&v.resources.ids, v.counts.resources, a);
+    let relied = uses::relied_on(
         &own.places,
         own.count,
+        rights,
+        &v.spots,
+        bytes,
+        &v.lens,
+        uses,
+    );
+    let covered = uses::covered_by(
         &theirs.places,
         theirs.count,
-        owned,
         rights,
-        spots,
+        &v.spots,
         bytes,
-        lens,
-        publics,
-        reports,
-        resources,
-        ups,
-    )
+        &v.lens,
+        uses,
+    );
+    let hops = uses::hop_counts(&v.ups, &relied, uses.count);
+    let violations = uses::put_faults(vs, &relied, &covered, owned, &v.resources.publics, uses);
+    UsesJudged { violations, hops }
 }
 
 // Tests 2 and 3, of the action, over the ids of the first `n` actors.
 pub fn action_outcome(names: &[u32], n: usize, a: Action) -> Outcome
     ensures { λ y. ⌜ y ≡ outcomeOf (lentTests (now (names .entry)) n a) ⌝ }
 {
-    if !action_ranges::action_fits(a) {
+    if !actions::action_fits(a) {
         return Outcome::Refused(Refusal::OutOfRange);
     }
     if !columns::is_among(names, n, a.actor) {
@@ -188,7 +178,7 @@ pub fn action_outcome(names: &[u32], n: usize, a: Action) -> Outcome
 fn stopped(why: Refusal) -> Verdict
     ensures { λ v. ⌜ v ≡ record { decision = Decision.Stopped why; violations = listed []; hops = padded [] } ⌝ }
 {
-    let violations = violations::none();
+    let violations = uses::none();
     let hops = [0usize; Action::USES];
     Verdict {
         decision: Decision::Stopped(why),
@@ -221,33 +211,22 @@ fn decided(judged: UsesJudged) -> Verdict
 pub fn gate(r: Register, a: Action) -> Verdict
     ensures { λ v. ⌜ v ≡ gated r a ⌝ }
 {
-    if !soundness::is_sound(r) {
+    let actors = r.actors;
+    let o = r.resources;
+    let k = r.claims;
+    let n = k.count;
+    let mut sheet = [0u32; columns::SHEET];
+    columns::put_claims(&mut sheet, k);
+    let known = soundness::judged(actors, o, &sheet, n);
+    if !known.sound {
         return stopped(Refusal::Unsound);
     }
-    let v = view_of(r);
+    let mut bytes = [0u8; coverage::BYTES];
+    let lens = coverage::lay(&mut bytes, o);
+    let v = view_of(actors, o, &sheet, n, lens, known);
     let outcome = action_outcome(&v.actors.ids, v.counts.actors, a);
     match outcome {
         Outcome::Refused(why) => stopped(why),
-        Outcome::Accepted => {
-            let judged = judge_by(
-                &v.actors.ids,
-                &v.actors.kinds,
-                &v.actors.owners,
-                v.counts.actors,
-                &v.resources.ids,
-                &v.resources.publics,
-                v.counts.resources,
-                &v.paths.bytes,
-                &v.paths.lens,
-                &v.claims.holders,
-                &v.claims.rights,
-                &v.ends,
-                &v.spots,
-                &v.ups,
-                v.counts.claims,
-                a,
-            );
-            decided(judged)
-        }
+        Outcome::Accepted => decided(judge_by(v, &sheet, &bytes, a)),
     }
 }

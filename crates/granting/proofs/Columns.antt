@@ -1,36 +1,44 @@
--- What the columns answer is what 01 asks of the lists that they are the columns of. Assumes nothing.
-use mathlib.Core.Path.{_≡_, sym, ap, _∙_}
-use mathlib.Core.Bool.{Bool, true}
-use mathlib.Core.List.{[], _∷_}
+-- What the columns and the sheet answer is what 01 asks of the lists that they are of. Assumes nothing.
+use mathlib.Core.Path.{_≡_, sym, ap, _∙_, refl}
+use mathlib.Core.Bool.{Bool, true, false, cond, and-true}
+use mathlib.Core.List.{[], _∷_, List, _++_, map}
 use Prim.Native.Nat.{ℕ, _<_, suc, _≤_}
 use native.Mathlib.Omega.{arith}
-use borrow.Author.Tests.{ltb-true, ltb-false, le-leb, lt-leb}
+use borrow.Author.Tests.{ltb-true, ltb-false, le-leb, lt-leb, eq-eqb, ne-eqb, le-ltb}
 use lib.Dec.{eqb, ltb, leb}
-use lib.ListN.{length, take, getD}
+use lib.ListN.{length, take, getD, length-map}
 use Rattle.lists.specs.Tests.{cases}
 use Rattle.lists.specs.Lists.{any, every}
-use Rattle.lists.specs.Each.{any-reverse}
+use Rattle.lists.specs.Each.{any-reverse, every-map}
 use Rattle.register.specs.Limits.{machineKind, claimLimit, hopLimit}
-use Rattle.register.specs.Register.{actorsOf, resourcesOf, claimsOf, noClaim}
-use Rattle.register.specs.Chain.{latest, above, current, hopsOf}
+use Rattle.register.specs.Register.{actorsOf, resourcesOf, claimsOf}
+use Rattle.register.specs.Chain.{above, current}
 use Rattle.register.specs.declared.Actors.{Actors}
 use Rattle.register.specs.declared.Resources.{Resources}
-use Rattle.register.specs.declared.Claims.{Claims}
 use Rattle.register.specs.declared.Claim.{Claim}
 use Rattle.register.specs.declared.Register.{Register}
-use Rattle.columns.specs.Columns.{actorId, actorKind, ownerOf, resourceId, keeperOf, claimId, beside, latestPlace, chainPlaces, actorColumns, resourceColumns, claimColumns}
-use Rattle.columns.specs.Columns.{currentAt}
+use Rattle.columns.specs.Columns.{actorId, actorKind, ownerOf, resourceId, keeperOf, claimId, beside, latestPlace, actorColumns, resourceColumns, placesUp, stepsUp}
 use Rattle.columns.specs.declared.ActorColumns.{ActorColumns}
 use Rattle.columns.specs.declared.ResourceColumns.{ResourceColumns}
-use Rattle.columns.specs.declared.ClaimColumns.{ClaimColumns}
 use Rattle.columns.specs.declared.Place.the-variants.{At, Nowhere}
-use Rattle.columns.specs.Laws.{among-natural, beside-natural, circling-natural, latest-place-found, chain-found, chain-nowhere, current-natural}
-use Rattle.finding.specs.Laws.{hop-count-natural}
+use Rattle.columns.specs.Laws.{among-natural, beside-natural, places-up-at, places-up-none, steps-up-within, steps-up-beyond}
+use Rattle.lookup.specs.Laws.{hop-count-natural}
 use Rattle.rules.specs.Sound.{worldOf, namesStand, rootKept, sound, withinHops}
-use Rattle.rules.specs.Registers.{sound-out}
-use Rattle.rules.specs.Places.{claim-numbered}
-use Rattle.alone.specs.Judged.{worldBy}
-use Rattle.granting.specs.Drawn.{chainTests, nearUnder}
+use Rattle.claims.specs.Alone.{worldBy}
+use Rattle.granting.specs.Drawn.{chainTests, drawnTests, parentAsked}
+use Rattle.register.specs.Laws.{circling-map}
+use Rattle.columns.specs.declared.Hops.the-variants.{Up, Beyond}
+use Rattle.columns.specs.Sheet.{sheetOf, columnOf, claimAt, claimsIn}
+use Rattle.columns.specs.SheetLaws.{sheet-long, sheet-claims, column-natural-ids}
+use Rattle.lookup.specs.Finding.{earlierPlaces}
+use Rattle.lookup.specs.Walks.{sheet-chain}
+use Rattle.refusals.specs.Refusals.{outcomeOf}
+use Rattle.refusals.specs.Laws.{outcome-nil}
+use Rattle.refusals.specs.declared.Outcome.{Outcome}
+use Rattle.refusals.specs.declared.Outcome.the-variants.{Accepted, Refused}
+use Rattle.refusals.specs.declared.Refusal.the-variants.{ParentAbsent}
+use Rattle.changes.specs.Changes.{standing, parentTests}
+use Rattle.granting.proofs.Deciding.{parent-absent, parent-present}
 
 -- the actors and the resources
 module _ (a : Actors) (o : Resources) (c : Claim) {people : ActorColumns} {things : ResourceColumns} {b : Bool}
@@ -61,63 +69,89 @@ module _ (a : Actors) (o : Resources) (c : Claim) {people : ActorColumns} {thing
       → b ≡ worldOf (actorsOf a) (resourcesOf o) .ownerless (c .grantor)
   ownerless-asked e = e ∙ rw actors (beside-natural actorId ownerOf (c .grantor) 0 (a .count) (a .list))
 
--- the claims
-module _ (k : Claims) (c : Claim) {s : ClaimColumns} (claims : s ≡ claimColumns (k .list)) where
-  pub stands-asked : {b : Bool} → b ≡ any (eqb (c .id)) (take (k .count) (s .ids)) → b ≡ any (λ d. eqb (c .id) (d .id)) (latest (claimsOf k))
-  stands-asked e =
-      e
-      ∙ rw claims (among-natural claimId (c .id) (k .count) (k .list))
-      ∙ sym (any-reverse (λ d. eqb (c .id) (d .id)) (claimsOf k))
-
-  -- the number looked for stands nowhere: there is no chain
-  pub parent-nowhere : latestPlace (s .ids) (k .count) (c .parent) ≡ Nowhere → above (latest (claimsOf k)) c ≡ []
-  parent-nowhere q =
-      chain-nowhere (k .list) (k .count) (c .parent) (ap (λ t. latestPlace (t .ids) (k .count) (c .parent)) (sym claims) ∙ q)
-
-  -- it stands at a place of the list: the chain begins with the claim there
-  module _ {j : ℕ} (found : latestPlace (s .ids) (k .count) (c .parent) ≡ At j) where
-    at-place : latestPlace (claimColumns (k .list) .ids) (k .count) (c .parent) ≡ At j
-    at-place = ap (λ t. latestPlace (t .ids) (k .count) (c .parent)) (sym claims) ∙ found
-
-    pub parent-inside : j < length (k .list)
-    parent-inside = latest-place-found (k .list) (k .count) (c .parent) j at-place .1
-
-    pub parent-stands : (c .parent ≡ 0 → ⊥)
-        → above (latest (claimsOf k)) c ≡ getD (k .list) j noClaim ∷ above (latest (take j (k .list))) (getD (k .list) j noClaim)
-    parent-stands o = chain-found (k .list) (k .count) (c .parent) j o at-place
-
-  -- whether every claim of the chain is current
-  pub source-asked : (moment : ℕ) {b : Bool} → b ≡ every (currentAt (s .weights) (s .expiries) moment) (chainPlaces (s .ids) (s .parents) (k .count) (c .parent))
-      → b ≡ every (current moment) (above (latest (claimsOf k)) c)
-  source-asked moment e = e ∙ rw claims (current-natural (k .list) moment (k .count) (c .parent))
-
 -- a claim has one hop more than its parent
 near-next : (m : ℕ) → ltb m hopLimit ≡ leb (suc m) hopLimit
 near-next m =
     cases (ltb m hopLimit) (λ t. t ∙ sym (le-leb (suc m) hopLimit (ltb-true m hopLimit t)))
     (λ t. t ∙ sym (lt-leb (suc m) hopLimit (omega (arith, ltb-false m hopLimit t))))
 
--- the chain's length, and whether the claim's holder stands on it, in a sound register where the parent stands
-module _ (r : Register) (whole : sound r ≡ true) (long : length (r .claims .list) ≡ claimLimit) (c : Claim) (o : c .parent ≡ 0 → ⊥)
-    {s : ClaimColumns} (claims : s ≡ claimColumns (r .claims .list)) {j : ℕ} (found : latestPlace (s .ids) (r .claims .count) (c .parent) ≡ At j) where
-  abbrev k : Claims
-  k = r .claims
+-- what is asked of the places of a chain is asked of the claims there
+pub chain-asked : (f : ℕ → Claim) (j : ℕ) (l : List ℕ) (h : ℕ)
+    → chainTests (λ i. f i .grantor) (λ i. f i .holder) (ltb (length l) hopLimit) (j ∷ l) h
+    ≡ chainTests (λ d. d .grantor) (λ d. d .holder) (withinHops (map f (j ∷ l))) (map f (j ∷ l)) h
+unfolding chainTests
+chain-asked f j l h = rw (circling-map f (λ d. d .grantor) (λ d. d .holder) (j ∷ l) h, near-next (length l), length-map l f)
 
-  few : k .count ≤ claimLimit
-  few = sound-out r whole .limits .claimCount
+-- and of columns that are the same
+pub chain-columns : (near : Bool) (l : List ℕ) (x : ℕ) {g h grantors holders : List ℕ} {y : Outcome} → g ≡ grantors → h ≡ holders
+    → y ≡ outcomeOf (chainTests (λ j. getD g j 0) (λ j. getD h j 0) near l x)
+    → y ≡ outcomeOf (chainTests (λ j. getD grantors j 0) (λ j. getD holders j 0) near l x)
+chain-columns near l x {g} {h} {grantors} {holders} granted held e =
+    e
+    ∙ ap (λ c. outcomeOf (chainTests (λ j. getD c j 0) (λ j. getD h j 0) near l x)) granted
+    ∙ ap (λ c. outcomeOf (chainTests (λ j. getD grantors j 0) (λ j. getD c j 0) near l x)) held
 
-  near-asked : nearUnder (claimColumns (k .list) .ids) (claimColumns (k .list) .parents) (k .count) j ≡ withinHops (above (latest (claimsOf k)) c)
-  near-asked =
-      let counted = hop-count-natural (k .list) (k .count) few (omega (arith, few, long))
-      (λ i before. claim-numbered (worldOf (actorsOf (r .actors)) (resourcesOf (r .resources))) (k .count) (k .list) (sound-out r whole .claims) i before
-      (omega (arith, before, few, long)))
-      j (latest-place-found (k .list) (k .count) (c .parent) j (at-place k c claims found) .0) in
-      ap (λ m. ltb m hopLimit) counted
-      ∙ near-next (hopsOf (latest (take j (k .list))) (getD (k .list) j noClaim))
-      ∙ ap withinHops (sym (parent-stands k c claims found o))
+-- the steps of a walk against the limit
+module _ (l : List ℕ) where
+  pub near-limit : {k : ℕ} → stepsUp l ≡ Up k → ltb k hopLimit ≡ ltb (length l) hopLimit
+  near-limit {k} q = ap (λ n. ltb n hopLimit) (sym (steps-up-within l k q .0))
 
-  pub chain-asked : chainTests (λ j. getD (s .grantors) j 0) (λ j. getD (s .holders) j 0) (nearUnder (s .ids) (s .parents) (k .count) j)
-      (chainPlaces (s .ids) (s .parents) (k .count) (c .parent)) (c .holder)
-      ≡ chainTests (λ d. d .grantor) (λ d. d .holder) (withinHops (above (latest (claimsOf k)) c)) (above (latest (claimsOf k)) c) (c .holder)
-  unfolding chainTests
-  chain-asked = rw (claims, circling-natural (k .list) (k .count) (c .parent) (c .holder), near-asked)
+  pub beyond-limit : stepsUp l ≡ Beyond → ltb (length l) hopLimit ≡ false
+  beyond-limit q = le-ltb (length l) hopLimit (omega (arith, steps-up-beyond l q))
+
+-- a walk has come to a place, for which `up` is kept, and whether all are current, e, is asked of that place and of those above it
+pub record Walk (p : ℕ → Bool) (ups : List ℕ) (at up : ℕ) (e : Bool) : Type 0 where
+  pub next : up ≡ getD ups at at
+  pub ahead : e ≡ every p (at ∷ placesUp ups at)
+
+module _ {p : ℕ → Bool} {ups : List ℕ} {at up : ℕ} {e : Bool} (s : Walk p ups at up e) where
+  pub walk-fails : p at ≡ false → e ≡ false
+  walk-fails h = s .ahead ∙ rw h
+
+  pub walk-root : at ≤ up → e ≡ p at
+  walk-root h = s .ahead ∙ rw (places-up-none ups at (rw (← s .next) h)) (and-true (p at))
+
+  pub walk-above : up < at → p at ≡ true → {higher : ℕ} → higher ≡ getD ups up up → Walk p ups up higher e
+  walk-above h passed u =
+      let more : placesUp ups at ≡ up ∷ placesUp ups up = rw (s .next) (places-up-at ups at (rw (← s .next) h)) in
+      record { next = u; ahead = s .ahead ∙ rw passed (ap (every p) more) }
+
+-- tests 9 to 16, over the chain above a claim c by the places
+module _ (s ups : List ℕ) (n : ℕ) (c : Claim) (moment : ℕ) where
+  pub root-passes : c .parent ≡ 0 → outcomeOf (parentAsked s ups n c moment) ≡ Accepted
+  root-passes z = rw (eq-eqb (c .parent) 0 z) outcome-nil
+
+  module _ (o : c .parent ≡ 0 → ⊥) where
+    pub parent-nowhere : latestPlace (columnOf 0 s) n (c .parent) ≡ Nowhere → outcomeOf (parentAsked s ups n c moment) ≡ Refused ParentAbsent
+    parent-nowhere q = rw (ne-eqb (c .parent) 0 o, q) (parent-absent moment [] c refl)
+
+    pub parent-at : {at : ℕ} → latestPlace (columnOf 0 s) n (c .parent) ≡ At at → {p : Claim} → p ≡ claimAt s at → {lives : Bool}
+        → lives ≡ every (λ j. current moment (claimAt s j)) (at ∷ placesUp ups at)
+        → outcomeOf (parentAsked s ups n c moment) ≡ outcomeOf (drawnTests lives p c ++ chainTests (λ j. getD (columnOf 2 s) j 0) (λ j. getD (columnOf 3 s) j 0)
+        (ltb (length (placesUp ups at)) hopLimit) (at ∷ placesUp ups at) (c .holder))
+    parent-at {at} q {p} read {lives} living =
+        let l : List Claim = map (claimAt s) (at ∷ placesUp ups at) in
+        rw (ne-eqb (c .parent) 0 o, q)
+        (parent-present moment l c refl
+        ∙ ap (λ b. outcomeOf (drawnTests b (claimAt s at) c ++ chainTests (λ d. d .grantor) (λ d. d .holder) (withinHops l) l (c .holder)))
+        (every-map (claimAt s) (current moment) (at ∷ placesUp ups at) ∙ sym living)
+        ∙ ap (λ tests. outcomeOf (drawnTests lives (claimAt s at) c ++ tests)) (sym (chain-asked (claimAt s) at (placesUp ups at) (c .holder)))
+        ∙ ap (λ d. outcomeOf (drawnTests lives d c ++ chainTests (λ j. claimAt s j .grantor) (λ j. claimAt s j .holder) (ltb (length (placesUp ups at)) hopLimit) (at ∷ placesUp ups at) (c .holder)))
+        (sym read))
+
+-- the claims of a register by its sheet
+module _ (r : Register) (long : length (r .claims .list) ≡ claimLimit) (c : Claim) where
+  abbrev sheet : List ℕ
+  sheet = sheetOf (r .claims)
+
+  pub stands-asked : any (eqb (c .id)) (take (r .claims .count) (columnOf 0 sheet)) ≡ any (λ d. eqb (c .id) (d .id)) (standing r)
+  stands-asked =
+      ap (λ l. any (eqb (c .id)) (take (r .claims .count) l)) (column-natural-ids sheet (sheet-long (r .claims)))
+      ∙ among-natural claimId (c .id) (r .claims .count) (claimsIn sheet)
+      ∙ ap (any (λ d. eqb (c .id) (d .id))) (sheet-claims (r .claims) long)
+      ∙ sym (any-reverse (λ d. eqb (c .id) (d .id)) (claimsOf (r .claims)))
+
+  pub parent-asked : (moment : ℕ) → sound r ≡ true
+      → parentAsked sheet (earlierPlaces (columnOf 0 sheet) (columnOf 1 sheet) (r .claims .count) claimLimit) (r .claims .count) c moment
+      ≡ cond (eqb (c .parent) 0) [] (parentTests moment (above (standing r) c) c)
+  parent-asked moment whole = ap (λ l. cond (eqb (c .parent) 0) [] (parentTests moment l c)) (sheet-chain r long whole (c .parent))

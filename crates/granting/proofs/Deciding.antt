@@ -1,10 +1,10 @@
 -- The outcome of each part of a grant's tests: which of them decides, by what was found of those before it. Assumes nothing.
 use mathlib.Core.Path.{_≡_, sym, ap, _∙_}
-use mathlib.Core.Bool.{Bool, true, false}
+use mathlib.Core.Bool.{Bool, true, false, _&&_, cond}
 use mathlib.Core.List.{List, [], _∷_, _++_}
-use Prim.Native.Nat.{ℕ, _<_}
+use Prim.Native.Nat.{ℕ}
 use lib.Dec.{eqb, leb, ltb}
-use borrow.Author.Tests.{eq-eqb, ne-eqb, ltb-true}
+use Rattle.lists.specs.Tests.{cases}
 use Rattle.lists.specs.Lists.{any, every}
 use Rattle.rights.specs.Rights.{delegating, hasRight, hasRights, barsMachine}
 use Rattle.register.specs.Limits.{claimLimit, momentEnd}
@@ -13,14 +13,13 @@ use Rattle.register.specs.declared.Claim.{Claim}
 use Rattle.register.specs.declared.Register.{Register}
 use Rattle.rules.specs.Sound.{World, sound, claimFits, namesStand, rootKept, withinHops}
 use Rattle.refusals.specs.Refusals.{Test, outcomeOf}
-use Rattle.changes.specs.Changes.{worldIn, standing, worldTests, parentTests, grantTests, appended, granted}
-use Rattle.refusals.specs.Laws.{outcome-cases, outcome-first, outcome-append, outcome-append-refused}
-use Rattle.refusals.specs.declared.Refusal.{Refusal}
+use Rattle.changes.specs.Changes.{worldIn, standing, parentTests, grantTests}
+use Rattle.refusals.specs.Laws.{outcome-cases, outcome-nil, outcome-pass, outcome-fail, outcome-append, outcome-append-refused}
 use Rattle.refusals.specs.declared.Refusal.the-variants.{Unsound, OutOfRange, Unknown, IdStands, Full, NotKeeper, Ownerless, MachineBarred, ParentAbsent, ParentNotHeld}
 use Rattle.refusals.specs.declared.Refusal.the-variants.{ParentDead, NoDelegate, RightLacking, WeightAbove, TooManyHops, Circle}
 use Rattle.refusals.specs.declared.Outcome.{Outcome}
 use Rattle.refusals.specs.declared.Outcome.the-variants.{Accepted, Refused}
-use Rattle.granting.specs.Drawn.{toldTests, drawnTests, chainTests, outcomeAfter, world-tests, parent-tests}
+use Rattle.granting.specs.Drawn.{toldTests, drawnTests, chainTests, outcomeThen, firstTests, world-tests, parent-tests}
 
 -- tests 3 to 8
 module _ (w : World) (stands : Bool) (n : ℕ) (c : Claim) where
@@ -114,11 +113,11 @@ module _ {A : Type 0} (grantor holder : A → ℕ) (near : Bool) (l : List A) (h
     no-circle e = rw (within, e)
 
 -- tests decided one part after the other are decided together
-pub decided-after : (tests more : List Test) {first last : Outcome} → first ≡ outcomeOf tests → last ≡ outcomeAfter first more → outcomeOf (tests ++ more) ≡ last
-decided-after tests more {first} {last} e told =
+pub decided-then : (tests more : List Test) {first next : Outcome} → first ≡ outcomeOf tests → next ≡ outcomeOf more → outcomeThen first next ≡ outcomeOf (tests ++ more)
+decided-then tests more {first} {next} e told =
     outcome-cases first
-    (λ passed. outcome-append tests more (sym e ∙ passed) ∙ sym (told ∙ ap (λ o. outcomeAfter o more) passed))
-    (λ why refused. outcome-append-refused tests more why (sym e ∙ refused) ∙ sym (told ∙ ap (λ o. outcomeAfter o more) refused))
+    (λ passed. ap (λ o. outcomeThen o next) passed ∙ told ∙ sym (outcome-append tests more (sym e ∙ passed)))
+    (λ why refused. ap (λ o. outcomeThen o next) refused ∙ sym (outcome-append-refused tests more why (sym e ∙ refused)))
 
 -- tests 9 to 16, over the chain above
 module _ (moment : ℕ) (l : List Claim) (c : Claim) where
@@ -132,66 +131,29 @@ module _ (moment : ℕ) (l : List Claim) (c : Claim) where
       ++ chainTests (λ d. d .grantor) (λ d. d .holder) (withinHops l) l (c .holder))
   parent-present {p} {higher} stands = rw stands (ap outcomeOf (parent-tests moment p higher c))
 
--- tests 1 to 16
-module _ (r : Register) (c : Claim) (moment : ℕ) where
-  pub unsound : sound r ≡ false → outcomeOf (grantTests r c moment) ≡ Refused Unsound
-  unfolding grantTests outcomeOf
-  unsound e = rw e
+-- tests 1 and 2
+module _ (c : Claim) (moment : ℕ) {whole : Bool} where
+  pub unsound : whole ≡ false → outcomeOf (firstTests whole c moment) ≡ Refused Unsound
+  unsound f = outcome-fail _ _ f
 
-  module _ (whole : sound r ≡ true) where
-    pub claim-unfit : claimFits c ≡ false → outcomeOf (grantTests r c moment) ≡ Refused OutOfRange
-    unfolding grantTests outcomeOf
-    claim-unfit e = rw (whole, e)
+  module _ (judged : whole ≡ true) where
+    pub claim-unfit : claimFits c ≡ false → outcomeOf (firstTests whole c moment) ≡ Refused OutOfRange
+    claim-unfit f = outcome-pass _ _ judged ∙ outcome-fail _ _ (ap (λ b. b && ltb moment momentEnd) f)
 
     module _ (fit : claimFits c ≡ true) where
-      pub moment-past : ltb moment momentEnd ≡ false → outcomeOf (grantTests r c moment) ≡ Refused OutOfRange
-      unfolding grantTests outcomeOf
-      moment-past e = rw (whole, fit, e)
+      pub moment-past : ltb moment momentEnd ≡ false → outcomeOf (firstTests whole c moment) ≡ Refused OutOfRange
+      moment-past f = outcome-pass _ _ judged ∙ outcome-fail _ _ (ap (λ b. b && ltb moment momentEnd) fit ∙ f)
 
-      module _ (timely : ltb moment momentEnd ≡ true) {stands : Bool} (told : stands ≡ any (λ d. eqb (c .id) (d .id)) (standing r)) where
-        told-outcome : {y : Outcome} → outcomeOf (toldTests (worldIn r) stands (r .claims .count) c) ≡ y
-            → outcomeOf (worldTests (worldIn r) (standing r) (r .claims .count) c) ≡ y
-        told-outcome e =
-            ap outcomeOf (world-tests (worldIn r) (standing r) (r .claims .count) c)
-            ∙ ap (λ b. outcomeOf (toldTests (worldIn r) b (r .claims .count) c)) (sym told)
-            ∙ e
+      pub in-range : ltb moment momentEnd ≡ true → outcomeOf (firstTests whole c moment) ≡ Accepted
+      in-range t = outcome-pass _ _ judged ∙ outcome-pass _ _ (ap (λ b. b && ltb moment momentEnd) fit ∙ t) ∙ outcome-nil
 
-        pub world-refuses : {why : Refusal} → outcomeOf (toldTests (worldIn r) stands (r .claims .count) c) ≡ Refused why
-            → outcomeOf (grantTests r c moment) ≡ Refused why
-        unfolding grantTests outcomeOf
-        world-refuses {why} e =
-            rw (whole, fit, timely) (outcome-append-refused (worldTests (worldIn r) (standing r) (r .claims .count) c) _ why (told-outcome e))
-
-        module _ (world : outcomeOf (toldTests (worldIn r) stands (r .claims .count) c) ≡ Accepted) where
-          pub root-granted : c .parent ≡ 0 → outcomeOf (grantTests r c moment) ≡ Accepted
-          unfolding grantTests outcomeOf
-          root-granted o =
-              rw (whole, fit, timely, eq-eqb (c .parent) 0 o)
-              (outcome-append (worldTests (worldIn r) (standing r) (r .claims .count) c) [] (told-outcome world))
-
-          pub parent-decides : {y : Outcome} → (c .parent ≡ 0 → ⊥) → outcomeOf (parentTests moment (above (standing r) c) c) ≡ y
-              → outcomeOf (grantTests r c moment) ≡ y
-          unfolding grantTests outcomeOf
-          parent-decides o q =
-              rw (whole, fit, timely, ne-eqb (c .parent) 0 o)
-              (outcome-append (worldTests (worldIn r) (standing r) (r .claims .count) c) (parentTests moment (above (standing r) c) c) (told-outcome world) ∙ q)
-
-  -- an accepted claim finds room
-  pub accepted-room : outcomeOf (grantTests r c moment) ≡ Accepted → r .claims .count < claimLimit
-  unfolding grantTests worldTests
-  accepted-room q =
-      let behind-sound = outcome-first _ _ q .1 in
-      let behind-fit = outcome-first _ _ behind-sound .1 in
-      let behind-names = outcome-first _ _ behind-fit .1 in
-      let behind-fresh = outcome-first _ _ behind-names .1 in
-      ltb-true (r .claims .count) claimLimit (outcome-first _ _ behind-fresh .0)
-
-  pub granted-accepted : {y : Outcome} → y ≡ outcomeOf (grantTests r c moment) → y ≡ Accepted
-      → record { register = appended r c; outcome = Accepted } ≡ granted r c moment
-  unfolding granted
-  granted-accepted e a = rw (← e, a)
-
-  pub granted-refused : {y : Outcome} {why : Refusal} → y ≡ outcomeOf (grantTests r c moment) → y ≡ Refused why
-      → record { register = r; outcome = Refused why } ≡ granted r c moment
-  unfolding granted
-  granted-refused e a = rw (← e, a)
+-- tests 1 to 16, told part by part: what comes behind the first counts only in a sound register
+pub grant-asked : (r : Register) (c : Claim) (moment : ℕ) {whole stands : Bool} {parent : List Test} → whole ≡ sound r
+    → stands ≡ any (λ d. eqb (c .id) (d .id)) (standing r)
+    → (sound r ≡ true → parent ≡ cond (eqb (c .parent) 0) [] (parentTests moment (above (standing r) c) c))
+    → outcomeOf (firstTests whole c moment ++ (toldTests (worldIn r) stands (r .claims .count) c ++ parent)) ≡ outcomeOf (grantTests r c moment)
+unfolding grantTests
+grant-asked r c moment wholly stood drawn =
+    cases (sound r)
+    (λ t. rw (wholly, stood, drawn t, world-tests (worldIn r) (standing r) (r .claims .count) c))
+    (λ f. outcome-fail _ _ (wholly ∙ f) ∙ sym (outcome-fail _ _ f))

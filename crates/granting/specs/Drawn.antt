@@ -1,26 +1,26 @@
--- Working: A grant's tests in the parts that the code decides one by one: tests 3 to 8 where it is told whether the claim's id stands; those of the
--- parent and the claim alone; those of the chain, over anything that has grantors and holders. That 01's tests are these parts in this order is
--- proved here (`world-tests`, `parent-tests`). Assumes nothing.
+-- Working: A grant's tests in the parts that the code decides one by one: tests 1 and 2 where it is told whether the register is sound; tests 3 to 8
+-- where it is told whether the claim's id stands; those of the parent and the claim alone; those of the chain, over anything that has grantors and
+-- holders. That 01's tests are these parts in this order is proved here (`world-tests`, `parent-tests`). Assumes nothing.
 use mathlib.Core.Path.{_≡_, refl}
-use mathlib.Core.Bool.{Bool, not, _&&_}
-use mathlib.Core.List.{List, [], _∷_, _++_}
+use mathlib.Core.Bool.{Bool, not, _&&_, cond}
+use mathlib.Core.List.{List, [], _∷_, _++_, map}
 use Prim.Native.Nat.{ℕ}
 use lib.Dec.{eqb, leb, ltb}
-use lib.ListN.{length}
 use Rattle.lists.specs.Lists.{any, every}
 use Rattle.rights.specs.Rights.{delegating, hasRight, hasRights, barsMachine}
-use Rattle.register.specs.Limits.{claimLimit, hopLimit}
+use Rattle.register.specs.Limits.{claimLimit, momentEnd}
 use Rattle.register.specs.Chain.{circling, current}
 use Rattle.register.specs.declared.Claim.{Claim}
-use Rattle.columns.specs.Columns.{placesUp}
-use Rattle.finding.specs.Finding.{earlierPlaces}
-use Rattle.rules.specs.Sound.{World, namesStand, fresh, rootKept, withinHops}
-use Rattle.refusals.specs.Refusals.{Test, outcomeOf}
+use Rattle.lookup.specs.Finding.{earlierPlaces}
+use Rattle.rules.specs.Sound.{World, namesStand, fresh, rootKept, withinHops, claimFits}
+use Rattle.refusals.specs.Refusals.{Test}
 use Rattle.changes.specs.Changes.{sourceLive, worldTests, parentTests}
-use Rattle.refusals.specs.declared.Refusal.the-variants.{Unknown, IdStands, Full, NotKeeper, Ownerless, MachineBarred, ParentNotHeld, ParentDead, NoDelegate, RightLacking}
-use Rattle.refusals.specs.declared.Refusal.the-variants.{WeightAbove, TooManyHops, Circle}
+use Rattle.refusals.specs.declared.Refusal.the-variants.{Unknown, IdStands, Full, NotKeeper, Ownerless, MachineBarred, ParentNotHeld, ParentDead, NoDelegate, RightLacking, WeightAbove, TooManyHops, Circle, Unsound, OutOfRange}
 use Rattle.refusals.specs.declared.Outcome.{Outcome}
 use Rattle.refusals.specs.declared.Outcome.the-variants.{Accepted, Refused}
+use Rattle.columns.specs.Columns.{latestPlace}
+use Rattle.columns.specs.Sheet.{columnOf, claimAt}
+use Rattle.lookup.specs.Walks.{upFrom}
 
 -- tests 3 to 8 in a world, where it is told whether the id of the claim c stands, and that n claims do
 unfoldable pub toldTests : World → Bool → ℕ → Claim → List Test
@@ -43,10 +43,6 @@ drawnTests lives p c =
     ∷ record { passed = leb (c .weight) (p .weight); refusal = WeightAbove }
     ∷ []
 
--- whether what is drawn from the claim at a place has at most 16 hops, by the columns of the first n claims: the walk up from there
-abbrev pub nearUnder : List ℕ → List ℕ → ℕ → ℕ → Bool
-nearUnder ids parents n at = ltb (length (placesUp (earlierPlaces ids parents n claimLimit) at)) hopLimit
-
 -- tests 15 and 16, of the chain above a claim and its holder h, where it is told whether there are at most 16 hops
 unfoldable pub chainTests : {A : Type 0} → (A → ℕ) → (A → ℕ) → Bool → List A → ℕ → List Test
 chainTests grantor holder near l h =
@@ -54,10 +50,22 @@ chainTests grantor holder near l h =
     ∷ record { passed = not (circling grantor holder l h); refusal = Circle }
     ∷ []
 
--- the outcome of further tests, where that of the tests before them is told
-abbrev pub outcomeAfter : Outcome → List Test → Outcome
-outcomeAfter (Refused why) more = Refused why
-outcomeAfter Accepted more = outcomeOf more
+-- the outcome of tests one behind the other, where that of each part is told
+abbrev pub outcomeThen : Outcome → Outcome → Outcome
+outcomeThen (Refused why) next = Refused why
+outcomeThen Accepted next = next
+
+-- tests 1 and 2, where it is told whether the register is sound
+abbrev pub firstTests : Bool → Claim → ℕ → List Test
+firstTests whole c moment =
+    record { passed = whole; refusal = Unsound }
+    ∷ record { passed = claimFits c && ltb moment momentEnd; refusal = OutOfRange }
+    ∷ []
+
+-- tests 9 to 16, over the chain above the claim c as the first n claims of a sheet and the places of the parents have it; of a root there are none
+abbrev pub parentAsked : List ℕ → List ℕ → ℕ → Claim → ℕ → List Test
+parentAsked s ups n c moment =
+    cond (eqb (c .parent) 0) [] (parentTests moment (map (claimAt s) (upFrom ups (latestPlace (columnOf 0 s) n (c .parent)))) c)
 
 pub world-tests : (w : World) (earlier : List Claim) (n : ℕ) (c : Claim)
     → worldTests w earlier n c ≡ toldTests w (any (λ d. eqb (c .id) (d .id)) earlier) n c

@@ -1,14 +1,20 @@
-// Grant: tests 1 to 8 in order and, with a parent, 9 to 16. Accepted, the claim goes to the end of the list; refused, the register is
-// handed back as it came, every byte past the counts included.
+// Grant: the outcome of tests 1 to 8 in order and, with a parent, 9 to 16. The claims are put into a sheet once; the register is judged by it,
+// and the chain above the claim is walked by the places of the parents that the judgement found.
 ghost use mathlib.Core.Path.{_≡_};
-ghost use lib.ListN.{getD};
+ghost use mathlib.Core.List.{_∷_};
+ghost use lib.Dec.{ltb};
+ghost use lib.ListN.{length, getD};
+ghost use Rattle.lists.specs.Lists.{every};
+ghost use Rattle.register.specs.Limits.{hopLimit};
 ghost use Rattle.register.specs.Register.{actorsOf, resourcesOf};
+ghost use Rattle.register.specs.Chain.{current};
 ghost use Rattle.rules.specs.Sound.{worldOf};
-ghost use Rattle.columns.specs.Columns.{chainPlaces};
+ghost use Rattle.columns.specs.Columns.{placesUp};
+ghost use Rattle.columns.specs.Sheet.{claimAt};
 ghost use Rattle.refusals.specs.Refusals.{outcomeOf};
-ghost use Rattle.changes.specs.Changes.{grantTests, granted};
-ghost use Rattle.granting.specs.Drawn.{toldTests, drawnTests, chainTests, nearUnder, outcomeAfter};
-use changes::Granted;
+ghost use Rattle.changes.specs.Changes.{grantTests};
+ghost use Rattle.granting.specs.Drawn.{toldTests, drawnTests, chainTests, outcomeThen, firstTests, parentAsked};
+use columns::Hops;
 use columns::Place;
 use refusals::Outcome;
 use refusals::Refusal;
@@ -29,7 +35,7 @@ fn world_outcome(a: Actors, o: Resources, stands: bool, n: usize, c: Claim) -> O
     let owners = actors.owners;
     let reports = resources.ids;
     let keepers = resources.keepers;
-    if !alone::names_stand(&ids, a.count, &reports, o.count, c) {
+    if !claims::names_stand(&ids, a.count, &reports, o.count, c) {
         return Outcome::Refused(Refusal::Unknown);
     }
     if stands {
@@ -38,7 +44,7 @@ fn world_outcome(a: Actors, o: Resources, stands: bool, n: usize, c: Claim) -> O
     if Register::CLAIMS <= n {
         return Outcome::Refused(Refusal::Full);
     }
-    if !alone::root_kept(&reports, &keepers, o.count, c) {
+    if !claims::root_kept(&reports, &keepers, o.count, c) {
         return Outcome::Refused(Refusal::NotKeeper);
     }
     if !columns::is_beside(&ids, &kinds, a.count, c.grantor, Actor::MACHINE) {
@@ -78,136 +84,114 @@ fn drawn_outcome(p: Claim, c: Claim, lives: bool) -> Outcome
     Outcome::Accepted
 }
 
-// Tests 15 and 16, of the chain from the parent number `p` up, which stands at the place `at`, over the first `n` claims by their columns,
-// and the holder `h`.
-fn chain_outcome<'a>(
-    ids: &'a [u32],
-    parents: &'a [u32],
-    grantors: &'a [u32],
-    holders: &'a [u32],
-    n: usize,
-    at: usize,
-    p: u32,
-    h: u32,
-) -> Outcome
-    ensures { λ r. ⌜ r ≡ outcomeOf (chainTests (λ j. getD (now (grantors .entry)) j 0) (λ j. getD (now (holders .entry)) j 0) (nearUnder (now (ids .entry)) (now (parents .entry)) n at) (chainPlaces (now (ids .entry)) (now (parents .entry)) n p) h) ⌝ }
+// Whether the claim at the place `from` of a sheet and every claim above it are current at the moment. `ups` has for each place that of the
+// parent.
+fn current_up<'a>(sheet: &'a [u32], ups: &'a [u16], from: usize, moment: u64) -> bool
+    ensures { λ r. ⌜ r ≡ every (λ j. current moment (claimAt (now (sheet .entry)) j)) (from ∷ placesUp (now (ups .entry)) from) ⌝ }
 {
-    let ups = finding::earlier_places(ids, parents, n, Register::CLAIMS);
-    if !over::within_hops(&ups, at) {
-        return Outcome::Refused(Refusal::TooManyHops);
+    let mut member = from;
+    let mut up = columns::place_above(ups, from);
+    while up < member {
+        let c = columns::claim_at(sheet, member);
+        if !c.is_current(moment) {
+            return false;
+        }
+        member = up;
+        up = columns::place_above(ups, member);
     }
-    if columns::circles(ids, parents, grantors, holders, n, p, h) {
-        return Outcome::Refused(Refusal::Circle);
-    }
-    Outcome::Accepted
+    let root = columns::claim_at(sheet, member);
+    root.is_current(moment)
 }
 
-// Tests 10 to 16, where the outcome of 10 to 14 is told: then those of the chain above the claim, whose parent stands at the place `at`, over the
-// first `n` claims by their columns.
-fn parent_outcome<'a>(
-    ids: &'a [u32],
-    parents: &'a [u32],
+// Tests 15 and 16, of the chain from the parent up, which stands at the place `at`, and the holder `h`. `ups` has for each place that of the
+// parent.
+fn chain_outcome<'a>(
+    ups: &'a [u16],
     grantors: &'a [u32],
     holders: &'a [u32],
-    n: usize,
     at: usize,
-    c: Claim,
-    drawn: Outcome,
+    h: u32,
 ) -> Outcome
-    ensures { λ r. ⌜ r ≡ outcomeAfter drawn (chainTests (λ j. getD (now (grantors .entry)) j 0) (λ j. getD (now (holders .entry)) j 0) (nearUnder (now (ids .entry)) (now (parents .entry)) n at) (chainPlaces (now (ids .entry)) (now (parents .entry)) n (c .parent)) (c .holder)) ⌝ }
+    ensures { λ r. ⌜ r ≡ outcomeOf (chainTests (λ j. getD (now (grantors .entry)) j 0) (λ j. getD (now (holders .entry)) j 0) (ltb (length (placesUp (now (ups .entry)) at)) hopLimit) (at ∷ placesUp (now (ups .entry)) at) h) ⌝ }
 {
-    match drawn {
-        Outcome::Refused(why) => Outcome::Refused(why),
-        Outcome::Accepted => {
-            chain_outcome(ids, parents, grantors, holders, n, at, c.parent, c.holder)
+    let walked = columns::hop_count(ups, at);
+    match walked {
+        Hops::Beyond => Outcome::Refused(Refusal::TooManyHops),
+        Hops::Up(steps) => {
+            if Register::HOPS <= steps {
+                return Outcome::Refused(Refusal::TooManyHops);
+            }
+            if claims::circles_up(ups, grantors, holders, at, steps, h) {
+                return Outcome::Refused(Refusal::Circle);
+            }
+            Outcome::Accepted
         }
     }
 }
 
-// The outcome of a grant.
-fn grant_outcome(r: Register, c: Claim, moment: u64) -> Outcome
-    ensures { λ y. ⌜ y ≡ outcomeOf (grantTests r c moment) ⌝ }
+// The outcome of tests of which the first part and the next are told.
+fn then(first: Outcome, next: Outcome) -> Outcome
+    ensures { λ r. ⌜ r ≡ outcomeThen first next ⌝ }
 {
-    if !soundness::is_sound(r) {
+    match first {
+        Outcome::Refused(why) => Outcome::Refused(why),
+        Outcome::Accepted => next,
+    }
+}
+
+// Tests 9 to 16, over the first `n` claims of a sheet and the places of their parents; a root passes.
+fn parent_outcome<'a>(sheet: &'a [u32], ups: &'a [u16], n: usize, c: Claim, moment: u64) -> Outcome
+    ensures { λ r. ⌜ r ≡ outcomeOf (parentAsked (now (sheet .entry)) (now (ups .entry)) n c moment) ⌝ }
+{
+    if c.parent == 0 {
+        return Outcome::Accepted;
+    }
+    let ids = columns::column(sheet, columns::IDS);
+    let place = columns::latest_place(ids, n, c.parent);
+    match place {
+        Place::Nowhere => Outcome::Refused(Refusal::ParentAbsent),
+        Place::At(at) => {
+            let p = columns::claim_at(sheet, at);
+            let lives = current_up(sheet, ups, at, moment);
+            let drawn = drawn_outcome(p, c, lives);
+            let grantors = columns::column(sheet, columns::GRANTORS);
+            let holders = columns::column(sheet, columns::HOLDERS);
+            let chained = chain_outcome(ups, grantors, holders, at, c.holder);
+            then(drawn, chained)
+        }
+    }
+}
+
+// Tests 1 and 2: `whole` says whether the register is sound.
+fn first_outcome(whole: bool, c: Claim, moment: u64) -> Outcome
+    ensures { λ r. ⌜ r ≡ outcomeOf (firstTests whole c moment) ⌝ }
+{
+    if !whole {
         return Outcome::Refused(Refusal::Unsound);
     }
-    if !alone::claim_fits(c) {
+    if !claims::claim_fits(c) {
         return Outcome::Refused(Refusal::OutOfRange);
     }
     if register::MOMENT_END <= moment {
         return Outcome::Refused(Refusal::OutOfRange);
     }
+    Outcome::Accepted
+}
+
+// The outcome of a grant of a claim at a moment.
+pub fn grant_outcome(r: Register, c: Claim, moment: u64) -> Outcome
+    ensures { λ y. ⌜ y ≡ outcomeOf (grantTests r c moment) ⌝ }
+{
     let a = r.actors;
     let o = r.resources;
     let k = r.claims;
-    let claims = columns::claim_columns(k);
-    let stands = columns::is_among(&claims.ids, k.count, c.id);
-    let first = world_outcome(a, o, stands, k.count, c);
-    match first {
-        Outcome::Refused(why) => Outcome::Refused(why),
-        Outcome::Accepted => {
-            if c.parent == 0 {
-                return Outcome::Accepted;
-            }
-            let place = columns::latest_place(&claims.ids, k.count, c.parent);
-            match place {
-                Place::Nowhere => Outcome::Refused(Refusal::ParentAbsent),
-                Place::At(at) => {
-                    let p = k.list[at];
-                    let lives = columns::all_current(
-                        &claims.ids,
-                        &claims.parents,
-                        &claims.weights,
-                        &claims.expiries,
-                        k.count,
-                        c.parent,
-                        moment,
-                    );
-                    let drawn = drawn_outcome(p, c, lives);
-                    parent_outcome(
-                        &claims.ids,
-                        &claims.parents,
-                        &claims.grantors,
-                        &claims.holders,
-                        k.count,
-                        at,
-                        c,
-                        drawn,
-                    )
-                }
-            }
-        }
-    }
-}
-
-// Grants a claim at a moment.
-pub fn grant(r: Register, c: Claim, moment: u64) -> Granted
-    ensures { λ g. ⌜ g ≡ granted r c moment ⌝ }
-{
-    let outcome = grant_outcome(r, c, moment);
-    match outcome {
-        Outcome::Accepted => {
-            let actors = r.actors;
-            let resources = r.resources;
-            let mut claims = r.claims;
-            let at = claims.count;
-            claims.list[at] = c;
-            claims.count = at + 1;
-            Granted {
-                register: Register {
-                    actors,
-                    resources,
-                    claims,
-                },
-                outcome: Outcome::Accepted,
-            }
-        }
-        Outcome::Refused(why) => {
-            let unchanged = r;
-            Granted {
-                register: unchanged,
-                outcome: Outcome::Refused(why),
-            }
-        }
-    }
+    let mut sheet = [0u32; columns::SHEET];
+    columns::put_claims(&mut sheet, k);
+    let judged = soundness::judged(a, o, &sheet, k.count);
+    let ids = columns::column(&sheet, columns::IDS);
+    let stands = columns::is_among(ids, k.count, c.id);
+    let first = first_outcome(judged.sound, c, moment);
+    let world = world_outcome(a, o, stands, k.count, c);
+    let parent = parent_outcome(&sheet, &judged.ups, k.count, c, moment);
+    then(first, then(world, parent))
 }

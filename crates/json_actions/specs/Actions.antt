@@ -18,7 +18,7 @@ use Rattle.refusals.specs.declared.Refusal.the-variants.{OutOfRange, BadJson, B
 use Rattle.sheets.specs.Sheets.{put}
 use Rattle.texts.specs.Actions.{noUse, noAction}
 use Rattle.texts.specs.declared.Written.{Written}
-use Rattle.writing.specs.Writing.{delivered, unwritten}
+use Rattle.texts.specs.Delivery.{delivered, unwritten}
 use Rattle.json_tokens.specs.Tokens.{Token, mark, text, tokens, opensObject, closesObject, opensList, closesList, colon, comma, zeroMark, trueMark, falseMark}
 use Rattle.json_tokens.specs.Spelling.{spelledAll}
 use Rattle.json_actions.specs.Names.{keyNames, kindNames, flagNames, defaultDomain, idPlace, actorPlace, kindPlace, readPlace, writePlace, executePlace, flagsPlace}

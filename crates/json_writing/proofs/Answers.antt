@@ -14,7 +14,7 @@ use Rattle.refusals.specs.declared.Refusal.the-variants.{OutOfRange, BeyondJson
 use Rattle.actions.specs.declared.Action.{Action}
 use Rattle.sheets.specs.Sheets.{put}
 use Rattle.sheets.specs.Laws.{put-short}
-use Rattle.writing.specs.Writing.{delivered, unwritten}
+use Rattle.texts.specs.Delivery.{delivered, unwritten}
 use Rattle.json_actions.specs.Actions.{jsonText, jsonFits, jsonHolds, jsonWritten, jsonBuffer}
 
 module _ (a : Action) (id : List ℕ) (kind : ℕ) (old : List ℕ) where

@@ -7,7 +7,7 @@ ghost use Rattle.lists.specs.Lists.{splice};
 ghost use Rattle.sheets.specs.Sheets.{put};
 ghost use Rattle.actions.specs.Actions.{usesOf};
 ghost use Rattle.sheets.specs.Positions.{behind};
-ghost use Rattle.writing.specs.Writing.{unwritten};
+ghost use Rattle.texts.specs.Delivery.{unwritten};
 ghost use Rattle.json_actions.specs.Actions.{jsonHolds, jsonWritten, jsonBuffer};
 ghost use Rattle.json_writing.specs.Pieces.{kindText, openingText, resourcesText, settingText, flagsText, headText, tailText, resourceEntry};
 use actions::Action;
@@ -23,7 +23,7 @@ fn has_place(a: Action) -> bool
     if a.governed != 0 {
         return false;
     }
-    let top = columns::least(a.used, Action::USES);
+    let top = lists::least(a.used, Action::USES);
     let mut i: usize = 0;
     while i < top {
         let u = a.uses[i];
@@ -92,7 +92,7 @@ fn put_resources(buf: &mut [u8], at: usize, a: Action, right: u32) -> usize
     ensures behind { λ r. ⌜ r ≡ at + length (resourcesText right (usesOf a)) ⌝ }
     ensures written { λ _. ⌜ now (buf .exit) ≡ splice at (resourcesText right (usesOf a)) (now (buf .entry)) ⌝ }
 {
-    let top = columns::least(a.used, Action::USES);
+    let top = lists::least(a.used, Action::USES);
     let mut end = at;
     let mut first = true;
     let mut i: usize = 0;
@@ -204,9 +204,7 @@ pub fn write_json(a: Action, id: &[u8], kind: u32, buf: &mut [u8]) -> Written
     ensures answer { λ r. ⌜ r ≡ jsonWritten a (now (id .entry)) kind (now (buf .entry)) ⌝ }
     ensures buffer { λ _. ⌜ now (buf .exit) ≡ jsonBuffer a (now (id .entry)) kind (now (buf .entry)) ⌝ }
 {
-    if !(action_ranges::action_fits(a)
-        & json_actions::is_id(id)
-        & (kind <= rights::POLICY_MODIFY)) {
+    if !(actions::action_fits(a) & json_actions::is_id(id) & (kind <= rights::POLICY_MODIFY)) {
         return refused(Refusal::OutOfRange);
     }
     if !has_place(a) {

@@ -22,6 +22,12 @@ pub counted-last : (i n : ℕ) → counted i (suc n) ≡ counted i n ++ ((i + n)
 counted-last i zero = let first : i + 0 ≡ i = omega arith in rw first
 counted-last i (suc n) = let last : suc i + n ≡ i + suc n = omega arith in ap (λ l. i ∷ l) (counted-last (suc i) n ∙ rw last)
 
+-- what f makes of them is read at each place
+pub counted-read : {A : Type 0} (f : ℕ → A) (n i j : ℕ) (d : A) → j < n → getD (map f (counted i n)) j d ≡ f (i + j)
+counted-read f zero i j d h = absurd (omega arith)
+counted-read f (suc n) i zero d h = let here : i + 0 ≡ i = omega arith in rw here
+counted-read f (suc n) i (suc j) d h = counted-read f n (suc i) j d (omega arith) ∙ ap f (omega arith)
+
 -- each is below the end
 pub counted-below : (i n : ℕ) → All (λ j. j < i + n) (counted i n)
 counted-below i zero = tt

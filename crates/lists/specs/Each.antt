@@ -4,7 +4,7 @@ use mathlib.Core.Bool.{Bool, true, false, _||_, _&&_, and-comm, and-true, or-com
 use mathlib.Core.List.{List, [], _∷_, _++_, map, reverse, reverse-cons}
 use Prim.Native.Nat.{ℕ, zero, suc, _<_}
 use native.Mathlib.Omega.{arith}
-use lib.ListN.{length, getD}
+use lib.ListN.{length, take, getD}
 use Rattle.lists.specs.Tests.{cases, clash, and-left, and-right, and-both, or-left, or-right, or-middle}
 use Rattle.lists.specs.Lists.{any, every, ands, Each, All}
 
@@ -90,6 +90,12 @@ module _ {C : Type 0} where
   pub all-append-right : (Q : C → Type 0) (L M : List C) → All Q (L ++ M) → All Q M
   all-append-right Q [] M h = h
   all-append-right Q (c ∷ L) M h = all-append-right Q L M (h .1)
+
+  -- what holds of each holds of each of the first ones
+  pub all-take : (Q : C → Type 0) (n : ℕ) (L : List C) → All Q L → All Q (take n L)
+  all-take Q zero L h = tt
+  all-take Q (suc n) [] h = tt
+  all-take Q (suc n) (c ∷ L) h = (h .0, all-take Q n L (h .1))
 
   -- no element passes the test exactly where each fails it
   pub none-all : (p : C → Bool) (L : List C) → any p L ≡ false → All (λ c. p c ≡ false) L

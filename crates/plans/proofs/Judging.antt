@@ -10,6 +10,7 @@ use lib.ListN.{length, drop, getD, set, replicate, length-take, length-map, leng
 use lib.Seq.{append-snoc}
 use Rattle.lists.specs.Fills.{put-first}
 use Rattle.lists.specs.Loops.{drop-at}
+use Rattle.register.specs.Limits.{claimLimit}
 use Rattle.register.specs.Register.{Shaped}
 use Rattle.register.specs.declared.Register.{Register}
 use Rattle.refusals.specs.declared.Outcome.the-variants.{Accepted}
@@ -22,7 +23,12 @@ use Rattle.actions.specs.declared.Plan.{Plan}
 use Rattle.actions.specs.declared.PlanVerdict.{PlanVerdict}
 use Rattle.verdicts.specs.Plans.{actionsOf, runs, haltOf, held, planned}
 use Rattle.verdicts.specs.Cancelling.{halt-runs, planned-runs}
+use Rattle.verdicts.specs.Sameness.{planned-same}
+use Rattle.soundness.specs.Laws.{register-standing}
+use Rattle.columns.specs.Sheet.{sheetOf}
+use Rattle.coverage.specs.Laid.{laid}
 use Rattle.gate.specs.Judged.{Lent, viewOf, lentOf, judgedBy}
+use Rattle.gate.specs.Sheets.{sheeted}
 use Rattle.gate.specs.declared.View.{View}
 use Rattle.plans.specs.Judgements.{judgedAs, judgementsBy}
 use Rattle.plans.proofs.Laws.{judgements-by-nil, judgements-by-cons, judgements-natural}
@@ -111,11 +117,15 @@ module _ {l : Lent} {p : Plan} {top : ℕ} where
         ∙ ap (λ m. s .passed ++ m) (judgements-by-nil l cancelled) ∙ append-nil (s .passed) in
         rw all (held-same list top (s .passed) (omega arith) (rw (s .long) (s .put)))
 
--- the verdicts by what is lent of the view of a register are those of the plan
-pub planned-lent : (r : Register) (p : Plan) → Shaped r → haltOf r p ≡ runs → {v : View} → v ≡ viewOf r → {answer : PlanVerdict}
-    → answer ≡ held (judgementsBy (lentOf v) false (actionsOf p)) → answer ≡ planned r p
-planned-lent r p shaped e viewed answered =
-    let passed = halt-runs r p e in
-    answered ∙ ap (λ w. held (judgementsBy (lentOf w) false (actionsOf p))) viewed
-    ∙ ap held (judgements-natural r shaped (passed .soundly) false (actionsOf p) (passed .fit))
-    ∙ sym (planned-runs r p e)
+-- the verdicts by what is lent of a register are those of the plan
+pub planned-lent : (r : Register) (p : Plan) → Shaped r → haltOf (sheeted r) p ≡ runs → {v : View} → v ≡ viewOf r → {sheet bytes : List ℕ}
+    → sheet ≡ sheetOf (r .claims) → bytes ≡ laid (r .resources) .bytes → {answer : PlanVerdict}
+    → answer ≡ held (judgementsBy (lentOf v sheet bytes) false (actionsOf p)) → answer ≡ planned (sheeted r) p
+planned-lent r p shaped e viewed put of-bytes answered =
+    let passed = halt-runs (sheeted r) p e in
+    answered
+    ∙ rw (viewed, put, of-bytes) (ap held (judgements-natural r shaped (passed .soundly) false (actionsOf p) (passed .fit)) ∙ sym (planned-runs (sheeted r) p e))
+
+-- a register whose claims are read from their sheet gets the same verdicts
+pub planned-sheeted : (r : Register) → length (r .claims .list) ≡ claimLimit → (p : Plan) → planned (sheeted r) p ≡ planned r p
+planned-sheeted r long p = planned-same (sheeted r) r (register-standing r long) p

@@ -19,7 +19,8 @@ use Rattle.verdicts.specs.Gate.{violationsOf}
 use Rattle.verdicts.specs.Laws.{Fit}
 use Rattle.verdicts.specs.Plans.{judged, judgements, runs, halts, firstHalt}
 use Rattle.verdicts.specs.Cancelling.{judgements-nil, judgements-cons}
-use Rattle.gate.specs.Judged.{Lent, viewOf, lentOf, lentTests, judgedBy}
+use Rattle.gate.specs.Judged.{Lent, viewOf, lentIn, lentTests, judgedBy}
+use Rattle.gate.specs.Sheets.{sheeted, sheeted-shaped}
 use Rattle.gate.specs.Laws.{tests-natural, view-natural, judged-natural}
 use Rattle.plans.specs.Stops.{haltBy}
 use Rattle.plans.specs.Judgements.{judgedAs, judgementsBy}
@@ -40,7 +41,7 @@ module _ (names : List ℕ) (n i : ℕ) where
   unfolding haltBy
   halt-by-fail a actions why e = rw e
 
-pub halt-natural : (r : Register) (i : ℕ) (actions : List Action) → haltBy (viewOf r .actors .ids) (viewOf r .counts .actors) i actions ≡ firstHalt r i actions
+pub halt-natural : (r : Register) (i : ℕ) (actions : List Action) → haltBy (viewOf r .actors .ids) (viewOf r .counts .actors) i actions ≡ firstHalt (sheeted r) i actions
 unfolding haltBy firstHalt
 halt-natural r i [] = refl
 halt-natural r i (a ∷ actions) = rw (tests-natural r a, halt-natural r (suc i) actions)
@@ -62,17 +63,18 @@ judged-counted : (vs : List Violation) → judgedAs (length vs) ≡ judged vs
 judged-counted [] = refl
 judged-counted (v ∷ vs) = refl
 
-module _ (r : Register) (shaped : Shaped r) (h : sound r ≡ true) where
+module _ (r : Register) (shaped : Shaped r) (h : sound (sheeted r) ≡ true) where
   -- the verdict on an action in range
-  verdict-natural : (a : Action) → Fit r a → judgedAs (judgedBy (lentOf (viewOf r)) a .violations .count) ≡ judged (violationsOf r a)
+  verdict-natural : (a : Action) → Fit (sheeted r) a → judgedAs (judgedBy (lentIn r) a .violations .count) ≡ judged (violationsOf (sheeted r) a)
   verdict-natural a fit =
-      ap (λ y. judgedAs (y .violations .count)) (view-natural r shaped h a (fit .fits) ∙ judged-natural r shaped h a (fit .fits)) ∙ judged-counted (violationsOf r a)
+      ap (λ y. judgedAs (y .violations .count))
+      (view-natural r shaped h a (fit .fits) ∙ judged-natural (sheeted r) (sheeted-shaped r shaped) h a (fit .fits)) ∙ judged-counted (violationsOf (sheeted r) a)
 
   -- the verdicts on actions in range
-  pub judgements-natural : (cancelled : Bool) (actions : List Action) → All (λ a. Fit r a) actions
-      → judgementsBy (lentOf (viewOf r)) cancelled actions ≡ judgements r cancelled actions
-  judgements-natural cancelled [] fit = judgements-by-nil (lentOf (viewOf r)) cancelled ∙ sym (judgements-nil r cancelled)
+  pub judgements-natural : (cancelled : Bool) (actions : List Action) → All (λ a. Fit (sheeted r) a) actions
+      → judgementsBy (lentIn r) cancelled actions ≡ judgements (sheeted r) cancelled actions
+  judgements-natural cancelled [] fit = judgements-by-nil (lentIn r) cancelled ∙ sym (judgements-nil (sheeted r) cancelled)
   judgements-natural cancelled (a ∷ actions) fit =
-      judgements-by-cons (lentOf (viewOf r)) cancelled a actions
+      judgements-by-cons (lentIn r) cancelled a actions
       ∙ rw (verdict-natural a (fit .0), judgements-natural (cancelled || not (eqb (a .flags) 0)) actions (fit .1))
-      (sym (judgements-cons r cancelled a actions))
+      (sym (judgements-cons (sheeted r) cancelled a actions))

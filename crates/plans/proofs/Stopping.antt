@@ -21,6 +21,7 @@ use Rattle.actions.specs.declared.Plan.{Plan}
 use Rattle.verdicts.specs.Plans.{actionsOf, Halt, runs, halts, firstHalt, haltOf, stopped, planned}
 use Rattle.verdicts.specs.Cancelling.{planned-stopped}
 use Rattle.gate.specs.Judged.{viewOf, lentTests}
+use Rattle.gate.specs.Sheets.{sheeted}
 use Rattle.gate.specs.declared.View.{View}
 use Rattle.plans.specs.Stops.{stopOf, haltBy}
 use Rattle.plans.proofs.Laws.{halt-by-nil, halt-by-pass, halt-by-fail, halt-natural}
@@ -74,12 +75,12 @@ module _ (r : Register) (p : Plan) where
     unfolding haltOf
     halt-actions few = rw (h, le-leb (p .count) actionLimit few)
 
-    -- what is found by the view of the register stops the plan
-    pub stop-found : p .count ≤ actionLimit → {v : View} → v ≡ viewOf r → {stop : Stop}
-        → stop ≡ stopOf (haltBy (v .actors .ids) (v .counts .actors) 0 (actionsOf p)) → stop ≡ stopOf (haltOf r p)
-    stop-found few viewed found =
-        found ∙ ap (λ w. stopOf (haltBy (w .actors .ids) (w .counts .actors) 0 (actionsOf p))) viewed
-        ∙ ap stopOf (halt-natural r 0 (actionsOf p) ∙ sym (halt-actions few))
+-- what is found by the view of the register stops the plan
+pub stop-found : (r : Register) (p : Plan) → sound (sheeted r) ≡ true → p .count ≤ actionLimit → {v : View} → v ≡ viewOf r → {stop : Stop}
+    → stop ≡ stopOf (haltBy (v .actors .ids) (v .counts .actors) 0 (actionsOf p)) → stop ≡ stopOf (haltOf (sheeted r) p)
+stop-found r p h few viewed found =
+    found ∙ ap (λ w. stopOf (haltBy (w .actors .ids) (w .counts .actors) 0 (actionsOf p))) viewed
+    ∙ ap stopOf (halt-natural r 0 (actionsOf p) ∙ sym (halt-actions (sheeted r) p h few))
 
 -- what the code holds tells what stops a plan
 stop-runs : (h : Halt) → stopOf h .outcome ≡ Accepted → h ≡ runs

@@ -1,12 +1,12 @@
 // The gate for a plan of up to 16 actions, in order. Refused with 1 where the register is not sound and then with 2 where the count is above
 // 16, both with position 0; then the first action with 2 or 3 stops the whole plan and is named by its position from 0, a cancelled one too.
 // A stopped plan has no verdicts. Otherwise each action has one: every action after the first with a flag set is cancelled, and any other is
-// permitted, or refused with its number of violations. Soundness is judged and the register's columns are taken out of it
-// once for the whole plan; they are lent to each action.
+// permitted, or refused with its number of violations. Soundness is judged, and what is looked at of the register is taken out
+// of it, once for the whole plan; it is lent to each action.
 ghost use mathlib.Core.Path.{_≡_};
 ghost use mathlib.Core.Bool.{false, cond};
 ghost use Rattle.verdicts.specs.Plans.{actionsOf, held, stopped, planned};
-ghost use Rattle.gate.specs.Judged.{judgedBy};
+ghost use Rattle.gate.specs.Judged.{lentOf, judgedBy};
 ghost use Rattle.plans.specs.Stops.{stopOf, haltBy};
 ghost use Rattle.plans.specs.Judgements.{judgedAs, judgementsBy};
 use actions::Action;
@@ -14,6 +14,7 @@ use actions::Judged;
 use actions::Judgement;
 use actions::Plan;
 use actions::PlanVerdict;
+use gate::View;
 use refusals::Outcome;
 use refusals::Refusal;
 use register::Register;
@@ -28,7 +29,7 @@ struct Stop {
 fn first_stop(names: &[u32], n: usize, p: Plan) -> Stop
     ensures { λ s. ⌜ s ≡ stopOf (haltBy (now (names .entry)) n 0 (actionsOf p)) ⌝ }
 {
-    let top = columns::least(p.count, Plan::ACTIONS);
+    let top = lists::least(p.count, Plan::ACTIONS);
     let mut i: usize = 0;
     while i < top {
         let a = p.actions[i];
@@ -67,49 +68,14 @@ fn stopped(why: Refusal, position: usize) -> PlanVerdict
     }
 }
 
-// The verdict on an action, by lent columns.
-fn judge<'a>(
-    names: &'a [u32],
-    kinds: &'a [u32],
-    owners: &'a [u32],
-    actors: usize,
-    reports: &'a [u32],
-    publics: &'a [u32],
-    resources: usize,
-    bytes: &'a [u8],
-    lens: &'a [usize],
-    holders: &'a [u32],
-    rights: &'a [u32],
-    ends: &'a [u64],
-    spots: &'a [usize],
-    ups: &'a [usize],
-    claims: usize,
-    a: Action,
-    cancelled: bool,
-) -> Judgement
-    ensures { λ v. ⌜ v ≡ cond cancelled Judgement.Cancelled (judgedAs (judgedBy (record { names = now (names .entry); kinds = now (kinds .entry); owners = now (owners .entry); actors = actors; reports = now (reports .entry); publics = now (publics .entry); resources = resources; bytes = now (bytes .entry); lens = now (lens .entry); holders = now (holders .entry); rights = now (rights .entry); ends = now (ends .entry); spots = now (spots .entry); ups = now (ups .entry); claims = claims }) a .violations .count)) ⌝ }
+// The verdict on an action, by what is lent.
+fn judge<'a>(v: View, sheet: &'a [u32], bytes: &'a [u8], a: Action, cancelled: bool) -> Judgement
+    ensures { λ y. ⌜ y ≡ cond cancelled Judgement.Cancelled (judgedAs (judgedBy (lentOf v (now (sheet .entry)) (now (bytes .entry))) a .violations .count)) ⌝ }
 {
     if cancelled {
         return Judgement::Cancelled;
     }
-    let judged = gate::judge_by(
-        names,
-        kinds,
-        owners,
-        actors,
-        reports,
-        publics,
-        resources,
-        bytes,
-        lens,
-        holders,
-        rights,
-        ends,
-        spots,
-        ups,
-        claims,
-        a,
-    );
+    let judged = gate::judge_by(v, sheet, bytes, a);
     let count = judged.violations.count;
     if count == 0 {
         return Judgement::Permitted;
@@ -117,28 +83,11 @@ fn judge<'a>(
     Judgement::Refused(count)
 }
 
-// The verdicts on the actions of a plan, by lent columns.
-fn judge_all<'a>(
-    names: &'a [u32],
-    kinds: &'a [u32],
-    owners: &'a [u32],
-    actors: usize,
-    reports: &'a [u32],
-    publics: &'a [u32],
-    resources: usize,
-    bytes: &'a [u8],
-    lens: &'a [usize],
-    holders: &'a [u32],
-    rights: &'a [u32],
-    ends: &'a [u64],
-    spots: &'a [usize],
-    ups: &'a [usize],
-    claims: usize,
-    p: Plan,
-) -> PlanVerdict
-    ensures { λ v. ⌜ v ≡ held (judgementsBy (record { names = now (names .entry); kinds = now (kinds .entry); owners = now (owners .entry); actors = actors; reports = now (reports .entry); publics = now (publics .entry); resources = resources; bytes = now (bytes .entry); lens = now (lens .entry); holders = now (holders .entry); rights = now (rights .entry); ends = now (ends .entry); spots = now (spots .entry); ups = now (ups .entry); claims = claims }) false (actionsOf p)) ⌝ }
+// The verdicts on the actions of a plan, by what is lent.
+fn judge_all<'a>(v: View, sheet: &'a [u32], bytes: &'a [u8], p: Plan) -> PlanVerdict
+    ensures { λ y. ⌜ y ≡ held (judgementsBy (lentOf v (now (sheet .entry)) (now (bytes .entry))) false (actionsOf p)) ⌝ }
 {
-    let top = columns::least(p.count, Plan::ACTIONS);
+    let top = lists::least(p.count, Plan::ACTIONS);
     let none = Judged {
         what: Judgement::Permitted,
     };
@@ -147,25 +96,7 @@ fn judge_all<'a>(
     let mut i: usize = 0;
     while i < top {
         let a = p.actions[i];
-        let what = judge(
-            names,
-            kinds,
-            owners,
-            actors,
-            reports,
-            publics,
-            resources,
-            bytes,
-            lens,
-            holders,
-            rights,
-            ends,
-            spots,
-            ups,
-            claims,
-            a,
-            flagged,
-        );
+        let what = judge(v, sheet, bytes, a, flagged);
         list[i] = Judged { what };
         flagged = flagged | (a.flags != 0);
         i += 1;
@@ -182,34 +113,26 @@ fn judge_all<'a>(
 pub fn plan(r: Register, p: Plan) -> PlanVerdict
     ensures { λ v. ⌜ v ≡ planned r p ⌝ }
 {
-    if !soundness::is_sound(r) {
+    let actors = r.actors;
+    let o = r.resources;
+    let k = r.claims;
+    let n = k.count;
+    let mut sheet = [0u32; columns::SHEET];
+    columns::put_claims(&mut sheet, k);
+    let known = soundness::judged(actors, o, &sheet, n);
+    if !known.sound {
         return stopped(Refusal::Unsound, 0);
     }
     if Plan::ACTIONS < p.count {
         return stopped(Refusal::OutOfRange, 0);
     }
-    let v = gate::view_of(r);
+    let mut bytes = [0u8; coverage::BYTES];
+    let lens = coverage::lay(&mut bytes, o);
+    let v = gate::view_of(actors, o, &sheet, n, lens, known);
     let stop = first_stop(&v.actors.ids, v.counts.actors, p);
     let outcome = stop.outcome;
     match outcome {
         Outcome::Refused(why) => stopped(why, stop.position),
-        Outcome::Accepted => judge_all(
-            &v.actors.ids,
-            &v.actors.kinds,
-            &v.actors.owners,
-            v.counts.actors,
-            &v.resources.ids,
-            &v.resources.publics,
-            v.counts.resources,
-            &v.paths.bytes,
-            &v.paths.lens,
-            &v.claims.holders,
-            &v.claims.rights,
-            &v.ends,
-            &v.spots,
-            &v.ups,
-            v.counts.claims,
-            p,
-        ),
+        Outcome::Accepted => judge_all(v, &sheet, &bytes, p),
     }
 }

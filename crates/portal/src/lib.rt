@@ -9,11 +9,11 @@ ghost use Rattle.verdicts.specs.Plans.{planned};
 ghost use Rattle.texts.specs.Registers.{registerRead};
 ghost use Rattle.texts.specs.Actions.{actionRead};
 ghost use Rattle.sheets.specs.Sheets.{put};
-ghost use Rattle.writing.specs.Writing.{delivered, registerWritten, registerBuffer};
+ghost use Rattle.writing.specs.Writing.{registerWritten, registerBuffer};
+ghost use Rattle.texts.specs.Delivery.{delivered};
 ghost use Rattle.verdict_text.specs.Printed.{printed};
 ghost use Rattle.json_actions.specs.Actions.{jsonRead, jsonWritten, jsonBuffer};
-ghost use Rattle.answers.specs.Answers.{containment, soundness, grantAnswer, revokeAnswer, gateAnswer, planAnswer, registerAnswer, actionAnswer, writtenAnswer, jsonAnswer};
-ghost use Rattle.answers.specs.Answers.{versionNumbers};
+ghost use Rattle.answers.specs.Answers.{containment, soundness, grantAnswer, revokeAnswer, gateAnswer, planAnswer, registerAnswer, actionAnswer, writtenAnswer, jsonAnswer, versionNumbers};
 ghost use Rattle.words.specs.Words.{refusalText, violationText, rightName, flagName};
 use actions::Action;
 use actions::Plan;
@@ -54,16 +54,8 @@ pub extern "C" fn guvrendik_sound(r: Register) -> Soundness
 pub extern "C" fn guvrendik_grant(r: Register, c: Claim, moment: u64) -> GrantAnswer
     ensures { λ y. ⌜ y ≡ grantAnswer (granted r c moment) ⌝ }
 {
-    let g = granting::grant(r, c, moment);
-    let outcome = g.outcome;
-    let accepted = answers::accepted(outcome);
-    let refusal = answers::refusal(outcome);
-    let state = g.register;
-    GrantAnswer {
-        state,
-        accepted,
-        refusal,
-    }
+    let outcome = granting::grant_outcome(r, c, moment);
+    answers::granted(r, c, outcome)
 }
 
 // Revokes a claim with all that is drawn from it.
@@ -71,17 +63,8 @@ pub extern "C" fn guvrendik_grant(r: Register, c: Claim, moment: u64) -> GrantAn
 pub extern "C" fn guvrendik_revoke(r: Register, revoker: u32, claim: u32) -> RevokeAnswer
     ensures { λ y. ⌜ y ≡ revokeAnswer (withdrawn r (revoke revoker claim)) ⌝ }
 {
-    let g = revoking::revoke(r, revoker, claim);
-    let outcome = g.outcome;
-    let accepted = answers::accepted(outcome);
-    let refusal = answers::refusal(outcome);
-    let state = g.register;
-    RevokeAnswer {
-        state,
-        accepted,
-        refusal,
-        removed: g.removed,
-    }
+    let struck = withdrawing::revoke(r, revoker, claim);
+    answers::withdrawn(r, struck)
 }
 
 // Clears a resource on behalf of its keeper: every claim on it goes.
@@ -89,17 +72,8 @@ pub extern "C" fn guvrendik_revoke(r: Register, revoker: u32, claim: u32) -> Rev
 pub extern "C" fn guvrendik_clear_resource(r: Register, caller: u32, resource: u32) -> RevokeAnswer
     ensures { λ y. ⌜ y ≡ revokeAnswer (withdrawn r (clearResource caller resource)) ⌝ }
 {
-    let cleared = clearing::clear_resource(r, caller, resource);
-    let outcome = cleared.outcome;
-    let accepted = answers::accepted(outcome);
-    let refusal = answers::refusal(outcome);
-    let state = cleared.register;
-    RevokeAnswer {
-        state,
-        accepted,
-        refusal,
-        removed: cleared.removed,
-    }
+    let struck = withdrawing::clear_resource(r, caller, resource);
+    answers::withdrawn(r, struck)
 }
 
 // Clears old claims on behalf of a human: every claim that has expired at the moment goes, with all that is drawn from it.
@@ -107,17 +81,8 @@ pub extern "C" fn guvrendik_clear_resource(r: Register, caller: u32, resource: u
 pub extern "C" fn guvrendik_clear_expired(r: Register, caller: u32, moment: u64) -> RevokeAnswer
     ensures { λ y. ⌜ y ≡ revokeAnswer (withdrawn r (clearExpired caller moment)) ⌝ }
 {
-    let cleared = clearing::clear_expired(r, caller, moment);
-    let outcome = cleared.outcome;
-    let accepted = answers::accepted(outcome);
-    let refusal = answers::refusal(outcome);
-    let state = cleared.register;
-    RevokeAnswer {
-        state,
-        accepted,
-        refusal,
-        removed: cleared.removed,
-    }
+    let struck = withdrawing::clear_expired(r, caller, moment);
+    answers::withdrawn(r, struck)
 }
 
 // The gate for an action.

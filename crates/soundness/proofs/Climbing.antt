@@ -1,30 +1,36 @@
 -- Claims judged over those before them, from the front: the first i of them are as they should be, and the hops of each are kept. One
--- that is not as it should be makes every longer list fail. Assumes nothing.
+-- that is not as it should be makes every longer list fail; so does an id that stands twice. Assumes nothing.
 use mathlib.Core.Path.{_≡_, refl, sym, ap, _∙_}
 use mathlib.Core.Bool.{Bool, true, false, _&&_, and-false}
 use mathlib.Core.List.{List, [], _∷_, _++_, map, reverse-append}
-use Prim.Native.Nat.{ℕ, suc, _+_, _≤_, _<_, min}
+use Prim.Native.Nat.{ℕ, zero, suc, _+_, _≤_, _<_, min}
 use native.Mathlib.Numerals.{add-one}
 use native.Mathlib.Omega.{arith}
 use borrow.Author.Tests.{eqb-true, eqb-false}
 use lib.Dec.{eqb}
-use lib.ListN.{length, take, drop, getD, set, take-append-drop, length-map, length-set, List·getD-map}
+use lib.ListN.{length, take, drop, getD, set, take-append-drop, length-take, length-map, length-set, List·getD-map}
 use lib.Seq.{take-suc, take-take, getD-set-same, getD-set-other}
-use Rattle.lists.specs.Tests.{cases}
+use Rattle.lists.specs.Tests.{cases, clash, and-left, and-right}
+use Rattle.lists.specs.Lists.{any}
+use Rattle.lists.specs.Loops.{drop-at}
 use Rattle.register.specs.Limits.{claimLimit, hopLimit}
 use Rattle.register.specs.Register.{noClaim}
 use Rattle.register.specs.Chain.{latest, hopsOf}
 use Rattle.register.specs.declared.Claim.{Claim}
 use Rattle.columns.specs.Columns.{claimId, parentOf, grantorOf, holderOf, latestPlace, chainPlaces}
-use Rattle.columns.specs.Laws.{place-found, chain-places-zero}
+use Rattle.columns.specs.Laws.{place-cases, place-found, nowhere-none, none-nowhere, chain-places-zero}
 use Rattle.columns.specs.Laws as column-laws
+use Rattle.columns.specs.Sheet.{sheetLimit, columnOf, claimAt, claimsIn}
+use Rattle.columns.specs.SheetLaws.{claims-in-length, claims-in-at, column-natural-ids, column-natural-parents, column-natural-grantors, column-natural-holders}
 use Rattle.columns.specs.declared.Place.{Place}
 use Rattle.columns.specs.declared.Place.the-variants.{At, Nowhere}
-use Rattle.finding.specs.Finding.{placeNumber, earlierPlaces}
-use Rattle.finding.specs.Laws.{earlier-at}
-use Rattle.rules.specs.Sound.{over}
-use Rattle.over.specs.Judged.{overAt, standOver}
-use Rattle.over.specs.Laws.{KeptPlaces, higher, doubled, root-stands, parent-nowhere, one-hop-more, over-within, over-natural, stand-nil, stand-cons}
+use Rattle.lookup.specs.Finding.{placeNumber, asked, earlierPlaces}
+use Rattle.lookup.specs.Laws.{tabled-length, earlier-at}
+use Rattle.rules.specs.Sound.{distinct, over}
+use Rattle.rules.specs.Registers.{distinct-nil}
+use Rattle.rules.specs.Distinct.{distinct-last, distinct-again}
+use Rattle.claims.specs.Over.{overAt, standOver}
+use Rattle.claims.specs.OverLaws.{KeptPlaces, higher, doubled, root-stands, parent-nowhere, one-hop-more, over-within, over-natural, stand-nil, stand-cons}
 
 -- a place told by its number: below the limit it is that, and the limit is none
 number-at : (p : Place) (x : ℕ) → x ≡ placeNumber claimLimit p → x < claimLimit → p ≡ At x
@@ -56,14 +62,71 @@ module _ (cs : List Claim) where
       ∙ ap standOver (reverse-append first rest)
       ∙ stand-behind (latest rest) (latest first) short
 
--- the tables of a list of claims: its columns of grantors and holders, where each one's parent stands before it, and where its id does
-pub record Tables (cs : List Claim) (n : ℕ) (grantors holders ups twins : List ℕ) : Type 0 where
+  -- the ids of claims that are as they should be are distinct
+  pub stand-distinct : (n : ℕ) → n ≤ length cs → standOver (latest (take n cs)) ≡ true → distinct (take n (map claimId cs)) ≡ true
+  stand-distinct zero short h = distinct-nil
+  stand-distinct (suc n) short h =
+      let c = getD cs n noClaim in
+      let inside : n < length (map claimId cs) = omega (arith, short, length-map cs claimId) in
+      let told : over (latest (take n cs)) c && standOver (latest (take n cs)) ≡ true =
+      sym (stand-next n (omega arith)) ∙ rw (add-one n) h in
+      let single : any (eqb (c .id)) (take n (map claimId cs)) ≡ false =
+      place-cases (latestPlace (map claimId cs) n (c .id))
+      (λ k q. clash (over (latest (take n cs)) c) (and-left (over (latest (take n cs)) c) (standOver (latest (take n cs))) told) (doubled cs n c k q))
+      (λ q. nowhere-none (map claimId cs) (c .id) n q) in
+      rw (take-suc (map claimId cs) n 0, List·getD-map claimId cs n noClaim)
+      (distinct-last (take n (map claimId cs)) (c .id)
+      (stand-distinct n (omega arith) (and-right (over (latest (take n cs)) c) (standOver (latest (take n cs))) told))
+      single)
+
+-- of distinct numbers none stands before its place
+unseen : (l : List ℕ) (n i : ℕ) → distinct (take n l) ≡ true → i < n → i < length l → any (eqb (getD l i 0)) (take i l) ≡ false
+unseen l n i apart below inside =
+    let x = getD l i 0 in
+    let there : i < length (take n l) = omega (arith, below, inside, length-take n l) in
+    let parts : take n l ≡ take i l ++ (x ∷ drop (i + 1) (take n l)) =
+    sym (take-append-drop i (take n l)) ∙ rw (take-take i n l (omega arith), drop-at n l i 0 there) in
+    cases (any (eqb x) (take i l))
+    (λ t. clash (distinct (take n l)) apart (ap distinct parts ∙ distinct-again (take i l) x (drop (i + 1) (take n l)) t))
+    (λ t. t)
+
+-- the tables of a list of claims with distinct ids: its columns of grantors and holders, and where each one's parent stands before it
+pub record Tables (cs : List Claim) (n : ℕ) (grantors holders ups : List ℕ) : Type 0 where
   pub long : length cs ≡ claimLimit
   pub short : n ≤ claimLimit
   pub granted : grantors ≡ map grantorOf cs
   pub held : holders ≡ map holderOf cs
   pub parents : ups ≡ earlierPlaces (map claimId cs) (map parentOf cs) n claimLimit
-  pub doubles : twins ≡ earlierPlaces (map claimId cs) (map claimId cs) n claimLimit
+  pub wide : length ups ≡ claimLimit
+  pub distant : distinct (take n (map claimId cs)) ≡ true
+
+earlier-long : (column wanted : List ℕ) (m none : ℕ) → length (earlierPlaces column wanted m none) ≡ claimLimit
+unfolding earlierPlaces
+earlier-long column wanted m none =
+    tabled-length (λ i. placeNumber none (latestPlace column i (getD wanted i 0))) (asked m wanted) none (omega arith)
+
+-- those of the claims in a sheet
+pub sheet-tables : (s : List ℕ) (n : ℕ) {grantors holders ups : List ℕ} → n ≤ claimLimit → length s ≡ sheetLimit
+    → distinct (take n (columnOf 0 s)) ≡ true → ups ≡ earlierPlaces (columnOf 0 s) (columnOf 1 s) n claimLimit
+    → grantors ≡ columnOf 2 s → holders ≡ columnOf 3 s → Tables (claimsIn s) n grantors holders ups
+sheet-tables s n short long distant parents granted held = record {
+  long = claims-in-length s;
+  short = short;
+  granted = granted ∙ column-natural-grantors s long;
+  held = held ∙ column-natural-holders s long;
+  parents = parents ∙ rw (column-natural-ids s long, column-natural-parents s long);
+  wide = ap length parents ∙ earlier-long (columnOf 0 s) (columnOf 1 s) n claimLimit;
+  distant = rw (column-natural-ids s long) at distant;
+}
+
+-- a claim as it was read off the sheet is the one in it, and what is asked of it and its parent is asked of those in it
+pub parent-read : (s : List ℕ) (i : ℕ) {c : Claim} → c ≡ claimAt s i → getD (claimsIn s) i noClaim .parent ≡ c .parent
+parent-read s i read = ap (λ c. c .parent) (claims-in-at s i ∙ sym read)
+
+pub over-read : (s ups grantors holders : List ℕ) (up steps i : ℕ) {p c : Claim} {answer : Bool} → p ≡ claimAt s up → c ≡ claimAt s i
+    → answer ≡ overAt ups grantors holders up steps p c
+    → answer ≡ overAt ups grantors holders up steps (getD (claimsIn s) up noClaim) (getD (claimsIn s) i noClaim)
+over-read s ups grantors holders up steps i parent claim told = told ∙ rw (parent, claim, claims-in-at s up, claims-in-at s i)
 
 -- the claims before place i are as they should be, and their hops are kept: by `hops-natural` the running count is 01's
 pub record Climbed (cs : List Claim) (n : ℕ) (hops : List ℕ) (i : ℕ) : Type 0 where
@@ -71,24 +134,34 @@ pub record Climbed (cs : List Claim) (n : ℕ) (hops : List ℕ) (i : ℕ) : Typ
   pub room : length hops ≡ claimLimit
   pub stands : standOver (latest (take i cs)) ≡ true
   pub kept : (j : ℕ) → j < i → getD hops j 0 ≡ hopsOf (latest (take j cs)) (getD cs j noClaim)
+  pub low : (j : ℕ) → j < i → getD hops j 0 ≤ hopLimit
 
 pub climbed-none : (cs : List Claim) (n : ℕ) (hops : List ℕ) → length hops ≡ claimLimit → Climbed cs n hops 0
-climbed-none cs n hops room = record { within = omega arith; room = room; stands = stand-nil; kept = λ j h. absurd (omega arith) }
+climbed-none cs n hops room = record {
+  within = omega arith;
+  room = room;
+  stands = stand-nil;
+  kept = λ j h. absurd (omega arith);
+  low = λ j h. absurd (omega arith);
+}
 
 module _ {cs : List Claim} {n : ℕ} {hops : List ℕ} {i : ℕ} (s : Climbed cs n hops i) (long : length cs ≡ claimLimit) (short : n ≤ claimLimit) (inside : i < n) where
   -- one claim more
   climbed-next : (steps : ℕ) → over (latest (take i cs)) (getD cs i noClaim) ≡ true → steps ≡ hopsOf (latest (take i cs)) (getD cs i noClaim)
-      → Climbed cs n (set hops i steps) (i + 1)
-  climbed-next steps behind e = record {
+      → steps ≤ hopLimit → Climbed cs n (set hops i steps) (i + 1)
+  climbed-next steps behind e few = record {
     within = omega arith;
     room = length-set hops i steps ∙ s .room;
     stands = stand-next cs i (omega arith) ∙ rw (behind, s .stands);
     kept = λ j h. cases (eqb j i)
         (λ t. let same : j ≡ i = eqb-true j i t in rw same (getD-set-same hops i steps 0 (omega (arith, s .room)) ∙ e))
         (λ t. let other : (j ≡ i → ⊥) = eqb-false j i t in getD-set-other hops i j steps 0 other ∙ s .kept j (omega arith));
+    low = λ j h. cases (eqb j i)
+        (λ t. let same : j ≡ i = eqb-true j i t in rw (same, getD-set-same hops i steps 0 (omega (arith, s .room))) few)
+        (λ t. let other : (j ≡ i → ⊥) = eqb-false j i t in rw (getD-set-other hops i j steps 0 other) (s .low j (omega arith)));
   }
 
-module _ {cs : List Claim} {n : ℕ} {grantors holders ups twins : List ℕ} (t : Tables cs n grantors holders ups twins) {i : ℕ} (inside : i < n) where
+module _ {cs : List Claim} {n : ℕ} {grantors holders ups : List ℕ} (t : Tables cs n grantors holders ups) {i : ℕ} (inside : i < n) where
   asked-inside : (f : Claim → ℕ) → i < min n (min claimLimit (length (map f cs)))
   asked-inside f = omega (arith, inside, t .short, t .long, length-map cs f)
 
@@ -96,11 +169,6 @@ module _ {cs : List Claim} {n : ℕ} {grantors holders ups twins : List ℕ} (t 
   ups-at =
       rw (t .parents) (earlier-at (map claimId cs) (map parentOf cs) n claimLimit i 0 (asked-inside parentOf))
       ∙ ap (λ x. placeNumber claimLimit (latestPlace (map claimId cs) i x)) (List·getD-map parentOf cs i noClaim)
-
-  twins-at : getD twins i 0 ≡ placeNumber claimLimit (latestPlace (map claimId cs) i (getD cs i noClaim .id))
-  twins-at =
-      rw (t .doubles) (earlier-at (map claimId cs) (map claimId cs) n claimLimit i 0 (asked-inside claimId))
-      ∙ ap (λ x. placeNumber claimLimit (latestPlace (map claimId cs) i x)) (List·getD-map claimId cs i noClaim)
 
   -- the places of the parents are kept of the claims before it
   kept-ups : KeptPlaces (map claimId cs) (map parentOf cs) ups i
@@ -114,62 +182,65 @@ module _ {cs : List Claim} {n : ℕ} {grantors holders ups twins : List ℕ} (t 
   fails : over (latest (take i cs)) (getD cs i noClaim) ≡ false → standOver (latest (take n cs)) ≡ false
   fails = stand-failed cs i n (omega (arith, t .long, t .short, inside)) inside
 
-  -- its id stands before it
-  pub twin-failed : getD twins i 0 < claimLimit → standOver (latest (take n cs)) ≡ false
-  twin-failed h =
-      fails (doubled cs i (getD cs i noClaim) (getD twins i 0)
-      (number-at (latestPlace (map claimId cs) i (getD cs i noClaim .id)) (getD twins i 0) twins-at h))
+  -- its id does not stand before it
+  apart : latestPlace (map claimId cs) i (getD cs i noClaim .id) ≡ Nowhere
+  apart =
+      let there : i < length (map claimId cs) = omega (arith, inside, t .short, t .long, length-map cs claimId) in
+      none-nowhere (map claimId cs) (getD cs i noClaim .id) i
+      (ap (λ x. any (eqb x) (take i (map claimId cs))) (sym (List·getD-map claimId cs i noClaim))
+      ∙ unseen (map claimId cs) n i (t .distant) inside there)
 
-  module _ (single : claimLimit ≤ getD twins i 0) where
-    apart : latestPlace (map claimId cs) i (getD cs i noClaim .id) ≡ Nowhere
-    apart =
-        number-none (latestPlace (map claimId cs) i (getD cs i noClaim .id)) (getD twins i 0) twins-at (below (getD cs i noClaim .id)) single
+  -- it is a root
+  pub root-passed : {hops : List ℕ} → Climbed cs n hops i → getD cs i noClaim .parent ≡ 0 → Climbed cs n (set hops i 0) (i + 1)
+  root-passed s e =
+      climbed-next s (t .long) (t .short) inside 0 (root-stands cs i (getD cs i noClaim) apart e)
+      (sym (ap (λ x. length (chainPlaces (map claimId cs) (map parentOf cs) i x)) (List·getD-map parentOf cs i noClaim ∙ e)
+      ∙ ap length (chain-places-zero (map claimId cs) (map parentOf cs) i))
+      ∙ column-laws.hops-natural cs i)
+      (omega arith)
 
-    -- it is a root
-    pub root-passed : {hops : List ℕ} → Climbed cs n hops i → getD cs i noClaim .parent ≡ 0 → Climbed cs n (set hops i 0) (i + 1)
-    root-passed s e =
-        climbed-next s (t .long) (t .short) inside 0 (root-stands cs i (getD cs i noClaim) apart e)
-        (sym (ap (λ x. length (chainPlaces (map claimId cs) (map parentOf cs) i x)) (List·getD-map parentOf cs i noClaim ∙ e)
-        ∙ ap length (chain-places-zero (map claimId cs) (map parentOf cs) i))
-        ∙ column-laws.hops-natural cs i)
+  module _ (o : getD cs i noClaim .parent ≡ 0 → ⊥) where
+    -- its parent stands nowhere before it
+    pub parent-failed : claimLimit ≤ getD ups i 0 → standOver (latest (take n cs)) ≡ false
+    parent-failed h =
+        fails (parent-nowhere cs i (getD cs i noClaim) apart o
+        (number-none (latestPlace (map claimId cs) i (getD cs i noClaim .parent)) (getD ups i 0) ups-at (below (getD cs i noClaim .parent)) h))
 
-    module _ (o : getD cs i noClaim .parent ≡ 0 → ⊥) where
-      -- its parent stands nowhere before it
-      pub parent-failed : claimLimit ≤ getD ups i 0 → standOver (latest (take n cs)) ≡ false
-      parent-failed h =
-          fails (parent-nowhere cs i (getD cs i noClaim) apart o
-          (number-none (latestPlace (map claimId cs) i (getD cs i noClaim .parent)) (getD ups i 0) ups-at (below (getD cs i noClaim .parent)) h))
+    module _ (found : getD ups i 0 < claimLimit) where
+      stood : latestPlace (map claimId cs) i (getD cs i noClaim .parent) ≡ At (getD ups i 0)
+      stood = number-at (latestPlace (map claimId cs) i (getD cs i noClaim .parent)) (getD ups i 0) ups-at found
 
-      module _ (found : getD ups i 0 < claimLimit) where
-        stood : latestPlace (map claimId cs) i (getD cs i noClaim .parent) ≡ At (getD ups i 0)
-        stood = number-at (latestPlace (map claimId cs) i (getD cs i noClaim .parent)) (getD ups i 0) ups-at found
+      parent-before : getD ups i 0 < i
+      parent-before = place-found (map claimId cs) (getD cs i noClaim .parent) i (getD ups i 0) stood .0
 
-        parent-before : getD ups i 0 < i
-        parent-before = place-found (map claimId cs) (getD cs i noClaim .parent) i (getD ups i 0) stood .0
+      -- its hops are few
+      pub parent-low : {hops : List ℕ} → Climbed cs n hops i → getD hops (getD ups i 0) 0 ≤ hopLimit
+      parent-low s = s .low (getD ups i 0) parent-before
 
-        module _ {hops : List ℕ} (s : Climbed cs n hops i) {answer : Bool}
-            (told : answer ≡ overAt ups grantors holders (getD ups i 0) (getD hops (getD ups i 0) 0) (getD cs (getD ups i 0) noClaim) (getD cs i noClaim)) where
-          steps-kept : getD hops (getD ups i 0) 0 ≡ length (higher (map claimId cs) (map parentOf cs) (getD ups i 0))
-          steps-kept = s .kept (getD ups i 0) parent-before ∙ sym (column-laws.hops-natural cs (getD ups i 0))
+      module _ {hops : List ℕ} (s : Climbed cs n hops i) {answer : Bool}
+          (told : answer ≡ overAt ups grantors holders (getD ups i 0) (getD hops (getD ups i 0) 0) (getD cs (getD ups i 0) noClaim) (getD cs i noClaim)) where
+        steps-kept : getD hops (getD ups i 0) 0 ≡ length (higher (map claimId cs) (map parentOf cs) (getD ups i 0))
+        steps-kept = s .kept (getD ups i 0) parent-before ∙ sym (column-laws.hops-natural cs (getD ups i 0))
 
-          judged : answer ≡ over (latest (take i cs)) (getD cs i noClaim)
-          judged =
-              told
-              ∙ rw (t .granted, t .held)
-              (over-natural cs i (getD cs i noClaim) apart o (getD ups i 0) stood ups (getD hops (getD ups i 0) 0) kept-ups steps-kept)
+        judged : answer ≡ over (latest (take i cs)) (getD cs i noClaim)
+        judged =
+            told
+            ∙ rw (t .granted, t .held)
+            (over-natural cs i (getD cs i noClaim) apart o (getD ups i 0) stood ups (getD hops (getD ups i 0) 0) kept-ups steps-kept)
 
-          pub over-failed : answer ≡ false → standOver (latest (take n cs)) ≡ false
-          over-failed h = fails (sym judged ∙ h)
+        pub over-failed : answer ≡ false → standOver (latest (take n cs)) ≡ false
+        over-failed h = fails (sym judged ∙ h)
 
-          pub steps-below : answer ≡ true → getD hops (getD ups i 0) 0 < hopLimit
-          steps-below h =
-              over-within ups grantors holders (getD ups i 0) (getD hops (getD ups i 0) 0) (getD cs (getD ups i 0) noClaim) (getD cs i noClaim) (sym told ∙ h)
+        pub steps-below : answer ≡ true → getD hops (getD ups i 0) 0 < hopLimit
+        steps-below h =
+            over-within ups grantors holders (getD ups i 0) (getD hops (getD ups i 0) 0) (getD cs (getD ups i 0) noClaim) (getD cs i noClaim) (sym told ∙ h)
 
-          pub over-passed : answer ≡ true → Climbed cs n (set hops i (getD hops (getD ups i 0) 0 + 1)) (i + 1)
-          over-passed h =
-              climbed-next s (t .long) (t .short) inside (getD hops (getD ups i 0) 0 + 1) (sym judged ∙ h)
-              (add-one (getD hops (getD ups i 0) 0)
-              ∙ ap suc steps-kept
-              ∙ sym (one-hop-more cs i (getD cs i noClaim) apart o (getD ups i 0) stood)
-              ∙ ap (λ x. length (chainPlaces (map claimId cs) (map parentOf cs) i x)) (sym (List·getD-map parentOf cs i noClaim))
-              ∙ column-laws.hops-natural cs i)
+        pub over-passed : answer ≡ true → Climbed cs n (set hops i (getD hops (getD ups i 0) 0 + 1)) (i + 1)
+        over-passed h =
+            climbed-next s (t .long) (t .short) inside (getD hops (getD ups i 0) 0 + 1) (sym judged ∙ h)
+            (add-one (getD hops (getD ups i 0) 0)
+            ∙ ap suc steps-kept
+            ∙ sym (one-hop-more cs i (getD cs i noClaim) apart o (getD ups i 0) stood)
+            ∙ ap (λ x. length (chainPlaces (map claimId cs) (map parentOf cs) i x)) (sym (List·getD-map parentOf cs i noClaim))
+            ∙ column-laws.hops-natural cs i)
+            (omega (arith, steps-below h))

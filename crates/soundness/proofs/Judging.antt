@@ -1,32 +1,36 @@
--- Claims judged by themselves from the front, by what was looked up of each, and what that and the judgement over the earlier ones come
--- to. Assumes nothing.
+-- Claims judged by themselves, by what was looked up of each, and what that and the judgement over the earlier ones come to. Assumes nothing.
 use mathlib.Core.Path.{_≡_, refl, sym, ap, _∙_}
-use mathlib.Core.Bool.{Bool, true, false, _&&_, and-true, and-false}
+use mathlib.Core.Bool.{Bool, true, false, _&&_}
 use mathlib.Core.List.{List, [], _∷_, map}
-use Prim.Native.Nat.{ℕ, _+_, _≤_, _<_, min}
+use Prim.Native.Nat.{ℕ, zero, suc, _+_, _≤_, _<_, min}
+use native.Mathlib.Nat.{zero-add}
+use native.Mathlib.Numerals.{add-one}
 use native.Mathlib.Omega.{arith}
-use borrow.Author.Tests.{eqb-true, eqb-false}
-use lib.Dec.{eqb}
-use lib.ListN.{length, take, getD, length-map, length-take, List·getD-map}
-use lib.Seq.{getD-take}
-use Rattle.lists.specs.Tests.{cases, clash}
-use Rattle.lists.specs.Lists.{every}
-use Rattle.lists.specs.Each.{every-at, at-every, every-reverse}
+use lib.ListN.{length, take, getD, length-map, List·getD-map}
+use Rattle.lists.specs.Tests.{cases}
+use Rattle.lists.specs.Lists.{every, counted}
+use Rattle.lists.specs.Each.{every-append}
+use Rattle.lists.specs.Counts.{counted-last}
 use Rattle.register.specs.Limits.{claimLimit}
-use Rattle.register.specs.Register.{noClaim}
-use Rattle.register.specs.Chain.{latest}
-use Rattle.register.specs.declared.Actor.{Actor}
-use Rattle.register.specs.declared.Resource.{Resource}
+use Rattle.register.specs.Register.{actorsOf, resourcesOf, noClaim}
+use Rattle.register.specs.declared.Actors.{Actors}
+use Rattle.register.specs.declared.Resources.{Resources}
 use Rattle.register.specs.declared.Claim.{Claim}
-use Rattle.columns.specs.Columns.{actorId, actorKind, ownerOf, resourceId, keeperOf, grantorOf, holderOf, claimedOf}
-use Rattle.finding.specs.Finding.{placesOf}
-use Rattle.finding.specs.Laws.{places-at}
+use Rattle.columns.specs.Columns.{actorId, resourceId, keeperOf, grantorOf, holderOf, claimedOf, actorColumns}
+use Rattle.columns.specs.Sheet.{sheetLimit, columnOf, claimAt, claimsIn}
+use Rattle.columns.specs.declared.ActorColumns.{ActorColumns}
+use Rattle.columns.specs.SheetLaws.{column-length, claims-in-length, claims-in-at, column-natural-grantors, column-natural-holders, column-natural-claimed}
+use Rattle.lookup.specs.Finding.{placesOf, bothPlaces}
+use Rattle.lookup.specs.Laws.{places-at, first-places, second-places}
+use Rattle.lookup.specs.declared.Both.{Both}
 use Rattle.rules.specs.Sound.{World, worldOf, distinct, alone, over, acceptable, soundClaims}
 use Rattle.rules.specs.Places.{sound-claims-nil, sound-claims-cons}
-use Rattle.alone.specs.Judged.{Found, placeIn, aloneAt}
-use Rattle.alone.specs.Laws.{alone-natural}
-use Rattle.over.specs.Judged.{standOver}
-use Rattle.over.specs.Laws.{stand-nil, stand-cons}
+use Rattle.claims.specs.Alone.{Found, placeIn, foundIn, aloneAt}
+use Rattle.claims.specs.AloneLaws.{alone-natural}
+use Rattle.claims.specs.Over.{standOver}
+use Rattle.claims.specs.OverLaws.{stand-nil, stand-cons}
+use Rattle.soundness.proofs.WorldLaws.{every-places}
+use Rattle.soundness.specs.Judged.{foundAt, claimsAlone}
 
 and-middle : (a b c d : Bool) → (a && b) && (c && d) ≡ (a && c) && (b && d)
 and-middle false b c d = refl
@@ -35,60 +39,75 @@ and-middle true false true d = refl
 and-middle true true c d = refl
 
 -- claims are sound where each is as it should be by itself, and over those before it
-sound-apart : (w : World) (L : List Claim) → soundClaims w L ≡ every (alone w) L && standOver L
+pub sound-apart : (w : World) (L : List Claim) → soundClaims w L ≡ every (alone w) L && standOver L
 unfolding acceptable
 sound-apart w [] = sound-claims-nil w ∙ sym stand-nil
 sound-apart w (c ∷ L) =
     sound-claims-cons w c L
     ∙ rw (sound-apart w L, stand-cons c L) (and-middle (alone w c) (over L c) (every (alone w) L) (standOver L))
 
--- what was looked up of the claim at a place
-abbrev pub foundAt : List ℕ → List ℕ → List ℕ → List ℕ → List ℕ → List ℕ → ℕ → Found
-foundAt kinds owners keepers granting holding reported i = record {
-  grantor = getD granting i 0;
-  holder = getD holding i 0;
-  report = getD reported i 0;
-  kind = getD kinds (getD granting i 0) 0;
-  owner = getD owners (getD granting i 0) 0;
-  keeper = getD keepers (getD reported i 0) 0;
-}
+-- the first n of a column
+pub take-map : {A : Type 0} (f : A → ℕ) (n : ℕ) (l : List A) → take n (map f l) ≡ map f (take n l)
+take-map f zero l = refl
+take-map f (suc n) [] = refl
+take-map f (suc n) (a ∷ l) = rw (take-map f n l)
 
--- the claims before place i are as they should be by themselves, by what was looked up of them
-pub record Judged (cs : List Claim) (n : ℕ) (found : ℕ → Found) (i : ℕ) : Type 0 where
+-- a loop that asks a test of the places from the front has come to place i
+pub record Asked (first : Bool) (test : ℕ → Bool) (n i : ℕ) (stand : Bool) : Type 0 where
   pub within : i ≤ n
-  pub short : n ≤ claimLimit
-  pub passed : (j : ℕ) → j < i → aloneAt (getD cs j noClaim) (found j) ≡ true
+  pub told : stand ≡ first && every test (counted 0 i)
 
-module _ {cs : List Claim} {n : ℕ} {found : ℕ → Found} where
-  pub judged-none : n ≤ claimLimit → Judged cs n found 0
-  judged-none h = record { within = omega arith; short = h; passed = λ j h. absurd (omega arith) }
+module _ {first : Bool} {test : ℕ → Bool} {n : ℕ} where
+  pub asked-none : {stand : Bool} → stand ≡ first → Asked first test n 0 stand
+  asked-none {stand} e = record { within = omega arith; told = e ∙ both first }
+    where
+      both : (b : Bool) → b ≡ b && true
+      both true = refl
+      both false = refl
 
-  pub judged-next : {i : ℕ} → Judged cs n found i → i < n → aloneAt (getD cs i noClaim) (found i) ≡ true → Judged cs n found (i + 1)
-  judged-next {i} s inside e = record {
-    within = omega arith;
-    short = s .short;
-    passed = λ j h. cases (eqb j i)
-        (λ t. let same : j ≡ i = eqb-true j i t in rw same e)
-        (λ t. let other : (j ≡ i → ⊥) = eqb-false j i t in s .passed j (omega arith));
+  pub asked-next : {i : ℕ} {stand : Bool} → Asked first test n i stand → i < n → {answer : Bool} → answer ≡ test i → Asked first test n (i + 1) (stand && answer)
+  asked-next {i} {stand} s inside {answer} e = record {
+    within = omega (arith, inside);
+    told =
+        rw (s .told, e)
+        (joined first (every test (counted 0 i)) (test i)
+        ∙ ap (λ b. first && b)
+        (sym (ap (λ k. every test (counted 0 k)) (add-one i)
+        ∙ ap (every test) (counted-last 0 i)
+        ∙ every-append test (counted 0 i) ((0 + i) ∷ [])
+        ∙ ap (λ j. every test (counted 0 i) && every test (j ∷ [])) (zero-add i))));
   }
+    where
+      joined : (a b c : Bool) → (a && b) && c ≡ a && (b && (c && true))
+      joined false b c = refl
+      joined true false c = refl
+      joined true true true = refl
+      joined true true false = refl
 
--- what was looked up of n claims among the first a actors and the first o resources, whose ids are distinct
-pub record Looked (actors : List Actor) (a : ℕ) (resources : List Resource) (o : ℕ) (cs : List Claim) (n : ℕ)
-    (kinds owners keepers granting holding reported : List ℕ) : Type 0 where
-  pub long : length cs ≡ claimLimit
-  pub short : n ≤ claimLimit
-  pub few : a ≤ claimLimit
-  pub apart : distinct (map actorId (take a actors)) ≡ true
-  pub scant : o ≤ claimLimit
-  pub distant : distinct (map resourceId (take o resources)) ≡ true
-  pub kinded : kinds ≡ map actorKind actors
-  pub owned : owners ≡ map ownerOf actors
-  pub kept : keepers ≡ map keeperOf resources
-  pub granted : granting ≡ placesOf (map actorId actors) a (map grantorOf cs) n claimLimit
-  pub held : holding ≡ placesOf (map actorId actors) a (map holderOf cs) n claimLimit
-  pub listed : reported ≡ placesOf (map resourceId resources) o (map claimedOf cs) n claimLimit
+  pub asked-done : {i : ℕ} {stand : Bool} → Asked first test n i stand → n ≤ i → stand ≡ first && every test (counted 0 n)
+  asked-done {i} s done = let same : i ≡ n = omega (arith, s .within, done) in s .told ∙ ap (λ k. first && every test (counted 0 k)) same
 
--- a place that was found is that of the number which the claim has
+-- the grantors and the holders were looked up by one table
+module _ (actors : ActorColumns) (h : ℕ) (s : List ℕ) (n : ℕ) (short : n ≤ claimLimit) (long : length s ≡ sheetLimit) {named : Both}
+    (looked : named ≡ bothPlaces (actors .ids) h (columnOf 2 s) (columnOf 3 s) n claimLimit) where
+  pub ids-told : named .distinct ≡ distinct (take (min h claimLimit) (actors .ids))
+  unfolding bothPlaces
+  ids-told = ap (λ b. b .distinct) looked
+
+  pub alone-told : (keepers spots : List ℕ)
+      → (distinct (take (min h claimLimit) (actors .ids))
+      && every (λ i. aloneAt (claimAt s i) (foundAt actors keepers (named .first) (named .second) spots i)) (counted 0 n))
+      ≡ claimsAlone actors h keepers spots s n
+  unfolding claimsAlone
+  alone-told keepers spots =
+      let few : n ≤ length (columnOf 2 s) = omega (arith, short, column-length s 2 long (omega arith)) in
+      let fewer : n ≤ length (columnOf 3 s) = omega (arith, short, column-length s 3 long (omega arith)) in
+      rw (
+        ap (λ b. b .first) looked ∙ first-places (actors .ids) (columnOf 2 s) (columnOf 3 s) n claimLimit few fewer h,
+        ap (λ b. b .second) looked ∙ second-places (actors .ids) (columnOf 2 s) (columnOf 3 s) n claimLimit few fewer h,
+      )
+
+-- the place that was looked up of the claim at a place by a field of it
 place-told : {A : Type 0} (id : A → ℕ) (l : List A) (m : ℕ) (cs : List Claim) (n : ℕ) → m ≤ claimLimit → length cs ≡ claimLimit → n ≤ claimLimit
     → (f : Claim → ℕ) → f noClaim ≡ 0 → (i : ℕ) → i < n
     → getD (placesOf (map id l) m (map f cs) n claimLimit) i 0 ≡ placeIn (map id l) m (f (getD cs i noClaim))
@@ -98,48 +117,46 @@ place-told id l m cs n fits long short f unset i inside =
     ∙ ap (λ k. placeIn (map id l) k (getD (map f cs) i 0)) all
     ∙ ap (placeIn (map id l) m) (rw unset at (List·getD-map f cs i noClaim))
 
-module _ {actors : List Actor} {a : ℕ} {resources : List Resource} {o : ℕ} {cs : List Claim} {n : ℕ}
-    {kinds owners keepers granting holding reported : List ℕ}
-    (t : Looked actors a resources o cs n kinds owners keepers granting holding reported) where
-  looked-natural : (i : ℕ) → i < n → aloneAt (getD cs i noClaim) (foundAt kinds owners keepers granting holding reported i)
-      ≡ alone (worldOf (take a actors) (take o resources)) (getD cs i noClaim)
-  looked-natural i inside =
+module _ (a : Actors) (o : Resources) (s : List ℕ) (n : ℕ) (few : a .count ≤ claimLimit) (scant : o .count ≤ claimLimit) (short : n ≤ claimLimit)
+    (long : length s ≡ sheetLimit) (distant : distinct (map resourceId (resourcesOf o)) ≡ true) where
+  abbrev granting : List ℕ
+  granting = placesOf (map actorId (a .list)) (a .count) (columnOf 2 s) n claimLimit
+
+  abbrev holding : List ℕ
+  holding = placesOf (map actorId (a .list)) (a .count) (columnOf 3 s) n claimLimit
+
+  abbrev spots : List ℕ
+  spots = placesOf (map resourceId (o .list)) (o .count) (columnOf 4 s) n claimLimit
+
+  abbrev found : ℕ → Found
+  found = foundAt (actorColumns (a .list)) (map keeperOf (o .list)) granting holding spots
+
+  found-natural : (i : ℕ) → i < n → found i ≡ foundIn (a .list) (a .count) (o .list) (o .count) (getD (claimsIn s) i noClaim)
+  found-natural i inside =
       rw (
-        t .kinded,
-        t .owned,
-        t .kept,
-        t .granted,
-        t .held,
-        t .listed,
-        place-told actorId actors a cs n (t .few) (t .long) (t .short) grantorOf refl i inside,
-        place-told actorId actors a cs n (t .few) (t .long) (t .short) holderOf refl i inside,
-        place-told resourceId resources o cs n (t .scant) (t .long) (t .short) claimedOf refl i inside,
+        column-natural-grantors s long,
+        column-natural-holders s long,
+        column-natural-claimed s long,
+        place-told actorId (a .list) (a .count) (claimsIn s) n few (claims-in-length s) short grantorOf refl i inside,
+        place-told actorId (a .list) (a .count) (claimsIn s) n few (claims-in-length s) short holderOf refl i inside,
+        place-told resourceId (o .list) (o .count) (claimsIn s) n scant (claims-in-length s) short claimedOf refl i inside,
       )
-      (alone-natural actors a resources o (getD cs i noClaim) (t .few) (t .apart) (t .scant) (t .distant))
 
-  -- one that is not as it should be decides
-  pub alone-failed : (i : ℕ) → i < n → aloneAt (getD cs i noClaim) (foundAt kinds owners keepers granting holding reported i) ≡ false
-      → every (alone (worldOf (take a actors) (take o resources))) (take n cs) ≡ false
-  alone-failed i inside fails =
-      let w = worldOf (take a actors) (take o resources) in
-      let there : i < length (take n cs) = omega (arith, inside, t .short, t .long, length-take n cs) in
-      cases (every (alone w) (take n cs))
-      (λ e. clash (alone w (getD cs i noClaim)) (rw (getD-take n cs i noClaim inside) at (every-at (alone w) (take n cs) e noClaim i there))
-      (sym (looked-natural i inside) ∙ fails))
-      (λ e. e)
+  module _ (apart : distinct (map actorId (actorsOf a)) ≡ true) where
+    looked-natural : (i : ℕ) → i < n → aloneAt (claimAt s i) (found i) ≡ alone (worldOf (actorsOf a) (resourcesOf o)) (getD (claimsIn s) i noClaim)
+    looked-natural i inside =
+        ap (λ f. aloneAt (claimAt s i) f) (found-natural i inside)
+        ∙ ap (λ c. aloneAt c (foundIn (a .list) (a .count) (o .list) (o .count) (getD (claimsIn s) i noClaim))) (sym (claims-in-at s i))
+        ∙ alone-natural (a .list) (a .count) (o .list) (o .count) (getD (claimsIn s) i noClaim) few apart scant distant
 
-  pub alone-passed : {i : ℕ} → Judged cs n (foundAt kinds owners keepers granting holding reported) i → n ≤ i
-      → every (alone (worldOf (take a actors) (take o resources))) (take n cs) ≡ true
-  alone-passed s done =
-      let w = worldOf (take a actors) (take o resources) in
-      at-every (alone w) (take n cs) noClaim
-      (λ j h. let inside : j < n = omega (arith, h, length-take n cs) in
-      rw (getD-take n cs j noClaim inside) (sym (looked-natural j inside) ∙ s .passed j (omega (arith, inside, done))))
-
--- the two judgements of claims decide
-module _ (w : World) (cs : List Claim) where
-  pub over-failed : standOver (latest cs) ≡ false → soundClaims w (latest cs) ≡ false
-  over-failed fails = sound-apart w (latest cs) ∙ rw fails (and-false (every (alone w) (latest cs)))
-
-  pub alone-decides : standOver (latest cs) ≡ true → soundClaims w (latest cs) ≡ every (alone w) cs
-  alone-decides holds = sound-apart w (latest cs) ∙ rw (holds, every-reverse (alone w) cs) (and-true (every (alone w) cs))
+  -- where the ids of the actors are distinct, each claim is asked what 01 asks
+  pub claims-alone-natural : claimsAlone (actorColumns (a .list)) (a .count) (map keeperOf (o .list)) spots s n
+      ≡ distinct (map actorId (actorsOf a)) && every (alone (worldOf (actorsOf a) (resourcesOf o))) (take n (claimsIn s))
+  unfolding claimsAlone
+  claims-alone-natural =
+      let all : min (a .count) claimLimit ≡ a .count = omega (arith, few) in
+      rw (all, take-map actorId (a .count) (a .list))
+      (cases (distinct (map actorId (actorsOf a)))
+      (λ t. rw t (every-places (λ i. aloneAt (claimAt s i) (found i)) (alone (worldOf (actorsOf a) (resourcesOf o))) noClaim (claimsIn s) n
+      (omega (arith, short, claims-in-length s)) (looked-natural t)))
+      (λ t. rw t))

@@ -1,3 +1,8 @@
+pub mod Actors
 pub mod Climbing
+pub mod Fits
 pub mod Judging
+pub mod Keeping
+pub mod Naming
 pub mod Whole
+pub mod WorldLaws

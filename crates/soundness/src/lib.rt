@@ -1,100 +1,139 @@
-// Whether a register is sound, for every register whatever its counts and content. The claims are judged one after the other in list
-// order, over those before it and by itself, by columns that are extracted once and lent; where what a claim names stands is found
-// once for all claims.
+// Whether a register is sound, for every register whatever its counts and content: fields in range, owners and keepers who are humans of the register,
+// paths of the right bytes, distinct ids, and every claim as it should be. The claims stand in a sheet that is lent, and are judged one after
+// the other in list order, over those before it and by itself; where what a claim names stands is found once for all claims.
 ghost use mathlib.Core.Path.{_≡_};
 ghost use mathlib.Core.Bool.{true};
-ghost use mathlib.Core.List.{map};
 ghost use Prim.Native.Nat.{_≤_};
-ghost use Rattle.lists.specs.Lists.{every};
-ghost use Rattle.register.specs.Limits.{actorLimit, resourceLimit, claimLimit};
-ghost use Rattle.register.specs.Register.{actorsOf, resourcesOf, claimsOf};
+ghost use lib.ListN.{length, take};
+ghost use Rattle.register.specs.Limits.{claimLimit, ranged, pathByteLeast, pathByteGreatest};
 ghost use Rattle.register.specs.Chain.{latest};
-ghost use Rattle.columns.specs.Columns.{actorId, resourceId, claimId, parentOf, grantorOf, holderOf, claimedOf};
-ghost use Rattle.rules.specs.Sound.{distinct, worldOf, alone, sound};
-ghost use Rattle.over.specs.Judged.{standOver};
+ghost use Rattle.columns.specs.Sheet.{sheetLimit, columnOf, claimsIn};
+ghost use Rattle.lookup.specs.Finding.{earlierPlaces};
+ghost use Rattle.rules.specs.Sound.{distinct, sound, actorFits, resourceFits};
+ghost use Rattle.claims.specs.Over.{standOver};
+ghost use Rattle.soundness.specs.Judged.{judgedBy, claimsAlone};
+ghost use Rattle.lists.specs.Lists.{every};
+ghost use Rattle.register.specs.Register.{pathOf};
+ghost use Rattle.soundness.specs.World.{humanIn, actorsFit, humanId, humanIds, resourcesFit};
+use columns::ActorColumns;
+use register::Actor;
 use register::Actors;
-use register::Claims;
 use register::Register;
+use register::Resource;
 use register::Resources;
 
-// Whether each claim is as it should be over those before it. The columns are those of the claims; the hops of the claims that were judged
-// are kept, and each parent's place is found once.
-fn claims_over<'a>(
-    k: Claims,
-    ids: &'a [u32],
-    parents: &'a [u32],
-    grantors: &'a [u32],
-    holders: &'a [u32],
-) -> bool
-    requires { ⌜ (k .count ≤ claimLimit) × (now ids ≡ map claimId (k .list)) × (now parents ≡ map parentOf (k .list)) × (now grantors ≡ map grantorOf (k .list)) × (now holders ≡ map holderOf (k .list)) ⌝ }
-    ensures { λ r. ⌜ r ≡ standOver (latest (claimsOf k)) ⌝ }
+// The place that says nowhere: it is past them all.
+const NOWHERE: u16 = Register::CLAIMS as u16;
+
+// What was found of a register: whether it is sound, the place of each claim's parent before it, and the place of the resource that each
+// claim is to.
+pub struct Findings {
+    pub sound: bool,
+    pub ups: [u16; Register::CLAIMS],
+    pub spots: [u16; Register::CLAIMS],
+}
+
+// Whether each claim is as it should be over those before it, where their ids are distinct. The places of the parents are lent; the hops
+// of the claims that were judged are kept.
+fn claims_over<'a>(ups: &'a [u16], sheet: &'a [u32], n: usize) -> bool
+    requires { ⌜ (n ≤ claimLimit) × (length (now sheet) ≡ sheetLimit) × (distinct (take n (columnOf 0 (now sheet))) ≡ true) × (now ups ≡ earlierPlaces (columnOf 0 (now sheet)) (columnOf 1 (now sheet)) n claimLimit) ⌝ }
+    ensures { λ r. ⌜ r ≡ standOver (latest (take n (claimsIn (now (sheet .entry))))) ⌝ }
 {
-    let n = k.count;
-    let earlier = finding::both_earlier(ids, parents, ids, n, Register::CLAIMS);
-    let mut hops = [0usize; Register::CLAIMS];
+    let grantors = columns::column(sheet, columns::GRANTORS);
+    let holders = columns::column(sheet, columns::HOLDERS);
+    let mut hops = [0u8; Register::CLAIMS];
     let mut i: usize = 0;
     while i < n {
-        if earlier.second[i] < Register::CLAIMS {
-            return false;
-        }
-        let c = k.list[i];
+        let c = columns::claim_at(sheet, i);
         if c.parent == 0 {
             hops[i] = 0;
             i += 1;
         } else {
-            let up = earlier.first[i];
+            let up = ups[i] as usize;
             if Register::CLAIMS <= up {
                 return false;
             }
-            let p = k.list[up];
-            let steps = hops[up];
-            if !over::stands_over(&earlier.first, grantors, holders, up, steps, p, c) {
+            let p = columns::claim_at(sheet, up);
+            let steps = hops[up] as usize;
+            if !claims::stands_over(ups, grantors, holders, up, steps, p, c) {
                 return false;
             }
-            hops[i] = steps + 1;
+            hops[i] = (steps + 1) as u8;
             i += 1;
         }
     }
     true
 }
 
-// Whether each claim is as it should be by itself, where the ids of the actors and of the resources are distinct. The columns are those
-// of the claims; where the actors and the resource that each names stand is found once.
+// Whether the ids of the first `h` actors are distinct and each claim is as it should be by itself. The places of the resources are lent;
+// those of the grantors and holders are found once for all claims. Every claim is looked at, without a way out of the loop.
 fn claims_alone<'a>(
-    a: Actors,
-    o: Resources,
-    k: Claims,
-    grantors: &'a [u32],
-    holders: &'a [u32],
-    claimed: &'a [u32],
+    actors: ActorColumns,
+    h: usize,
+    keepers: &'a [u32],
+    spots: &'a [u16],
+    sheet: &'a [u32],
+    n: usize,
 ) -> bool
-    requires { ⌜ (a .count ≤ actorLimit) × (o .count ≤ resourceLimit) × (k .count ≤ claimLimit) × (distinct (map actorId (actorsOf a)) ≡ true) × (distinct (map resourceId (resourcesOf o)) ≡ true) × (now grantors ≡ map grantorOf (k .list)) × (now holders ≡ map holderOf (k .list)) × (now claimed ≡ map claimedOf (k .list)) ⌝ }
-    ensures { λ r. ⌜ r ≡ every (alone (worldOf (actorsOf a) (resourcesOf o))) (claimsOf k) ⌝ }
+    requires { ⌜ (n ≤ claimLimit) × (length (now sheet) ≡ sheetLimit) × (length (now spots) ≡ claimLimit) ⌝ }
+    ensures { λ r. ⌜ r ≡ claimsAlone actors h (now (keepers .entry)) (now (spots .entry)) (now (sheet .entry)) n ⌝ }
 {
-    let actors = columns::actor_columns(a);
-    let known = actors.ids;
-    let kinds = actors.kinds;
-    let owners = actors.owners;
-    let resources = columns::resource_columns(o);
-    let reports = resources.ids;
-    let keepers = resources.keepers;
-    let top = k.count;
-    let named = finding::both_places(&known, a.count, grantors, holders, top, Register::CLAIMS);
-    let reported = finding::places_of(&reports, o.count, claimed, top, Register::CLAIMS);
+    let grantors = columns::column(sheet, columns::GRANTORS);
+    let holders = columns::column(sheet, columns::HOLDERS);
+    let named = lookup::both_places(&actors.ids, h, grantors, holders, n, NOWHERE);
+    let mut stand = named.distinct;
     let mut i: usize = 0;
-    while i < top {
-        let c = k.list[i];
-        let grantor = named.first[i];
-        let report = reported[i];
-        let kind = columns::number_at(&kinds, grantor);
-        let owner = columns::number_at(&owners, grantor);
-        let keeper = columns::number_at(&keepers, report);
-        if !alone::stands_alone(c, grantor, named.second[i], report, kind, owner, keeper) {
-            return false;
-        }
+    while i < n {
+        let c = columns::claim_at(sheet, i);
+        let grantor = named.first[i] as usize;
+        let holder = named.second[i] as usize;
+        let report = spots[i] as usize;
+        let kind = columns::number_at(&actors.kinds, grantor);
+        let owner = columns::number_at(&actors.owners, grantor);
+        let keeper = columns::number_at(keepers, report);
+        stand = stand & claims::stands_alone(c, grantor, holder, report, kind, owner, keeper);
         i += 1;
     }
-    true
+    stand
+}
+
+// Judges the register of the actors, the resources and the first `n` claims of a sheet. What is no sheet is not sound.
+pub fn judged(a: Actors, o: Resources, sheet: &[u32], n: usize) -> Findings
+    ensures { λ r. ⌜ r ≡ judgedBy a o (now (sheet .entry)) n ⌝ }
+{
+    if sheet.len() < columns::SHEET {
+        return Findings {
+            sound: false,
+            ups: [NOWHERE; Register::CLAIMS],
+            spots: [NOWHERE; Register::CLAIMS],
+        };
+    }
+    let ids = columns::column(sheet, columns::IDS);
+    let parents = columns::column(sheet, columns::PARENTS);
+    let claimed = columns::column(sheet, columns::CLAIMED);
+    let resources = columns::resource_columns(o);
+    let earlier = lookup::earlier_places(ids, parents, n, NOWHERE);
+    let reported = lookup::places_of(&resources.ids, o.count, claimed, n, NOWHERE);
+    let ups = earlier.places;
+    let spots = reported.places;
+    let within = (n <= Register::CLAIMS)
+        & (a.count <= Register::ACTORS)
+        & (o.count <= Register::RESOURCES);
+    let apart = earlier.distinct & reported.distinct;
+    if !(within & apart & (sheet.len() == columns::SHEET)) {
+        return Findings {
+            sound: false,
+            ups,
+            spots,
+        };
+    }
+    let actors = columns::actor_columns(a);
+    let humans = human_ids(&actors.ids, &actors.kinds, a.count);
+    let sound = actors_fit(&actors.ids, &actors.kinds, &actors.owners, a.count)
+        & resources_fit(&humans, a.count, &resources.keepers, o)
+        & claims_over(&ups, sheet, n)
+        & claims_alone(actors, a.count, &resources.keepers, &spots, sheet, n);
+    Findings { sound, ups, spots }
 }
 
 // Whether the register is sound.
@@ -104,30 +143,132 @@ pub fn is_sound(r: Register) -> bool
     let a = r.actors;
     let o = r.resources;
     let k = r.claims;
-    if Register::ACTORS < a.count {
+    let mut sheet = [0u32; columns::SHEET];
+    columns::put_claims(&mut sheet, k);
+    let known = judged(a, o, &sheet, k.count);
+    known.sound
+}
+
+// Whether an actor's fields are as they should be among the first `n` actors.
+pub fn actor_fits<'a>(ids: &'a [u32], kinds: &'a [u32], n: usize, a: Actor) -> bool
+    ensures { λ r. ⌜ r ≡ actorFits (humanIn (now (ids .entry)) (now (kinds .entry)) n) a ⌝ }
+{
+    if !register::is_id(a.id) {
         return false;
     }
-    if Register::RESOURCES < o.count {
+    if a.owner == 0 {
+        if a.kind == Actor::HUMAN {
+            return true;
+        }
+        return a.kind == Actor::MACHINE;
+    }
+    if register::ID_LIMIT < a.owner {
         return false;
     }
-    if Register::CLAIMS < k.count {
+    if a.kind != Actor::MACHINE {
         return false;
     }
-    if !world::actors_sound(a) {
+    columns::is_beside(ids, kinds, n, a.owner, Actor::HUMAN)
+}
+
+// Whether each of the first `n` actors is as it should be by itself, by their columns.
+pub fn actors_fit<'a>(ids: &'a [u32], kinds: &'a [u32], owners: &'a [u32], n: usize) -> bool
+    ensures { λ r. ⌜ r ≡ actorsFit (now (ids .entry)) (now (kinds .entry)) (now (owners .entry)) n ⌝ }
+{
+    let long = lists::least(ids.len(), lists::least(kinds.len(), owners.len()));
+    let top = lists::least(n, long);
+    let mut i: usize = 0;
+    while i < top {
+        let a = Actor {
+            id: ids[i],
+            kind: kinds[i],
+            owner: owners[i],
+        };
+        if !actor_fits(ids, kinds, n, a) {
+            return false;
+        }
+        i += 1;
+    }
+    true
+}
+
+// Whether each byte of a resource's path is one that a path may have. Every byte is looked at, without a way out of the loop: so they are
+// compared many at a time.
+pub fn path_fits(o: Resource) -> bool
+    ensures { λ r. ⌜ r ≡ every (ranged pathByteLeast pathByteGreatest) (pathOf o) ⌝ }
+{
+    let top = lists::least(o.len, Register::PATH);
+    let mut fit = true;
+    let mut i: usize = 0;
+    while i < top {
+        let b = o.path[i];
+        fit = fit & ((register::PATH_BYTE_LEAST <= b) & (b <= register::PATH_BYTE_GREATEST));
+        i += 1;
+    }
+    fit
+}
+
+// A human's id; 0 for any other actor.
+fn human_id(id: u32, kind: u32) -> u32
+    ensures { λ r. ⌜ r ≡ humanId id kind ⌝ }
+{
+    if kind != Actor::HUMAN {
+        return 0;
+    }
+    id
+}
+
+// The ids of the humans among the first `n` actors, each at its place; 0 at the place of any other, and past them.
+pub fn human_ids<'a>(ids: &'a [u32], kinds: &'a [u32], n: usize) -> [u32; Register::ACTORS]
+    ensures { λ r. ⌜ r ≡ humanIds (now (ids .entry)) (now (kinds .entry)) n ⌝ }
+{
+    let long = lists::least(ids.len(), kinds.len());
+    let top = lists::least(n, lists::least(Register::ACTORS, long));
+    let mut humans = [0; Register::ACTORS];
+    let mut i: usize = 0;
+    while i < top {
+        humans[i] = human_id(ids[i], kinds[i]);
+        i += 1;
+    }
+    humans
+}
+
+// Whether a resource's fields are as they should be, where it is told whether its keeper is a human.
+pub fn resource_fits(kept: bool, o: Resource) -> bool
+    ensures { λ r. ⌜ r ≡ resourceFits (λ x. kept) o ⌝ }
+{
+    if !register::is_id(o.id) {
         return false;
     }
-    if !world::resources_sound(a, o) {
+    if 1 < o.public {
         return false;
     }
-    let claims = columns::claim_columns(k);
-    if !claims_over(
-        k,
-        &claims.ids,
-        &claims.parents,
-        &claims.grantors,
-        &claims.holders,
-    ) {
+    if !register::is_id(o.keeper) {
         return false;
     }
-    claims_alone(a, o, k, &claims.grantors, &claims.holders, &claims.claimed)
+    if Register::PATH < o.len {
+        return false;
+    }
+    if !kept {
+        return false;
+    }
+    path_fits(o)
+}
+
+// Whether each resource is as it should be by itself: the keepers, whose column is lent, are looked up at once among the first `h` of
+// the humans' ids.
+pub fn resources_fit<'a>(humans: &'a [u32], h: usize, keepers: &'a [u32], o: Resources) -> bool
+    ensures { λ r. ⌜ r ≡ resourcesFit (now (humans .entry)) h (now (keepers .entry)) o ⌝ }
+{
+    let top = lists::least(o.count, Register::RESOURCES);
+    let keeping = lookup::places_of(humans, h, keepers, top, Register::CLAIMS as u16);
+    let mut i: usize = 0;
+    while i < top {
+        let x = o.list[i];
+        if !resource_fits((keeping.places[i] as usize) < Register::CLAIMS, x) {
+            return false;
+        }
+        i += 1;
+    }
+    true
 }

@@ -7,7 +7,7 @@ use mathlib.Core.List.{List, [], _∷_, _++_, map, append-nil}
 use native.Mathlib.Omega.{arith}
 use lib.ListN.{length, replicate, length-map}
 use lib.Seq.{length-take-le}
-use Rattle.lists.specs.Each.{all-imp, all-both, all-append, all-map, every-all}
+use Rattle.lists.specs.Each.{all-imp, all-both, all-append, all-take, all-map, every-all}
 use Rattle.lists.specs.Fills.{full-length, all-replicate}
 use Rattle.lists.specs.Lists.{All}
 use Rattle.register.specs.Limits.{actorLimit, resourceLimit, claimLimit, pathLimit, ranged}
@@ -34,7 +34,7 @@ use Rattle.texts.specs.Fitting.{ResourceLines, RegisterLines, register-l
 use Rattle.texts.proofs.Things.{Codec, Pair, pair}
 use Rattle.texts.proofs.Forms.{form, sectioned}
 use Rattle.texts.proofs.Entries.{actor, actor-fits, claim, claim-fits, resource, cleaned, cleaned-fits, cleaned-text, cleaned-standing}
-use Rattle.texts.proofs.Holding.{held-entries, all-take}
+use Rattle.texts.proofs.Holding.{held-entries}
 use Rattle.texts.proofs.Answering.{going-same, closed-going, accepted-answer, refused-answer, sound-answer}
 
 -- the parts of a register, in the order of its text

@@ -5,3 +5,4 @@ pub mod Actions
 pub mod Laws
 pub mod Fitting
 pub mod Lengths
+pub mod Delivery

@@ -7,7 +7,7 @@ ghost use Rattle.lists.specs.Lists.{splice};
 ghost use Rattle.actions.specs.Actions.{violationLimit};
 ghost use Rattle.texts.specs.Actions.{actionRead};
 ghost use Rattle.sheets.specs.Sheets.{put};
-ghost use Rattle.writing.specs.Writing.{delivered};
+ghost use Rattle.texts.specs.Delivery.{delivered};
 ghost use Rattle.lines.specs.Reading.{closed};
 ghost use Rattle.json_actions.specs.Actions.{jsonRead};
 ghost use Rattle.verdict_text.specs.Printed.{pairText, listText, stoppedText, verdictText, actionLines, printed, printedLimit};

@@ -29,7 +29,7 @@ use Rattle.verdicts.specs.Kinds as kinds
 use Rattle.verdicts.specs.Reaching as reaching
 use Rattle.verdicts.specs.Bounds as bounds
 use Rattle.verdicts.specs.Authority.{IsIn, Nearest}
-use Rattle.verdicts.proofs.Sameness as sameness
+use Rattle.verdicts.specs.Sameness as sameness
 use Rattle.verdicts.proofs.SameActions as same-actions
 
 -- 5a. A use that the actor does not cover has kind 4 with its position, whether the resource stands or not.

@@ -10,3 +10,4 @@ pub mod Trace
 pub mod Reaching
 pub mod Bounds
 pub mod Cancelling
+pub mod Sameness

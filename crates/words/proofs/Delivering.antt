@@ -5,7 +5,7 @@ use mathlib.Core.Path.{_≡_, refl, ap, _∙_}
 use mathlib.Core.List.{List, [], _∷_, _++_}
 use lib.ListN.{length}
 use Rattle.sheets.specs.Sheets.{put}
-use Rattle.writing.specs.Writing.{delivered}
+use Rattle.texts.specs.Delivery.{delivered}
 use Rattle.texts.specs.declared.Written.{Written}
 use Rattle.json_actions.specs.Names.{kindNames, flagNames}
 use Rattle.words.specs.Tables.{tableOf, textAt, table-natural}

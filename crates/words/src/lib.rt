@@ -4,7 +4,7 @@ ghost use mathlib.Core.Path.{_≡_};
 ghost use mathlib.Core.List.{[]};
 ghost use Prim.Native.Nat.{min};
 ghost use Rattle.sheets.specs.Sheets.{put};
-ghost use Rattle.writing.specs.Writing.{delivered};
+ghost use Rattle.texts.specs.Delivery.{delivered};
 ghost use Rattle.words.specs.Tables.{textAt};
 ghost use Rattle.words.specs.Words.{refusalText, violationText, rightName, flagName};
 use texts::Written;
@@ -49,7 +49,7 @@ fn write_text(buf: &mut [u8], table: &[u8], number: u32, count: usize) -> Writte
     ensures answer { λ r. ⌜ r ≡ delivered (textAt (min number count) [] (now (table .entry))) (now (buf .entry)) ⌝ }
     ensures buffer { λ _. ⌜ now (buf .exit) ≡ put 0 (textAt (min number count) [] (now (table .entry))) (now (buf .entry)) ⌝ }
 {
-    let place = columns::least(number as usize, count);
+    let place = lists::least(number as usize, count);
     writing::deliver(buf, text_at(table, place))
 }
 

@@ -13,7 +13,8 @@ use Rattle.decimals.specs.Decimals.{digits, digitsWith}
 use Rattle.lines.specs.Lines.{decimalLine}
 use Rattle.texts.specs.Records.{texts}
 use Rattle.texts.specs.Registers.{registerText}
-use Rattle.writing.specs.Writing.{unwritten, delivered, registerWritten, registerBuffer}
+use Rattle.writing.specs.Writing.{registerWritten, registerBuffer}
+use Rattle.texts.specs.Delivery.{unwritten, delivered}
 
 empty-written : registerWritten emptyRegister (replicate 41 0) ≡ record { outcome = Accepted; length = 41 }
 unfolding registerWritten delivered sound withinLimits soundActors soundResources soundClaims distinct emptyRegister registerText decimalLine digits digitsWith texts

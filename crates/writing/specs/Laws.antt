@@ -22,7 +22,8 @@ use Rattle.refusals.specs.declared.Refusal.the-variants.{Unsound, BufferShort}
 use Rattle.sheets.specs.Sheets.{put}
 use Rattle.texts.specs.Registers.{registerText}
 use Rattle.texts.specs.declared.Written.{Written}
-use Rattle.writing.specs.Writing.{unwritten, delivered, registerWritten, registerBuffer}
+use Rattle.writing.specs.Writing.{registerWritten, registerBuffer}
+use Rattle.texts.specs.Delivery.{unwritten, delivered}
 use Rattle.writing.specs.Lengths.{pathsFit}
 
 pub delivered-fits : (t old : List ℕ) (n : ℕ) → length t ≤ length old → n ≡ length t →

@@ -1,25 +1,14 @@
--- Believed: What writing a text into a lent buffer answers, and what it leaves there.
+-- Believed: What writing a register into a lent buffer answers, and what it leaves there.
 use Prim.Native.Nat.{ℕ}
 use mathlib.Core.List.{List}
 use mathlib.Core.Bool.{cond}
-use lib.Dec.{leb}
-use lib.ListN.{length}
 use Rattle.register.specs.declared.Register.{Register}
 use Rattle.rules.specs.Sound.{sound}
-use Rattle.refusals.specs.declared.Outcome.the-variants.{Accepted, Refused}
-use Rattle.refusals.specs.declared.Refusal.{Refusal}
-use Rattle.refusals.specs.declared.Refusal.the-variants.{Unsound, BufferShort}
+use Rattle.refusals.specs.declared.Refusal.the-variants.{Unsound}
 use Rattle.sheets.specs.Sheets.{put}
+use Rattle.texts.specs.Delivery.{unwritten, delivered}
 use Rattle.texts.specs.Registers.{registerText}
 use Rattle.texts.specs.declared.Written.{Written}
-
--- a refused write gives length 0
-abbrev pub unwritten : Refusal → Written
-unwritten why = record { outcome = Refused why; length = 0 }
-
--- the length of the text, or 21 where the buffer is too short
-unfoldable pub delivered : List ℕ → List ℕ → Written
-delivered t old = cond (leb (length t) (length old)) (record { outcome = Accepted; length = length t }) (unwritten BufferShort)
 
 -- Writing tests 1, then 21.
 unfoldable pub registerWritten : Register → List ℕ → Written

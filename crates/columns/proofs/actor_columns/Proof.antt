@@ -7,7 +7,7 @@ use borrow.Author.Needs.{needs}
 use Rattle.lists.specs.Loops.{length-mapped}
 use Rattle.register.specs.Limits.{actorLimit}
 use Rattle.columns.specs.Columns.{actorId, actorKind, ownerOf}
-use Rattle.columns.specs.Filling.{Filling, empty, fill, full}
+use Rattle.columns.proofs.Filling.{Filling, empty, fill, full}
 use Rattle.columns.proofs.actor_columns.Statement.{statement}
 use Rattle.columns.proofs.actor_columns.Tie as tie
 

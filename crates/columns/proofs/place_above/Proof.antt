@@ -1,5 +1,7 @@
--- `columns::place_above` meets its contract: inside the column the place is read, past its end there is the default. Assumes nothing.
+-- `columns::place_above` meets its contract: inside the column the place is read, and what a `u16` holds a `usize` holds; past
+-- its end there is the default. Assumes nothing.
 use mathlib.Core.Path.{sym}
+use mir.Facts.{fits-widen}
 use borrow.Author.Needs.{needs}
 use lib.ListN.{List·getD-eq-default}
 use Rattle.columns.specs.Laws.{getD-inside}
@@ -12,6 +14,9 @@ mul-result c = search needs
 shared-slice-read-result : tie.Need-shared-slice-read-result
 shared-slice-read-result c = search needs
 
+cast-result : tie.Need-cast-result
+cast-result c = fits-widen tt (c .shared-slice-known .given (c .before .before .args .at))
+
 returns : tie.Need-returns
 returns c =
     let a = c .before .before .args in
@@ -21,4 +26,4 @@ returns-2 : tie.Need-returns-2
 returns-2 c = sym (List·getD-eq-default (c .before .args .ups .now) (c .before .args .at) (c .if1 .left))
 
 pub place-above-spec : {M : Type 1} → statement M
-place-above-spec = tie.close (tie.spec mul-result shared-slice-read-result returns returns-2)
+place-above-spec = tie.close (tie.spec mul-result shared-slice-read-result cast-result returns returns-2)

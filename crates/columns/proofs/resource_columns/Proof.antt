@@ -7,7 +7,7 @@ use borrow.Author.Needs.{needs}
 use Rattle.lists.specs.Loops.{length-mapped}
 use Rattle.register.specs.Limits.{resourceLimit}
 use Rattle.columns.specs.Columns.{resourceId, keeperOf, publicOf}
-use Rattle.columns.specs.Filling.{Filling, empty, fill, full}
+use Rattle.columns.proofs.Filling.{Filling, empty, fill, full}
 use Rattle.columns.proofs.resource_columns.Statement.{statement}
 use Rattle.columns.proofs.resource_columns.Tie as tie
 

@@ -1,5 +1,6 @@
 -- `coverage::reach` meets its contract. Each answer is `reachTo` under the tests that led to it (Reaching). Assumes nothing.
 use mathlib.Core.Path.{sym, _∙_}
+use mir.Facts.{fits-widen}
 use borrow.Author.Needs.{needs}
 use Rattle.coverage.proofs.Reaching.{right-missing, right-had, without-right, without-spot, claimed-past, used-past, by-paths}
 use Rattle.coverage.proofs.reach.Statement.{statement}
@@ -32,6 +33,9 @@ mul-if3 c = search needs
 shared-slice-read-if3 : tie.Need-shared-slice-read-if3
 shared-slice-read-if3 c = search needs
 
+cast-if3 : tie.Need-cast-if3
+cast-if3 c = fits-widen tt (c .shared-slice-known5 .given (c .before .before .before .before .before .before .before .before .before .args .j))
+
 returns-3 : tie.Need-returns-3
 returns-3 c =
     let tests = c .before .before in
@@ -56,6 +60,9 @@ mul-is-inside c = search needs
 shared-slice-read-is-inside : tie.Need-shared-slice-read-is-inside
 shared-slice-read-is-inside c = search needs
 
+cast-is-inside : tie.Need-cast-is-inside
+cast-is-inside c = fits-widen tt (c .shared-slice-known6 .given (c .before .before .before .before .before .before .before .before .before .before .before .before .args .j))
+
 is-inside-requires : tie.Need-is-inside-requires
 is-inside-requires c κs = search needs
 
@@ -79,9 +86,11 @@ reach-spec =
     returns-2
     mul-if3
     shared-slice-read-if3
+    cast-if3
     returns-3
     returns-4
     mul-is-inside
     shared-slice-read-is-inside
+    cast-is-inside
     is-inside-requires
     returns-5)

@@ -5,7 +5,7 @@ use borrow.Author.Tests.{eq-eqb, ne-eqb}
 use Rattle.actions.specs.Actions.{governsOf}
 use Rattle.actions.specs.declared.Violation.the-variants.{NoOwner}
 use Rattle.verdicts.specs.Gate.{flagsSet, governed, listed}
-use Rattle.violations.specs.Pushed.{pushedAll}
+use Rattle.uses.specs.Pushed.{pushedAll}
 use Rattle.gate.proofs.Putting.{two-pushed, three-pushed}
 use borrow.Author.Needs.{needs}
 use Rattle.gate.proofs.first_violations.Statement.{statement}

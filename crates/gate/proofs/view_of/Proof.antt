@@ -1,4 +1,4 @@
--- `gate::view_of` meets its contract: each part is the register's (`viewed`). Assumes nothing.
+-- `gate::view_of` meets its contract: each part is taken out or handed over as the view says (`viewed`). Assumes nothing.
 use borrow.Author.Needs.{needs}
 use Rattle.gate.proofs.Seeing.{viewed}
 use Rattle.gate.proofs.view_of.Statement.{statement}
@@ -10,35 +10,22 @@ actor-columns-requires c κs = search needs
 resource-columns-requires : tie.Need-resource-columns-requires
 resource-columns-requires c κs = search needs
 
-claim-columns-requires : tie.Need-claim-columns-requires
-claim-columns-requires c κs = search needs
+column-requires : tie.Need-column-requires
+column-requires c κs = search needs
 
-lay-requires : tie.Need-lay-requires
-lay-requires c κs = search needs
-
-places-of-requires : tie.Need-places-of-requires
-places-of-requires c κs = search needs
-
-earlier-places-requires : tie.Need-earlier-places-requires
-earlier-places-requires c κs = search needs
-
-slice-aggregate-ends : tie.Need-slice-aggregate-ends
-slice-aggregate-ends c = search needs
+column-requires-2 : tie.Need-column-requires-2
+column-requires-2 c κs = search needs
 
 ends-requires : tie.Need-ends-requires
 ends-requires c κs = search needs
 
 returns : tie.Need-returns
 returns c =
-    let placed = c .before .before .before .before .before .before .before in
-    let spotted = placed .before .before .before .before .before .before in
-    let laying = spotted .before .before .before .before .before .before .before in
-    let taken = laying .before .before .before in (
-      viewed (taken .before .before .before .before .args .r) (taken .actor-columns .ensures) (laying .before .before .resource-columns .ensures)
-          (laying .before .claim-columns .ensures) (laying .lay .ensures .0) (spotted .places-of .ensures)
-          (placed .earlier-places .ensures) (c .ends .ensures),
-      laying .lay .ensures .1,
-    )
+    let late = c .before .before .before .before .before .before in
+    let taken = late .before .before .before in
+    let given = taken .before .before .args in
+    viewed (given .a) (given .o) _ _ _ (given .t6) (taken .actor-columns .ensures) (late .before .before .resource-columns .ensures) (late .before .column .ensures)
+    (late .column2 .ensures) (c .before .before .ends .ensures)
 
 pub view-of-spec : {M : Type 1} → statement M
 view-of-spec =
@@ -46,10 +33,7 @@ view-of-spec =
     (tie.spec
     actor-columns-requires
     resource-columns-requires
-    claim-columns-requires
-    lay-requires
-    places-of-requires
-    earlier-places-requires
-    slice-aggregate-ends
+    column-requires
+    column-requires-2
     ends-requires
     returns)

@@ -1,72 +1,82 @@
--- `granting::chain_outcome` meets its contract: each outcome by the tests that led to it (Deciding). Assumes nothing.
-use mathlib.Core.Path.{_≡_, sym, ap, _∙_}
-use mathlib.Core.Bool.{Bool}
-use Prim.Native.Nat.{ℕ}
-use mathlib.Core.List.{List}
+-- `granting::chain_outcome` meets its contract: each outcome by the tests that led to it (Deciding). The steps that were counted tell whether there
+-- are at most 16 hops, and for so many steps the walk asks along the chain (`circles-places`). Assumes nothing.
+use mathlib.Core.Path.{_≡_, sym, _∙_}
+use mathlib.Core.Bool.{true}
+use mathlib.Core.List.{_∷_}
 use lib.Dec.{ltb}
 use lib.ListN.{length, getD}
-use borrow.Author.Tests.{not-true, not-false}
-use Rattle.register.specs.Limits.{hopLimit}
-use Rattle.columns.specs.Columns.{chainPlaces, placesUp}
-use Rattle.granting.specs.Drawn.{nearUnder}
-use Rattle.granting.proofs.Deciding.{too-many-hops, circle, no-circle}
+use borrow.Author.Tests.{lt-ltb, le-ltb}
 use borrow.Author.Needs.{needs}
+use Rattle.register.specs.Limits.{hopLimit}
+use Rattle.columns.specs.Columns.{placesUp}
+use Rattle.columns.specs.Laws.{steps-up-within}
+use Rattle.claims.specs.OverLaws.{circles-places}
+use Rattle.granting.proofs.Columns.{near-limit, beyond-limit}
+use Rattle.granting.proofs.Deciding.{too-many-hops, circle, no-circle}
 use Rattle.granting.proofs.chain_outcome.Statement.{statement}
 use Rattle.granting.proofs.chain_outcome.Tie as tie
 
--- the walk by the places that were found
-walked : {ups found : List ℕ} (at : ℕ) {near : Bool} → ups ≡ found → near ≡ ltb (length (placesUp ups at)) hopLimit → near ≡ ltb (length (placesUp found at)) hopLimit
-walked at e told = told ∙ ap (λ l. ltb (length (placesUp l at)) hopLimit) e
+hop-count-requires : tie.Need-hop-count-requires
+hop-count-requires c κs = search needs
 
-earlier-places-requires : tie.Need-earlier-places-requires
-earlier-places-requires c κs = search needs
+enum-told : tie.Need-enum-told
+enum-told c = search needs
 
-slice-aggregate-within-hops : tie.Need-slice-aggregate-within-hops
-slice-aggregate-within-hops c = search needs
-
-within-hops-requires : tie.Need-within-hops-requires
-within-hops-requires c κs = search needs
+enum-known-walked : tie.Need-enum-known-walked
+enum-known-walked c = search needs
 
 returns : tie.Need-returns
 returns c =
-    let given = c .before .before .before .before .before .before .before .before .args in
+    let counted = c .before .before .before .before in
+    let given = counted .before .before .before .before .args in
     sym
-    (too-many-hops (λ j. getD (given .grantors .now) j 0) (λ j. getD (given .holders .now) j 0)
-    (nearUnder (given .ids .now) (given .parents .now) (given .n) (given .at))
-    (chainPlaces (given .ids .now) (given .parents .now) (given .n) (given .p)) (given .h)
-    (sym (walked (given .at) (c .before .before .before .earlier-places .ensures) (c .before .within-hops .ensures)) ∙ not-true _ (c .if1 .taken)))
+    (too-many-hops (λ j. getD (given .grantors .now) j 0) (λ j. getD (given .holders .now) j 0) _ (given .at ∷ placesUp (given .ups .now) (given .at)) (given .h)
+    (sym (near-limit (placesUp (given .ups .now) (given .at)) (sym (counted .hop-count .ensures) ∙ c .before .before .walked .given .1)) ∙ le-ltb _ _ (c .if1 .taken)))
 
-circles-requires : tie.Need-circles-requires
-circles-requires c κs = search needs
+circles-up-requires : tie.Need-circles-up-requires
+circles-up-requires c κs = search needs
 
 returns-2 : tie.Need-returns-2
 returns-2 c =
-    let given = c .before .before .before .before .before .before .before .before .before .before .args in
+    let counted = c .before .before .before .before .before .before in
+    let given = counted .before .before .before .before .args in
+    let up = sym (counted .hop-count .ensures) ∙ c .before .before .before .before .walked .given .1 in
+    let l = placesUp (given .ups .now) (given .at) in
     sym
-    (circle (λ j. getD (given .grantors .now) j 0) (λ j. getD (given .holders .now) j 0)
-    (nearUnder (given .ids .now) (given .parents .now) (given .n) (given .at))
-    (chainPlaces (given .ids .now) (given .parents .now) (given .n) (given .p)) (given .h)
-    (sym (walked (given .at) (c .before .before .before .before .before .earlier-places .ensures) (c .before .before .before .within-hops .ensures)) ∙ not-false _ (c .before .before .if1 .left))
-    (sym (c .before .circles .ensures) ∙ c .if2 .taken))
+    (circle (λ j. getD (given .grantors .now) j 0) (λ j. getD (given .holders .now) j 0) _ (given .at ∷ l) (given .h)
+    (sym (near-limit l up) ∙ lt-ltb _ _ (c .before .before .if1 .left))
+    (sym (circles-places (given .ups .now) (given .grantors .now) (given .holders .now) (given .h) _ (given .at) (steps-up-within l _ up .0))
+    ∙ sym (c .before .circles-up .ensures) ∙ c .if2 .taken))
 
 returns-3 : tie.Need-returns-3
 returns-3 c =
-    let given = c .before .before .before .before .before .before .before .before .before .before .args in
+    let counted = c .before .before in
+    let given = counted .before .before .before .before .args in
     sym
-    (no-circle (λ j. getD (given .grantors .now) j 0) (λ j. getD (given .holders .now) j 0)
-    (nearUnder (given .ids .now) (given .parents .now) (given .n) (given .at))
-    (chainPlaces (given .ids .now) (given .parents .now) (given .n) (given .p)) (given .h)
-    (sym (walked (given .at) (c .before .before .before .before .before .earlier-places .ensures) (c .before .before .before .within-hops .ensures)) ∙ not-false _ (c .before .before .if1 .left))
-    (sym (c .before .circles .ensures) ∙ c .if2 .left))
+    (too-many-hops (λ j. getD (given .grantors .now) j 0) (λ j. getD (given .holders .now) j 0) _ (given .at ∷ placesUp (given .ups .now) (given .at)) (given .h)
+    (beyond-limit (placesUp (given .ups .now) (given .at)) (sym (counted .hop-count .ensures) ∙ c .enum-told .given .1)))
+
+returns-4 : tie.Need-returns-4
+returns-4 c =
+    let counted = c .before .before .before .before .before .before in
+    let given = counted .before .before .before .before .args in
+    let up = sym (counted .hop-count .ensures) ∙ c .before .before .before .before .walked .given .1 in
+    let l = placesUp (given .ups .now) (given .at) in
+    sym
+    (no-circle (λ j. getD (given .grantors .now) j 0) (λ j. getD (given .holders .now) j 0) _ (given .at ∷ l) (given .h)
+    (sym (near-limit l up) ∙ lt-ltb _ _ (c .before .before .if1 .left))
+    (sym (circles-places (given .ups .now) (given .grantors .now) (given .holders .now) (given .h) _ (given .at) (steps-up-within l _ up .0))
+    ∙ sym (c .before .circles-up .ensures) ∙ c .if2 .left))
 
 pub chain-outcome-spec : {M : Type 1} → statement M
 chain-outcome-spec =
     tie.close
     (tie.spec
-    earlier-places-requires
-    slice-aggregate-within-hops
-    within-hops-requires
+    hop-count-requires
+    enum-told
+    enum-known-walked
     returns
-    circles-requires
+    circles-up-requires
     returns-2
-    returns-3)
+    returns-3
+    returns-4)

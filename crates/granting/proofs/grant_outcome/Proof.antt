@@ -1,198 +1,99 @@
--- `granting::grant_outcome` meets its contract: each outcome by the tests that led to it (Deciding), the world's before the parent's.
--- Where no claim has the parent's number there is no chain; where one has, the chain begins with it (Columns). Assumes nothing.
-use mathlib.Core.Path.{_≡_, sym, ap, _∙_}
-use mathlib.Core.List.{_++_}
-use Prim.Native.Nat.{_<_}
-use native.Mathlib.Omega.{arith}
-use lib.ListN.{length, getD}
-use borrow.Author.Tests.{not-true, not-false, lt-ltb, le-ltb}
-use Rattle.lists.specs.Loops.{length-mapped}
-use Rattle.register.specs.Register.{claimsOf, noClaim}
-use Rattle.register.specs.Chain.{latest, above}
-use Rattle.rules.specs.Sound.{withinHops}
-use Rattle.refusals.specs.Refusals.{outcomeOf}
-use Rattle.granting.specs.Drawn.{drawnTests, chainTests}
-use Rattle.granting.proofs.Columns.{stands-asked, parent-nowhere, parent-inside, parent-stands, chain-asked, source-asked}
-use Rattle.granting.proofs.Deciding.{unsound, claim-unfit, moment-past, world-refuses, root-granted, parent-decides, parent-absent, parent-present, decided-after}
+-- `granting::grant_outcome` meets its contract: each part of the tests is decided by itself, and a later part counts where the earlier ones pass
+-- (Deciding). What the sheet is asked is what the tests ask of the register (Columns). Assumes nothing.
+use mathlib.Core.Path.{_≡_, ap, _∙_}
+use lib.Dec.{eqb}
+use lib.ListN.{length, take}
 use borrow.Author.Needs.{needs}
+use Rattle.lists.specs.Lists.{any}
+use Rattle.lists.specs.Loops.{length-mapped}
+use Rattle.register.specs.Limits.{claimLimit}
+use Rattle.columns.specs.Sheet.{sheetOf, columnOf}
+use Rattle.soundness.specs.Laws.{judged-sound, judged-ups}
+use Rattle.granting.specs.Drawn.{parentAsked}
+use Rattle.granting.proofs.Columns.{stands-asked, parent-asked}
+use Rattle.granting.proofs.Deciding.{decided-then, grant-asked}
 use Rattle.granting.proofs.grant_outcome.Statement.{statement}
 use Rattle.granting.proofs.grant_outcome.Tie as tie
 
 -- the array has the register's places
-places : (s : tie.Start) → length (s .args .r .claims .list) ≡ 256
-places s = search (needs, length-mapped)
+places : (e : tie.Start) → length (e .args .r .claims .list) ≡ claimLimit
+places e = search (needs, length-mapped)
 
-is-sound-requires : tie.Need-is-sound-requires
-is-sound-requires c κs = search needs
+slice-aggregate-put-claims : tie.Need-slice-aggregate-put-claims
+slice-aggregate-put-claims c = search needs
 
-returns : tie.Need-returns
-returns c =
-    let given = c .before .before .args in
-    sym
-    (unsound (given .r) (given .c) (given .moment)
-    (sym (c .before .is-sound .ensures) ∙ not-true _ (c .if1 .taken)))
+put-claims-requires : tie.Need-put-claims-requires
+put-claims-requires c κs = search needs
 
-claim-fits-requires : tie.Need-claim-fits-requires
-claim-fits-requires c κs = search needs
+slice-aggregate-judged : tie.Need-slice-aggregate-judged
+slice-aggregate-judged c = search needs
 
-returns-2 : tie.Need-returns-2
-returns-2 c =
-    let given = c .before .before .before .before .args in
-    sym
-    (claim-unfit (given .r) (given .c) (given .moment)
-    (sym (c .before .before .before .is-sound .ensures) ∙ not-false _ (c .before .before .if1 .left))
-    (sym (c .before .claim-fits .ensures) ∙ not-true _ (c .if2 .taken)))
+judged-requires : tie.Need-judged-requires
+judged-requires c κs = search needs
 
-returns-3 : tie.Need-returns-3
-returns-3 c =
-    let given = c .before .before .before .before .before .args in
-    sym
-    (moment-past (given .r) (given .c) (given .moment)
-    (sym (c .before .before .before .before .is-sound .ensures) ∙ not-false _ (c .before .before .before .if1 .left))
-    (sym (c .before .before .claim-fits .ensures) ∙ not-false _ (c .before .if2 .left))
-    (le-ltb _ _ (c .if3 .taken)))
+slice-aggregate-column : tie.Need-slice-aggregate-column
+slice-aggregate-column c = search needs
 
-claim-columns-requires : tie.Need-claim-columns-requires
-claim-columns-requires c κs = search needs
+column-requires : tie.Need-column-requires
+column-requires c κs = search needs
 
 is-among-requires : tie.Need-is-among-requires
 is-among-requires c κs = search needs
 
+first-outcome-requires : tie.Need-first-outcome-requires
+first-outcome-requires c κs = search needs
+
 world-outcome-requires : tie.Need-world-outcome-requires
 world-outcome-requires c κs = search needs
 
-enum-known-first : tie.Need-enum-known-first
-enum-known-first c = search needs
-
-enum-told : tie.Need-enum-told
-enum-told c = search needs
-
-returns-4 : tie.Need-returns-4
-returns-4 c =
-    let given = c .before .before .before .before .before .before .before .before .before .before .before .before .before .before .before .before .before .before .args in
-    sym
-    (root-granted (given .r) (given .c) (given .moment)
-    (sym (c .before .before .before .before .before .before .before .before .before .before .before .before .before .before .before .before .before .is-sound .ensures) ∙ not-false _ (c .before .before .before .before .before .before .before .before .before .before .before .before .before .before .before .before .if1 .left))
-    (sym (c .before .before .before .before .before .before .before .before .before .before .before .before .before .before .before .claim-fits .ensures) ∙ not-false _ (c .before .before .before .before .before .before .before .before .before .before .before .before .before .before .if2 .left))
-    (lt-ltb _ _ (c .before .before .before .before .before .before .before .before .before .before .before .before .before .if3 .left))
-    (stands-asked (given .r .claims) (given .c) (c .before .before .before .before .before .before .before .before .before .claim-columns .ensures) (c .before .before .before .before .before .is-among .ensures))
-    (sym (c .before .before .before .before .world-outcome .ensures) ∙ c .before .before .enum-told .given .1)
-    (c .if4 .taken))
-
-latest-place-requires : tie.Need-latest-place-requires
-latest-place-requires c κs = search needs
-
-enum-told-2 : tie.Need-enum-told-2
-enum-told-2 c = search needs
-
-enum-known-place : tie.Need-enum-known-place
-enum-known-place c = search needs
-
--- the place that was found is one of them
-found-inside : (e : tie.After-known-told2) → e .before .place .given .0 .0 < 256
-found-inside e =
-    let given = e .before .before .before .before .before .before .before .before .before .before .before .before .before .before .before .before .before .before .before .before .before .before .before .before .before .args in
-    let long : length (given .r .claims .list) ≡ 256 = places (e .before .before .before .before .before .before .before .before .before .before .before .before .before .before .before .before .before .before .before .before .before .before .before .before .before) in
-    let inside = parent-inside (given .r .claims) (given .c) (e .before .before .before .before .before .before .before .before .before .before .before .before .before .before .before .before .claim-columns .ensures) (sym (e .before .before .before .latest-place .ensures) ∙ e .before .place .given .1) in
-    omega arith
-
-mul-p : tie.Need-mul-p
-mul-p c =
-    let inside = found-inside c in
-    search needs
-
-element-copy-out-p : tie.Need-element-copy-out-p
-element-copy-out-p c = found-inside c
-
-all-current-requires : tie.Need-all-current-requires
-all-current-requires c κs = search needs
-
-drawn-outcome-requires : tie.Need-drawn-outcome-requires
-drawn-outcome-requires c κs = search needs
+slice-aggregate-parent-outcome : tie.Need-slice-aggregate-parent-outcome
+slice-aggregate-parent-outcome c = search needs
 
 parent-outcome-requires : tie.Need-parent-outcome-requires
 parent-outcome-requires c κs = search needs
 
-returns-5 : tie.Need-returns-5
-returns-5 c =
-    let given = c .before .before .before .before .before .before .before .before .before .before .before .before .before .before .before .before .before .args in
-    sym
-    (world-refuses (given .r) (given .c) (given .moment)
-    (sym (c .before .before .before .before .before .before .before .before .before .before .before .before .before .before .before .before .is-sound .ensures) ∙ not-false _ (c .before .before .before .before .before .before .before .before .before .before .before .before .before .before .before .if1 .left))
-    (sym (c .before .before .before .before .before .before .before .before .before .before .before .before .before .before .claim-fits .ensures) ∙ not-false _ (c .before .before .before .before .before .before .before .before .before .before .before .before .before .if2 .left))
-    (lt-ltb _ _ (c .before .before .before .before .before .before .before .before .before .before .before .before .if3 .left))
-    (stands-asked (given .r .claims) (given .c) (c .before .before .before .before .before .before .before .before .claim-columns .ensures) (c .before .before .before .before .is-among .ensures))
-    (sym (c .before .before .before .world-outcome .ensures) ∙ c .before .first .given .1))
+then-requires : tie.Need-then-requires
+then-requires c κs = search needs
 
-returns-6 : tie.Need-returns-6
-returns-6 c =
-    let given = c .before .before .before .before .before .before .before .before .before .before .before .before .before .before .before .before .before .before .before .before .before .before .before .before .args in
-    sym
-    (parent-decides (given .r) (given .c) (given .moment)
-    (sym (c .before .before .before .before .before .before .before .before .before .before .before .before .before .before .before .before .before .before .before .before .before .before .before .is-sound .ensures) ∙ not-false _ (c .before .before .before .before .before .before .before .before .before .before .before .before .before .before .before .before .before .before .before .before .before .before .if1 .left))
-    (sym (c .before .before .before .before .before .before .before .before .before .before .before .before .before .before .before .before .before .before .before .before .before .claim-fits .ensures) ∙ not-false _ (c .before .before .before .before .before .before .before .before .before .before .before .before .before .before .before .before .before .before .before .before .if2 .left))
-    (lt-ltb _ _ (c .before .before .before .before .before .before .before .before .before .before .before .before .before .before .before .before .before .before .before .if3 .left))
-    (stands-asked (given .r .claims) (given .c) (c .before .before .before .before .before .before .before .before .before .before .before .before .before .before .before .claim-columns .ensures) (c .before .before .before .before .before .before .before .before .before .before .before .is-among .ensures))
-    (sym (c .before .before .before .before .before .before .before .before .before .before .world-outcome .ensures) ∙ c .before .before .before .before .before .before .before .before .enum-told .given .1)
-    (c .before .before .before .before .before .before .if4 .left)
-    (parent-absent (given .moment) (above (latest (claimsOf (given .r .claims))) (given .c)) (given .c)
-    (parent-nowhere (given .r .claims) (given .c) (c .before .before .before .before .before .before .before .before .before .before .before .before .before .before .before .claim-columns .ensures) (sym (c .before .before .latest-place .ensures) ∙ c .enum-told2 .given .1))))
+then-requires-2 : tie.Need-then-requires-2
+then-requires-2 c κs = search needs
 
-returns-7 : tie.Need-returns-7
-returns-7 c =
-    let asked = c .before .before .before .before .before .before .before .before .before .before in
-    let lived = asked .before in
-    let placed = lived .before .before .before .before .before .before .before .before .before .before .before .before in
-    let looked = placed .before .before in
-    let judged = looked .before .before .before .before .before .before in
-    let taken = judged .before .before .before .before .before .before .before in
-    let timed = taken .before .before .before .before in
-    let given = timed .before .before .before .before .before .args in
-    let k = given .r .claims in
-    let p = getD (k .list) (placed .place .given .0 .0) noClaim in
-    sym
-    (parent-decides (given .r) (given .c) (given .moment)
-    (sym (timed .before .before .before .before .is-sound .ensures) ∙ not-false _ (timed .before .before .before .if1 .left))
-    (sym (timed .before .before .claim-fits .ensures) ∙ not-false _ (timed .before .if2 .left))
-    (lt-ltb _ _ (timed .if3 .left))
-    (stands-asked k (given .c) (taken .claim-columns .ensures) (judged .before .before .before .is-among .ensures))
-    (sym (judged .before .before .world-outcome .ensures) ∙ judged .enum-told .given .1)
-    (looked .before .before .before .before .if4 .left)
-    (parent-present (given .moment) (above (latest (claimsOf k)) (given .c)) (given .c)
-    (parent-stands k (given .c) (taken .claim-columns .ensures) (sym (looked .latest-place .ensures) ∙ placed .place .given .1)
-    (looked .before .before .before .before .if4 .left))
-    ∙ ap (λ lives. outcomeOf (drawnTests lives p (given .c) ++ chainTests (λ d. d .grantor) (λ d. d .holder) (withinHops (above (latest (claimsOf k)) (given .c)))
-    (above (latest (claimsOf k)) (given .c)) (given .c .holder)))
-    (sym (source-asked k (given .c) (taken .claim-columns .ensures) (given .moment) (lived .all-current .ensures)))
-    ∙ ap (λ tests. outcomeOf (drawnTests (lived .all-current .result) p (given .c) ++ tests)) (sym (chain-asked (given .r)
-    (sym (timed .before .before .before .before .is-sound .ensures) ∙ not-false _ (timed .before .before .before .if1 .left))
-    (places (timed .before .before .before .before .before)) (given .c) (looked .before .before .before .before .if4 .left)
-    (taken .claim-columns .ensures) (sym (looked .latest-place .ensures) ∙ placed .place .given .1)))
-    ∙ decided-after _ _ (asked .drawn-outcome .ensures) (c .parent-outcome .ensures)))
+returns : tie.Need-returns
+returns c =
+    let judged = c .before .before .before .before .before .before .before .before .before .before .before .before in
+    let put = judged .before .before .before in
+    let entry = put .before .before .before .before .before in
+    let r = entry .args .r in
+    let x = entry .args .c in
+    let moment = entry .args .moment in
+    let filled = put .put-claims .ensures in
+    let ups = judged-ups r (places entry) filled (judged .judged .ensures) in
+    c .then2 .ensures
+    ∙ decided-then _ _ (c .before .before .before .before .before .before .before .before .first-outcome .ensures)
+    (c .before .then .ensures ∙ decided-then _ _ (c .before .before .before .before .before .before .before .world-outcome .ensures) (c .before .before .parent-outcome .ensures))
+    ∙ grant-asked r x moment (judged-sound r (places entry) filled (judged .judged .ensures))
+    (c .before .before .before .before .before .before .before .before .before .is-among .ensures
+    ∙ ap (λ l. any (eqb (x .id)) (take (r .claims .count) l)) (c .before .before .before .before .before .before .before .before .before .before .column .ensures ∙ ap (columnOf 0) filled)
+    ∙ stands-asked r (places entry) x)
+    (λ whole. ap (λ l. parentAsked l (judged .judged .result .ups) (r .claims .count) x moment) filled
+    ∙ ap (λ l. parentAsked (sheetOf (r .claims)) l (r .claims .count) x moment) ups
+    ∙ parent-asked r (places entry) x moment whole)
 
 pub grant-outcome-spec : {M : Type 1} → statement M
 grant-outcome-spec =
     tie.close
     (tie.spec
-    is-sound-requires
-    returns
-    claim-fits-requires
-    returns-2
-    returns-3
-    claim-columns-requires
+    slice-aggregate-put-claims
+    put-claims-requires
+    slice-aggregate-judged
+    judged-requires
+    slice-aggregate-column
+    column-requires
     is-among-requires
+    first-outcome-requires
     world-outcome-requires
-    enum-known-first
-    enum-told
-    returns-4
-    latest-place-requires
-    enum-told-2
-    enum-known-place
-    mul-p
-    element-copy-out-p
-    all-current-requires
-    drawn-outcome-requires
+    slice-aggregate-parent-outcome
     parent-outcome-requires
-    returns-5
-    returns-6
-    returns-7)
+    then-requires
+    then-requires-2
+    returns)

@@ -1,29 +1,94 @@
--- `granting::parent_outcome` meets its contract: the tests of the chain decide where those before them were passed. Assumes nothing.
+-- `granting::parent_outcome` meets its contract: a root is asked nothing; where no claim has the parent's number the parent is absent; where one has,
+-- the tests of the parent come before those of the chain that begins with it (Columns). Assumes nothing.
+use mathlib.Core.Path.{_≡_, sym, ap, _∙_}
+use mathlib.Core.List.{_∷_}
+use lib.Dec.{ltb}
+use lib.ListN.{length}
 use borrow.Author.Needs.{needs}
+use Rattle.register.specs.Limits.{hopLimit}
+use Rattle.columns.specs.Columns.{latestPlace, placesUp}
+use Rattle.granting.proofs.Columns.{root-passes, parent-nowhere, parent-at, chain-columns}
+use Rattle.granting.proofs.Deciding.{decided-then}
 use Rattle.granting.proofs.parent_outcome.Statement.{statement}
 use Rattle.granting.proofs.parent_outcome.Tie as tie
 
-enum-known-drawn : tie.Need-enum-known-drawn
-enum-known-drawn c = search needs
+returns : tie.Need-returns
+returns c =
+    let given = c .before .before .before .before .args in
+    sym (root-passes (given .sheet .now) (given .ups .now) (given .n) (given .c) (given .moment) (c .if1 .taken))
+
+column-requires : tie.Need-column-requires
+column-requires c κs = search needs
+
+latest-place-requires : tie.Need-latest-place-requires
+latest-place-requires c κs = search needs
 
 enum-told : tie.Need-enum-told
 enum-told c = search needs
 
+enum-known-place : tie.Need-enum-known-place
+enum-known-place c = search needs
+
+claim-at-requires : tie.Need-claim-at-requires
+claim-at-requires c κs = search needs
+
+current-up-requires : tie.Need-current-up-requires
+current-up-requires c κs = search needs
+
+drawn-outcome-requires : tie.Need-drawn-outcome-requires
+drawn-outcome-requires c κs = search needs
+
+column-requires-2 : tie.Need-column-requires-2
+column-requires-2 c κs = search needs
+
+column-requires-3 : tie.Need-column-requires-3
+column-requires-3 c κs = search needs
+
 chain-outcome-requires : tie.Need-chain-outcome-requires
 chain-outcome-requires c κs = search needs
 
-returns : tie.Need-returns
-returns c = rw (c .before .drawn .given .1)
+then-requires : tie.Need-then-requires
+then-requires c κs = search needs
 
 returns-2 : tie.Need-returns-2
-returns-2 c = rw (c .before .enum-told .given .1) (c .chain-outcome .ensures)
+returns-2 c =
+    let looked = c .before .before in
+    let given = looked .before .before .before .before .before .before .args in
+    sym
+    (parent-nowhere (given .sheet .now) (given .ups .now) (given .n) (given .c) (given .moment) (looked .before .before .if1 .left)
+    (ap (λ l. latestPlace l (given .n) (given .c .parent)) (sym (looked .before .column .ensures)) ∙ sym (looked .latest-place .ensures) ∙ c .enum-told .given .1))
+
+returns-3 : tie.Need-returns-3
+returns-3 c =
+    let lived = c .before .before .before .before .before in
+    let placed = lived .before .before .before in
+    let looked = placed .before .before in
+    let given = looked .before .before .before .before .before .before .args in
+    let l = placed .place .given .0 .0 ∷ placesUp (given .ups .now) (placed .place .given .0 .0) in
+    c .then .ensures
+    ∙ decided-then _ _ (c .before .before .before .before .drawn-outcome .ensures)
+    (chain-columns (ltb (length (placesUp (given .ups .now) (placed .place .given .0 .0))) hopLimit) l (given .c .holder) (c .before .before .before .column2 .ensures)
+    (c .before .before .column3 .ensures) (c .before .chain-outcome .ensures))
+    ∙ sym
+    (parent-at (given .sheet .now) (given .ups .now) (given .n) (given .c) (given .moment) (looked .before .before .if1 .left)
+    (ap (λ l. latestPlace l (given .n) (given .c .parent)) (sym (looked .before .column .ensures)) ∙ sym (looked .latest-place .ensures) ∙ placed .place .given .1)
+    (lived .before .claim-at .ensures) (lived .current-up .ensures))
 
 pub parent-outcome-spec : {M : Type 1} → statement M
 parent-outcome-spec =
     tie.close
     (tie.spec
-    enum-known-drawn
-    enum-told
-    chain-outcome-requires
     returns
-    returns-2)
+    column-requires
+    latest-place-requires
+    enum-told
+    enum-known-place
+    claim-at-requires
+    current-up-requires
+    drawn-outcome-requires
+    column-requires-2
+    column-requires-3
+    chain-outcome-requires
+    then-requires
+    returns-2
+    returns-3)

@@ -10,7 +10,7 @@ use borrow.Author.Tests.{not-true, not-false}
 use lib.ListN.{length, take, replicate, length-replicate}
 use lib.Seq.{length-take-le}
 use Rattle.sheets.specs.Sheets.{put}
-use Rattle.writing.specs.Writing.{delivered}
+use Rattle.texts.specs.Delivery.{delivered}
 use Rattle.json_actions.specs.Actions.{jsonText, jsonFits, jsonHolds, jsonLimit}
 use Rattle.json_writing.proofs.Answers.{json-unfit, json-unheld, json-held}
 use Rattle.json_writing.proofs.Composing.{fits-tested, head-room, tail-room, sheet-inside, sheet-front}

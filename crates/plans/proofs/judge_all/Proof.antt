@@ -2,35 +2,17 @@
 -- (Judging). The measure is the number of actions left. Assumes nothing.
 use Prim.Native.Nat.{_-_}
 use Rattle.lists.specs.Loops.{length-mapped}
+use Rattle.gate.specs.Judged.{lentOf}
 use Rattle.plans.proofs.Judging.{Judging, judging-start, judging-next, judging-done}
 use borrow.Author.Needs.{needs}
 use Rattle.plans.proofs.judge_all.Statement.{statement}
 use Rattle.plans.proofs.judge_all.Tie as tie
 
 abbrev Inv-loop : tie.InvT-loop
-Inv-loop names kinds owners actors reports publics resources bytes lens holders rights ends spots ups claims p top list₀ flagged₀ i₀ list flagged i =
-    Judging (record {
-      names = names;
-      kinds = kinds;
-      owners = owners;
-      actors = actors;
-      reports = reports;
-      publics = publics;
-      resources = resources;
-      bytes = bytes;
-      lens = lens;
-      holders = holders;
-      rights = rights;
-      ends = ends;
-      spots = spots;
-      ups = ups;
-      claims = claims;
-    })
-    p top list flagged i
+Inv-loop v sheet bytes p top list₀ flagged₀ i₀ list flagged i = Judging (lentOf v sheet bytes) p top list flagged i
 
 abbrev μ-loop : tie.MeasureT-loop
-μ-loop names kinds owners actors reports publics resources bytes lens holders rights ends spots ups claims p top list₀ flagged₀ i₀ list flagged i =
-    top - i
+μ-loop v sheet bytes p top list₀ flagged₀ i₀ list flagged i = top - i
 
 least-requires : tie.Need-least-requires Inv-loop μ-loop
 least-requires c κs = search needs

@@ -1,5 +1,5 @@
 -- `plans::plan` meets its contract: test 1, then 2 on the count, then what is found to stop the plan does (`found-halts`), and a plan that
--- nothing stops is judged whole (`planned-lent`). Assumes nothing.
+-- nothing stops is judged whole (`planned-lent`), each of the register whose claims are read from their sheet. Assumes nothing.
 use mathlib.Core.Path.{_≡_, sym, _∙_}
 use lib.ListN.{length}
 use borrow.Author.Tests.{not-true, not-false}
@@ -7,8 +7,11 @@ use Rattle.lists.specs.Loops.{length-mapped}
 use Rattle.lists.specs.Lists.{All}
 use Rattle.register.specs.Limits.{actorLimit, resourceLimit, claimLimit, pathLimit}
 use Rattle.register.specs.Register.{Shaped}
+use Rattle.coverage.specs.LaidLaws.{laid-zeros}
+use Rattle.gate.specs.Sheets.{sheeted}
+use Rattle.gate.specs.Laws.{known-sound, view-told}
 use Rattle.plans.proofs.Stopping.{stop-unsound, stop-many, stop-found, found-runs, found-halts}
-use Rattle.plans.proofs.Judging.{planned-lent}
+use Rattle.plans.proofs.Judging.{planned-lent, planned-sheeted}
 use borrow.Author.Needs.{needs}
 use Rattle.plans.proofs.plan.Statement.{statement}
 use Rattle.plans.proofs.plan.Tie as tie
@@ -26,27 +29,53 @@ claims-long s = search (needs, length-mapped)
 shaped : (s : tie.Start) → All (λ o. length (o .path) ≡ pathLimit) (s .args .r .resources .list) → Shaped (s .args .r)
 shaped s sized = record { actors = actors-long s; resources = resources-long s; claims = claims-long s; paths = sized }
 
-is-sound-requires : tie.Need-is-sound-requires
-is-sound-requires c κs = search needs
+slice-aggregate-put-claims : tie.Need-slice-aggregate-put-claims
+slice-aggregate-put-claims c = search needs
+
+put-claims-requires : tie.Need-put-claims-requires
+put-claims-requires c κs = search needs
+
+slice-aggregate-judged : tie.Need-slice-aggregate-judged
+slice-aggregate-judged c = search needs
+
+judged-requires : tie.Need-judged-requires
+judged-requires c κs = search needs
 
 stopped-requires : tie.Need-stopped-requires
 stopped-requires c κs = search needs
 
 returns : tie.Need-returns
 returns c =
-    let asked = c .before .before in
-    let a = asked .before .args in
-    c .stopped .ensures ∙ stop-unsound (a .r) (a .p) (sym (asked .is-sound .ensures) ∙ not-true (asked .is-sound .result) (c .before .if1 .taken))
+    let asked = c .before .before .before in
+    let filled = asked .before .before .before in
+    let s = filled .before .before .before .before .before in
+    let a = s .args in
+    let soundly = known-sound (a .r) (filled .put-claims .ensures) (asked .judged .ensures) in
+    c .stopped .ensures ∙ stop-unsound (sheeted (a .r)) (a .p) (sym soundly ∙ not-true (asked .judged .result .sound) (c .before .if1 .taken))
+    ∙ planned-sheeted (a .r) (claims-long s) (a .p)
 
 stopped-requires-2 : tie.Need-stopped-requires-2
 stopped-requires-2 c κs = search needs
 
 returns-2 : tie.Need-returns-2
 returns-2 c =
-    let asked = c .before .before .before .before in
-    let a = asked .before .args in
+    let asked = c .before .before .before .before .before in
+    let filled = asked .before .before .before in
+    let s = filled .before .before .before .before .before in
+    let a = s .args in
+    let soundly = known-sound (a .r) (filled .put-claims .ensures) (asked .judged .ensures) in
     c .stopped2 .ensures
-    ∙ stop-many (a .r) (a .p) (sym (asked .is-sound .ensures) ∙ not-false (asked .is-sound .result) (c .before .before .before .if1 .left)) (c .before .if2 .taken)
+    ∙ stop-many (sheeted (a .r)) (a .p) (sym soundly ∙ not-false (asked .judged .result .sound) (c .before .before .before .if1 .left)) (c .before .if2 .taken)
+    ∙ planned-sheeted (a .r) (claims-long s) (a .p)
+
+slice-aggregate-lay : tie.Need-slice-aggregate-lay
+slice-aggregate-lay c = search needs
+
+lay-requires : tie.Need-lay-requires
+lay-requires c κs = search needs
+
+slice-aggregate-view-of : tie.Need-slice-aggregate-view-of
+slice-aggregate-view-of c = search needs
 
 view-of-requires : tie.Need-view-of-requires
 view-of-requires c κs = search needs
@@ -63,6 +92,15 @@ stopped-requires-3 c κs = search needs
 enum-told : tie.Need-enum-told
 enum-told c = search needs
 
+slice-aggregate-judge-all : tie.Need-slice-aggregate-judge-all
+-- the sheet is as long as it was made, and filling it keeps that
+slice-aggregate-judge-all c =
+    let filled = c .before .before .before .before .before .before .before .before .before .before .before .before .before .before .before .before .before .before in
+    search (needs, filled .sheet2 .given, filled .before .put-claims)
+
+slice-aggregate-judge-all-2 : tie.Need-slice-aggregate-judge-all-2
+slice-aggregate-judge-all-2 c = search needs
+
 judge-all-requires : tie.Need-judge-all-requires
 judge-all-requires c κs = search needs
 
@@ -70,38 +108,59 @@ returns-3 : tie.Need-returns-3
 returns-3 c =
     let found = c .before .before .before .before in
     let looking = found .before .before .before .before in
-    let asked = looking .before .before .before .before in
-    let a = asked .before .args in
-    let h = sym (asked .is-sound .ensures) ∙ not-false (asked .is-sound .result) (looking .before .before .before .if1 .left) in
-    let same = stop-found (a .r) (a .p) h (looking .before .if2 .left) (looking .view-of .ensures .0) (found .first-stop .ensures) in
-    c .stopped3 .ensures ∙ found-halts (a .r) (a .p) same (c .before .before .outcome .given .0 .0) (c .before .before .outcome .given .1)
+    let laying = looking .before .before .before in
+    let asked = laying .before .before .before .before .before .before in
+    let filled = asked .before .before .before in
+    let s = filled .before .before .before .before .before in
+    let a = s .args in
+    let put = filled .put-claims .ensures in
+    let h = sym (known-sound (a .r) put (asked .judged .ensures)) ∙ not-false (asked .judged .result .sound) (laying .before .before .before .before .if1 .left) in
+    let paths = laid-zeros (a .r .resources) (laying .lay .ensures .0) (laying .lay .ensures .1 .0) in
+    let seen = view-told (a .r) put (asked .judged .ensures) (paths .1) (looking .view-of .ensures) in
+    let same = stop-found (a .r) (a .p) h (laying .before .before .if2 .left) seen (found .first-stop .ensures) in
+    c .stopped3 .ensures ∙ found-halts (sheeted (a .r)) (a .p) same (c .before .before .outcome .given .0 .0) (c .before .before .outcome .given .1)
+    ∙ planned-sheeted (a .r) (claims-long s) (a .p)
 
 returns-4 : tie.Need-returns-4
 returns-4 c =
-    let told = c .before .before .before .before .before .before .before .before .before .before .before .before .before .before .before .before .before .before .before .before .before .before .before .before .before .before in
-    let found = told .before .before in
+    let found = c .before .before .before .before .before in
     let looking = found .before .before .before .before in
-    let asked = looking .before .before .before .before in
-    let a = asked .before .args in
-    let h = sym (asked .is-sound .ensures) ∙ not-false (asked .is-sound .result) (looking .before .before .before .if1 .left) in
-    let same = stop-found (a .r) (a .p) h (looking .before .if2 .left) (looking .view-of .ensures .0) (found .first-stop .ensures) in
-    planned-lent (a .r) (a .p) (shaped (asked .before) (looking .view-of .ensures .1)) (found-runs (a .r) (a .p) same (told .enum-told .given .1))
-    (looking .view-of .ensures .0) (c .judge-all .ensures)
+    let laying = looking .before .before .before in
+    let asked = laying .before .before .before .before .before .before in
+    let filled = asked .before .before .before in
+    let s = filled .before .before .before .before .before in
+    let a = s .args in
+    let put = filled .put-claims .ensures in
+    let h = sym (known-sound (a .r) put (asked .judged .ensures)) ∙ not-false (asked .judged .result .sound) (laying .before .before .before .before .if1 .left) in
+    let paths = laid-zeros (a .r .resources) (laying .lay .ensures .0) (laying .lay .ensures .1 .0) in
+    let seen = view-told (a .r) put (asked .judged .ensures) (paths .1) (looking .view-of .ensures) in
+    let same = stop-found (a .r) (a .p) h (laying .before .before .if2 .left) seen (found .first-stop .ensures) in
+    planned-lent (a .r) (a .p) (shaped s (laying .lay .ensures .1 .1)) (found-runs (sheeted (a .r)) (a .p) same (c .before .before .before .enum-told .given .1))
+    seen put (paths .0) (c .judge-all .ensures)
+    ∙ planned-sheeted (a .r) (claims-long s) (a .p)
 
 pub plan-spec : {M : Type 1} → statement M
 plan-spec =
     tie.close
     (tie.spec
-    is-sound-requires
+    slice-aggregate-put-claims
+    put-claims-requires
+    slice-aggregate-judged
+    judged-requires
     stopped-requires
     returns
     stopped-requires-2
     returns-2
+    slice-aggregate-lay
+    lay-requires
+    slice-aggregate-view-of
     view-of-requires
     first-stop-requires
     enum-known-outcome
     stopped-requires-3
     enum-told
+    slice-aggregate-judge-all
+    slice-aggregate-judge-all-2
     judge-all-requires
     returns-3
     returns-4)

@@ -1,20 +1,21 @@
--- `portal::guvrendik_clear_expired` meets its contract: each number is that of the inner answer. Assumes nothing.
+-- `portal::guvrendik_clear_expired` meets its contract: the answer to what a withdrawal leaves is the withdrawal's (`withdrawn-natural`). Assumes nothing.
+use mathlib.Core.Path.{ap, _∙_}
 use borrow.Author.Needs.{needs}
-use Rattle.answers.specs.Laws.{revoke-told}
+use Rattle.changes.specs.Changes.{clearExpired}
+use Rattle.answers.specs.Laws.{withdrawnAnswer, withdrawn-natural}
 use Rattle.portal.proofs.guvrendik_clear_expired.Statement.{statement}
 use Rattle.portal.proofs.guvrendik_clear_expired.Tie as tie
 
 clear-expired-requires : tie.Need-clear-expired-requires
 clear-expired-requires c κs = search needs
 
-accepted-requires : tie.Need-accepted-requires
-accepted-requires c κs = search needs
-
-refusal-requires : tie.Need-refusal-requires
-refusal-requires c κs = search needs
+withdrawn-requires : tie.Need-withdrawn-requires
+withdrawn-requires c κs = search needs
 
 returns : tie.Need-returns
-returns c = revoke-told (c .before .before .before .clear-expired .ensures) (c .before .before .accepted .ensures) (c .before .refusal .ensures)
+returns c =
+    let given = c .before .before .args in
+    c .withdrawn .ensures ∙ ap (withdrawnAnswer (given .r)) (c .before .clear-expired .ensures) ∙ withdrawn-natural (given .r) (clearExpired (given .caller) (given .moment))
 
 pub guvrendik-clear-expired-spec : {M : Type 1} → statement M
-guvrendik-clear-expired-spec = tie.close (tie.spec clear-expired-requires accepted-requires refusal-requires returns)
+guvrendik-clear-expired-spec = tie.close (tie.spec clear-expired-requires withdrawn-requires returns)

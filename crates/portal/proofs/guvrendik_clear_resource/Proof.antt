@@ -1,20 +1,21 @@
--- `portal::guvrendik_clear_resource` meets its contract: each number is that of the inner answer. Assumes nothing.
+-- `portal::guvrendik_clear_resource` meets its contract: the answer to what a withdrawal leaves is the withdrawal's (`withdrawn-natural`). Assumes nothing.
+use mathlib.Core.Path.{ap, _∙_}
 use borrow.Author.Needs.{needs}
-use Rattle.answers.specs.Laws.{revoke-told}
+use Rattle.changes.specs.Changes.{clearResource}
+use Rattle.answers.specs.Laws.{withdrawnAnswer, withdrawn-natural}
 use Rattle.portal.proofs.guvrendik_clear_resource.Statement.{statement}
 use Rattle.portal.proofs.guvrendik_clear_resource.Tie as tie
 
 clear-resource-requires : tie.Need-clear-resource-requires
 clear-resource-requires c κs = search needs
 
-accepted-requires : tie.Need-accepted-requires
-accepted-requires c κs = search needs
-
-refusal-requires : tie.Need-refusal-requires
-refusal-requires c κs = search needs
+withdrawn-requires : tie.Need-withdrawn-requires
+withdrawn-requires c κs = search needs
 
 returns : tie.Need-returns
-returns c = revoke-told (c .before .before .before .clear-resource .ensures) (c .before .before .accepted .ensures) (c .before .refusal .ensures)
+returns c =
+    let given = c .before .before .args in
+    c .withdrawn .ensures ∙ ap (withdrawnAnswer (given .r)) (c .before .clear-resource .ensures) ∙ withdrawn-natural (given .r) (clearResource (given .caller) (given .resource))
 
 pub guvrendik-clear-resource-spec : {M : Type 1} → statement M
-guvrendik-clear-resource-spec = tie.close (tie.spec clear-resource-requires accepted-requires refusal-requires returns)
+guvrendik-clear-resource-spec = tie.close (tie.spec clear-resource-requires withdrawn-requires returns)

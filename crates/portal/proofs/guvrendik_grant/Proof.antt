@@ -1,20 +1,22 @@
--- `portal::guvrendik_grant` meets its contract: each number is that of the inner answer. Assumes nothing.
+-- `portal::guvrendik_grant` meets its contract: the answer to a grant's own outcome is the grant's (`granted-natural`). Assumes nothing.
+use mathlib.Core.Path.{ap, _∙_}
 use borrow.Author.Needs.{needs}
-use Rattle.answers.specs.Laws.{grant-told}
+use Rattle.answers.specs.Laws.{grantedAnswer, granted-natural}
 use Rattle.portal.proofs.guvrendik_grant.Statement.{statement}
 use Rattle.portal.proofs.guvrendik_grant.Tie as tie
 
-grant-requires : tie.Need-grant-requires
-grant-requires c κs = search needs
+grant-outcome-requires : tie.Need-grant-outcome-requires
+grant-outcome-requires c κs = search needs
 
-accepted-requires : tie.Need-accepted-requires
-accepted-requires c κs = search needs
-
-refusal-requires : tie.Need-refusal-requires
-refusal-requires c κs = search needs
+granted-requires : tie.Need-granted-requires
+granted-requires c κs = search needs
 
 returns : tie.Need-returns
-returns c = grant-told (c .before .before .before .grant .ensures) (c .before .before .accepted .ensures) (c .before .refusal .ensures)
+returns c =
+    let given = c .before .before .args in
+    c .granted .ensures
+    ∙ ap (grantedAnswer (given .r) (given .c)) (c .before .grant-outcome .ensures)
+    ∙ granted-natural (given .r) (given .c) (given .moment)
 
 pub guvrendik-grant-spec : {M : Type 1} → statement M
-guvrendik-grant-spec = tie.close (tie.spec grant-requires accepted-requires refusal-requires returns)
+guvrendik-grant-spec = tie.close (tie.spec grant-outcome-requires granted-requires returns)

@@ -1,20 +1,21 @@
--- `portal::guvrendik_revoke` meets its contract: each number is that of the inner answer. Assumes nothing.
+-- `portal::guvrendik_revoke` meets its contract: the answer to what a withdrawal leaves is the withdrawal's (`withdrawn-natural`). Assumes nothing.
+use mathlib.Core.Path.{ap, _∙_}
 use borrow.Author.Needs.{needs}
-use Rattle.answers.specs.Laws.{revoke-told}
+use Rattle.changes.specs.Changes.{revoke}
+use Rattle.answers.specs.Laws.{withdrawnAnswer, withdrawn-natural}
 use Rattle.portal.proofs.guvrendik_revoke.Statement.{statement}
 use Rattle.portal.proofs.guvrendik_revoke.Tie as tie
 
 revoke-requires : tie.Need-revoke-requires
 revoke-requires c κs = search needs
 
-accepted-requires : tie.Need-accepted-requires
-accepted-requires c κs = search needs
-
-refusal-requires : tie.Need-refusal-requires
-refusal-requires c κs = search needs
+withdrawn-requires : tie.Need-withdrawn-requires
+withdrawn-requires c κs = search needs
 
 returns : tie.Need-returns
-returns c = revoke-told (c .before .before .before .revoke .ensures) (c .before .before .accepted .ensures) (c .before .refusal .ensures)
+returns c =
+    let given = c .before .before .args in
+    c .withdrawn .ensures ∙ ap (withdrawnAnswer (given .r)) (c .before .revoke .ensures) ∙ withdrawn-natural (given .r) (revoke (given .revoker) (given .claim))
 
 pub guvrendik-revoke-spec : {M : Type 1} → statement M
-guvrendik-revoke-spec = tie.close (tie.spec revoke-requires accepted-requires refusal-requires returns)
+guvrendik-revoke-spec = tie.close (tie.spec revoke-requires withdrawn-requires returns)

@@ -9,7 +9,7 @@ use lib.ListN.{length, take, replicate, length-replicate}
 use lib.Seq.{length-take-le}
 use Rattle.sheets.specs.Sheets.{put}
 use Rattle.sheets.specs.Laws.{splice-front}
-use Rattle.writing.specs.Writing.{delivered}
+use Rattle.texts.specs.Delivery.{delivered}
 use Rattle.verdict_text.specs.Printed.{printed, printedLimit}
 use Rattle.verdict_text.proofs.Lengths.{printed-length}
 use Rattle.verdict_text.proofs.verdict_text.Statement.{statement}

@@ -12,7 +12,7 @@ use Rattle.sheets.specs.Sheets.{put}
 use Rattle.sheets.specs.Laws.{splice-front}
 use Rattle.texts.specs.Registers.{registerText, textLimit}
 use Rattle.texts.specs.Lengths.{text-length}
-use Rattle.writing.specs.Writing.{delivered}
+use Rattle.texts.specs.Delivery.{delivered}
 use Rattle.writing.specs.Laws.{register-unsound, register-sound}
 use Rattle.writing.proofs.write.Statement.{statement}
 use Rattle.writing.proofs.write.Tie as tie

@@ -1,0 +1,29 @@
+-- `claims::stands_alone` meets its contract: its tests are joined in the definition's order (`alone-asked`). Assumes nothing.
+use borrow.Author.Needs.{needs}
+use Rattle.claims.proofs.Asking.{alone-asked}
+use Rattle.claims.proofs.stands_alone.Statement.{statement}
+use Rattle.claims.proofs.stands_alone.Tie as tie
+
+claim-fits-requires : tie.Need-claim-fits-requires
+claim-fits-requires c κs = search needs
+
+bars-machine-requires : tie.Need-bars-machine-requires
+bars-machine-requires c κs = search needs
+
+returns : tie.Need-returns
+returns c =
+    let given = c .before .before .before .before .args in
+    alone-asked (given .c)
+    (record {
+      grantor = given .grantor;
+      holder = given .holder;
+      report = given .report;
+      kind = given .kind;
+      owner = given .owner;
+      keeper = given .keeper;
+    })
+    (c .before .before .before .claim-fits .ensures)
+    (c .bars-machine .ensures)
+
+pub stands-alone-spec : {M : Type 1} → statement M
+stands-alone-spec = tie.close (tie.spec claim-fits-requires bars-machine-requires returns)

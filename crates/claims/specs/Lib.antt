@@ -1,0 +1,4 @@
+pub mod Alone
+pub mod AloneLaws
+pub mod Over
+pub mod OverLaws

@@ -1,4 +1,0 @@
-pub mod Finding
-pub mod Tables
-pub mod Laws
-pub mod Asked

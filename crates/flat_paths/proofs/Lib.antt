@@ -1,4 +1,0 @@
-pub mod Copying
-pub mod Laying
-pub mod Parts
-pub mod Owned

@@ -1,3 +1,0 @@
-pub mod Gathering
-pub mod Ends
-pub mod Laws

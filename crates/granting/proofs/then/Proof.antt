@@ -1,0 +1,21 @@
+-- `granting::then` meets its contract: a refusal of the first part stands, and behind an accepted one the next decides. Assumes nothing.
+use mathlib.Core.Path.{sym, ap}
+use borrow.Author.Needs.{needs}
+use Rattle.granting.specs.Drawn.{outcomeThen}
+use Rattle.granting.proofs.then.Statement.{statement}
+use Rattle.granting.proofs.then.Tie as tie
+
+enum-known-first : tie.Need-enum-known-first
+enum-known-first c = search needs
+
+enum-told : tie.Need-enum-told
+enum-told c = search needs
+
+returns : tie.Need-returns
+returns c = ap (λ o. outcomeThen o (c .before .before .before .args .next)) (sym (c .before .first .given .1))
+
+returns-2 : tie.Need-returns-2
+returns-2 c = ap (λ o. outcomeThen o (c .before .before .args .next)) (sym (c .enum-told .given .1))
+
+pub then-spec : {M : Type 1} → statement M
+then-spec = tie.close (tie.spec enum-known-first enum-told returns returns-2)

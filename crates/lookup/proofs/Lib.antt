@@ -1,0 +1,4 @@
+pub mod Buckets
+pub mod Distinct
+pub mod Filling
+pub mod Seeking

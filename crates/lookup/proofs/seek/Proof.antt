@@ -1,0 +1,88 @@
+-- `lookup::seek` meets its contract: before each turn the link is the latest place of the bucket among places that all that is left to
+-- look at stands among (Seeking). The measure is the link: what comes behind a place is before it. Assumes nothing.
+use mathlib.Core.Path.{_≡_, sym, ap}
+use native.Mathlib.Omega.{arith}
+use borrow.Author.Needs.{needs}
+use Rattle.lookup.specs.Finding.{placeNumber}
+use Rattle.lookup.proofs.Seeking.{Seeking, seeking-start, seeking-linked, seeking-hit, seeking-next, seeking-less, seeking-done}
+use Rattle.lookup.proofs.seek.Statement.{statement}
+use Rattle.lookup.proofs.seek.Tie as tie
+
+abbrev Inv-loop : tie.InvT-loop
+Inv-loop heads nexts column below x none link₀ link = Seeking column heads nexts below x link
+
+abbrev μ-loop : tie.MeasureT-loop
+μ-loop heads nexts column below x none link₀ link = link
+
+bucket-of-requires : tie.Need-bucket-of-requires Inv-loop μ-loop
+bucket-of-requires c κs = search needs
+
+mul-link : tie.Need-mul-link Inv-loop μ-loop
+mul-link c = search needs
+
+shared-slice-read-link : tie.Need-shared-slice-read-link Inv-loop μ-loop
+shared-slice-read-link c = search needs
+
+loop-holds : tie.Need-loop-holds Inv-loop μ-loop
+loop-holds c = rw (c .before .bucket-of .ensures) (seeking-start (c .before .before .before .before .before .pre))
+
+sub-place : tie.Need-sub-place Inv-loop μ-loop
+sub-place c = search needs
+
+cast-at : tie.Need-cast-at Inv-loop μ-loop
+cast-at c = search needs
+
+mul-if1 : tie.Need-mul-if1 Inv-loop μ-loop
+mul-if1 c = search needs
+
+shared-slice-read-if1 : tie.Need-shared-slice-read-if1 Inv-loop μ-loop
+shared-slice-read-if1 c = search needs
+
+returns : tie.Need-returns Inv-loop μ-loop
+returns c =
+    let turn = c .before .before in
+    let entry = turn .before .before .before .before .before .before .before .args in
+    sym (ap (placeNumber (entry .none)) (seeking-hit (seeking-linked (turn .loop-test .taken) (turn .before .loop .inv)) (c .if1 .taken)))
+
+mul-link-2 : tie.Need-mul-link-2 Inv-loop μ-loop
+mul-link-2 c = search needs
+
+shared-slice-read-link-2 : tie.Need-shared-slice-read-link-2 Inv-loop μ-loop
+shared-slice-read-link-2 c = search needs
+
+loop-less : tie.Need-loop-less Inv-loop μ-loop
+loop-less c =
+    let turn = c .before .before .before in
+    omega (arith, seeking-less (seeking-linked (turn .loop-test .taken) (turn .before .loop .inv)))
+
+loop-again : tie.Need-loop-again Inv-loop μ-loop
+loop-again c =
+    let turn = c .before .before .before in
+    seeking-next (seeking-linked (turn .loop-test .taken) (turn .before .loop .inv)) (c .before .if1 .left)
+
+returns-2 : tie.Need-returns-2 Inv-loop μ-loop
+returns-2 c =
+    let entry = c .before .before .before .before .before .before .before .args in
+    let none : c .before .loop .link ≡ 0 = omega arith in
+    sym (ap (placeNumber (entry .none)) (seeking-done (rw none at (c .before .loop .inv))))
+
+pub seek-spec : {M : Type 1} → statement M
+seek-spec =
+    tie.close
+    (tie.spec
+    Inv-loop
+    μ-loop
+    bucket-of-requires
+    mul-link
+    shared-slice-read-link
+    loop-holds
+    sub-place
+    cast-at
+    mul-if1
+    shared-slice-read-if1
+    returns
+    mul-link-2
+    shared-slice-read-link-2
+    loop-less
+    loop-again
+    returns-2)

@@ -1,0 +1,5 @@
+pub mod Asked
+pub mod Finding
+pub mod Laws
+pub mod Tables
+pub mod Walks

@@ -1,2 +1,0 @@
-pub mod Struck
-pub mod Laws

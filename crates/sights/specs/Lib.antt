@@ -1,5 +1,0 @@
-pub mod Sights
-pub mod Resources
-pub mod Relying
-pub mod Laws
-pub mod Ends

@@ -1,0 +1,51 @@
+-- Working: The judgement of a register whose claims stand in a sheet. It is shaped for the code; what it is in 01's words is proved in Laws
+-- (`register-same`).
+use mathlib.Core.Bool.{Bool, _&&_}
+use mathlib.Core.List.{List, map}
+use Prim.Native.Nat.{ℕ, min}
+use lib.Dec.{eqb}
+use lib.ListN.{length, take, getD}
+use Rattle.lists.specs.Lists.{every, counted}
+use Rattle.register.specs.Limits.{claimLimit}
+use Rattle.register.specs.declared.Actors.{Actors}
+use Rattle.register.specs.declared.Resources.{Resources}
+use Rattle.register.specs.declared.Register.{Register}
+use Rattle.columns.specs.Columns.{resourceId}
+use Rattle.columns.specs.Sheet.{sheetLimit, columnOf, claimAt, claimsIn}
+use Rattle.columns.specs.declared.ActorColumns.{ActorColumns}
+use Rattle.lookup.specs.Finding.{placesOf, earlierPlaces}
+use Rattle.rules.specs.Sound.{distinct, sound}
+use Rattle.claims.specs.Alone.{Found, aloneAt}
+use Rattle.soundness.specs.declared.Findings.{Findings}
+
+-- the register of actors and resources, and of the first n claims of a sheet
+abbrev pub registerBy : Actors → Resources → List ℕ → ℕ → Register
+registerBy a o s n = record { actors = a; resources = o; claims = record { list = claimsIn s; count = n } }
+
+-- whether it is sound, with the place of each claim's parent before it and that of its resource, the claims' limit for none
+abbrev pub judgedBy : Actors → Resources → List ℕ → ℕ → Findings
+judgedBy a o s n = record {
+  sound = eqb (length s) sheetLimit && sound (registerBy a o s n);
+  ups = earlierPlaces (columnOf 0 s) (columnOf 1 s) n claimLimit;
+  spots = placesOf (map resourceId (o .list)) (o .count) (columnOf 4 s) n claimLimit;
+}
+
+-- what was looked up of the claim at a place: the places of its grantor, its holder and its resource, and what stands there
+abbrev pub foundAt : ActorColumns → List ℕ → List ℕ → List ℕ → List ℕ → ℕ → Found
+foundAt actors keepers granting holding spots i = record {
+  grantor = getD granting i 0;
+  holder = getD holding i 0;
+  report = getD spots i 0;
+  kind = getD (actors .kinds) (getD granting i 0) 0;
+  owner = getD (actors .owners) (getD granting i 0) 0;
+  keeper = getD keepers (getD spots i 0) 0;
+}
+
+-- whether the ids of the first h actors are distinct, and each of the first n claims of a sheet is as it should be by itself, its grantor and its
+-- holder looked up among those
+unfoldable pub claimsAlone : ActorColumns → ℕ → List ℕ → List ℕ → List ℕ → ℕ → Bool
+claimsAlone actors h keepers spots s n =
+    let granting = placesOf (actors .ids) h (columnOf 2 s) n claimLimit in
+    let holding = placesOf (actors .ids) h (columnOf 3 s) n claimLimit in
+    distinct (take (min h claimLimit) (actors .ids))
+    && every (λ i. aloneAt (claimAt s i) (foundAt actors keepers granting holding spots i)) (counted 0 n)

@@ -1,0 +1,10 @@
+pub mod Ends
+pub mod Passes
+pub mod PassesLaws
+pub mod Pushed
+pub mod PushedLaws
+pub mod Relying
+pub mod Resources
+pub mod Sights
+pub mod SightsLaws
+pub mod Uses

@@ -1,0 +1,5 @@
+pub mod Asking
+pub mod Clearing
+pub mod Going
+pub mod Packing
+pub mod Laws
