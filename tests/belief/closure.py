@@ -503,6 +503,7 @@ class Belief:
         for what, via in sorted(lost.items()):
             self.faults.append(f"{via} names {what}, which stands nowhere")
         self.check_marks()
+        self.check_names()
         self.check_reached()
         self.check_believed()
         self.check_needed()
@@ -529,6 +530,16 @@ class Belief:
             texts = (t for c in self.tree.crates for folder in ("specs", "proofs") for t in self.tree.read_all(f"crates/{c}/{folder}", ".antt").values())
             self.known = {name for text in texts for name in re.findall(r"^ *(?:(?:abbrev|unfoldable|pub) )*([^\s:(){}]+) :", text, re.M)}
         return law in self.known
+
+    def check_names(self):
+        """A public name of specs/ stands once there: anything else of that name would be taken for it."""
+        named = {}
+        for file in self.tree.spec_files():
+            for item in file.items:
+                named.setdefault(item.name, []).append(item)
+        for name, items in sorted(named.items()):
+            if any(item.pub for item in items):
+                self.holds(len(items) == 1, f"{name} stands more than once in specs/: {', '.join(item.file.label() for item in items)}")
 
     def check_reached(self):
         for item, via in sorted(self.reached.items(), key=lambda pair: pair[0].label()):
@@ -673,6 +684,8 @@ BROKEN = (
     ("a definition that nothing reaches put into a believed file",
      append("crates/rules/specs/Sound.antt", "\npub unsound : Register → Bool\nunsound r = not (sound r)\n"),
      "unsound", "rules/Sound: unsound stands in a believed file, and nothing reaches it"),
+    ("a name that stands twice", append("crates/rules/specs/Laws.antt", "\ndrawnFrom : ℕ\ndrawnFrom = 0\n"),
+     "drawnFrom", "drawnFrom stands more than once in specs/: rules/"),
     ("a rule that names what does not stand", append(RULES, "\n`rules/Sound: soundly`\n"),
      "soundly", "names `rules/Sound: soundly`, which does not stand there"),
     ("a theorem proved by cases", append("crates/rules/proofs/Theorems.antt", "\npub both : (b : Bool) → b ≡ b\nboth true = refl\nboth false = refl\n"),

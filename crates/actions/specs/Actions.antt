@@ -31,6 +31,10 @@ flagCount = 10
 abbrev pub violationLimit : ℕ
 violationLimit = 51
 
+-- what stands at a place that no use was put into: all zeros
+abbrev pub noUse : Usage
+noUse = record { resource = 0; right = 0 }
+
 -- entries past a count are ignored
 abbrev pub usesOf : Action → List Usage
 usesOf a = take (a .used) (a .uses)

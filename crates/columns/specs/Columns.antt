@@ -6,7 +6,7 @@ use Prim.Native.Nat.{ℕ, zero, suc}
 use lib.Dec.{eqb, ltb, leb}
 use lib.ListN.{length, getD}
 use Rattle.register.specs.Limits.{hopLimit}
-use Rattle.register.specs.Chain.{chain, current}
+use Rattle.register.specs.Chain.{chain, current, weighing}
 use Rattle.register.specs.declared.Actor.{Actor}
 use Rattle.register.specs.declared.Resource.{Resource}
 use Rattle.register.specs.declared.Claim.{Claim}
@@ -94,19 +94,6 @@ placesUp ups at = chain (λ j. suc j) (λ j. suc (getD ups j j)) (places at) (su
 -- the number of steps of a chain, where it is not more than the limit
 abbrev pub stepsUp : {A : Type 0} → List A → Hops
 stepsUp l = cond (leb (length l) hopLimit) (Up (length l)) Beyond
-
--- a claim of which only the weight and the expiry are looked at
-abbrev pub weighing : ℕ → ℕ → Claim
-weighing weight expiry = record {
-  id = 0;
-  parent = 0;
-  grantor = 0;
-  holder = 0;
-  resource = 0;
-  rights = 0;
-  weight = weight;
-  expiry = expiry;
-}
 
 -- whether the claim at a place is current, by the columns of weights and expiries
 abbrev pub currentAt : List ℕ → List ℕ → ℕ → ℕ → Bool

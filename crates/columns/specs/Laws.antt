@@ -32,8 +32,8 @@ getD-inside (x ∷ l) zero d e h = refl
 getD-inside (x ∷ l) (suc i) d e h = getD-inside l i d e (omega arith)
 
 -- whether place n of a column is there and holds x
-abbrev holds : List ℕ → ℕ → ℕ → Bool
-holds column n x = ltb n (length column) && eqb (getD column n 0) x
+abbrev holdsAt : List ℕ → ℕ → ℕ → Bool
+holdsAt column n x = ltb n (length column) && eqb (getD column n 0) x
 
 module _ (column : List ℕ) (x : ℕ) where
   -- below place 0 there is none
@@ -41,16 +41,16 @@ module _ (column : List ℕ) (x : ℕ) where
   unfolding latestPlace
   place-none = refl
 
-  place-here : (n : ℕ) → holds column n x ≡ true → latestPlace column (suc n) x ≡ At n
+  place-holds : (n : ℕ) → holdsAt column n x ≡ true → latestPlace column (suc n) x ≡ At n
   unfolding latestPlace
-  place-here n e = rw e
+  place-holds n e = rw e
 
-  place-before : (n : ℕ) → holds column n x ≡ false → latestPlace column (suc n) x ≡ latestPlace column n x
+  place-before : (n : ℕ) → holdsAt column n x ≡ false → latestPlace column (suc n) x ≡ latestPlace column n x
   unfolding latestPlace
   place-before n e = rw e
 
   pub place-hit : (n : ℕ) → n < length column → getD column n 0 ≡ x → latestPlace column (suc n) x ≡ At n
-  place-hit n h e = place-here n (rw (lt-ltb n (length column) h, eq-eqb (getD column n 0) x e))
+  place-hit n h e = place-holds n (rw (lt-ltb n (length column) h, eq-eqb (getD column n 0) x e))
 
   pub place-miss : (n : ℕ) → n < length column → (getD column n 0 ≡ x → ⊥) → latestPlace column (suc n) x ≡ latestPlace column n x
   place-miss n h e = place-before n (rw (lt-ltb n (length column) h, ne-eqb (getD column n 0) x e))
@@ -72,8 +72,8 @@ module _ (column : List ℕ) (x : ℕ) where
   pub place-found : (n k : ℕ) → latestPlace column n x ≡ At k → (k < n) × (k < length column) × (getD column k 0 ≡ x)
   place-found zero k q = let never : _≡_ {A = ℕ} 0 1 = cc place-none in absurd (omega arith)
   place-found (suc n) k q =
-      cases (holds column n x)
-      (λ e. let same : n ≡ k = cc (place-here n e) in
+      cases (holdsAt column n x)
+      (λ e. let same : n ≡ k = cc (place-holds n e) in
       rw (← same) (
         omega arith,
         ltb-true n (length column) (and-left (ltb n (length column)) (eqb (getD column n 0) x) e),

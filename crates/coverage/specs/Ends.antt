@@ -12,9 +12,9 @@ use lib.Seq.{getD-at}
 use Rattle.lists.specs.Tests.{cases}
 use Rattle.lists.specs.Lists.{every}
 use Rattle.register.specs.Limits.{claimLimit, momentEnd}
-use Rattle.register.specs.Chain.{current}
+use Rattle.register.specs.Chain.{current, weighing}
 use Rattle.register.specs.Liveness.{above-unpast}
-use Rattle.columns.specs.Columns.{latestPlace, chainPlaces, weighing, currentAt}
+use Rattle.columns.specs.Columns.{latestPlace, chainPlaces, currentAt}
 use Rattle.columns.specs.Laws.{place-cases, place-found, chain-places-at, chain-places-nowhere}
 use Rattle.lookup.specs.Finding.{placeNumber, asked, earlierPlaces}
 use Rattle.lookup.specs.Laws.{earlier-at}

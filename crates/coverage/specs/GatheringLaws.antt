@@ -95,9 +95,9 @@ module _ (holders ends : List ℕ) where
 -- the spot of x among the first m of a list of resources
 module _ (os : List Resource) (m x : ℕ) where
   -- a spot below the limit is the place of a resource of the first m that has that id
-  pub spot-natural : (j : ℕ) → j < resourceLimit → spotIn (map resourceId os) m x ≡ j
+  pub spot-resource : (j : ℕ) → j < resourceLimit → spotIn (map resourceId os) m x ≡ j
       → (j < m) × (j < length os) × (resourceId (getD os j noResource) ≡ x)
-  spot-natural j h q =
+  spot-resource j h q =
       place-cases (latestPlace (map resourceId os) m x)
       (λ i e. let same : i ≡ j = sym (ap spotOf e) ∙ q in
       let found = place-found (map resourceId os) x m j (e ∙ ap At same) in
@@ -110,7 +110,7 @@ module _ (os : List Resource) (m x : ℕ) where
       → (j : ℕ) → j < resourceLimit → spotIn (map resourceId os) m x ≡ j
       → (i : ℕ) → i < length (take m os) → resourceId (getD os i noResource) ≡ x → i ≡ j
   spot-only distinct j h q i inside e =
-      let found = spot-natural j h q in
+      let found = spot-resource j h q in
       distinct i j inside (omega (arith, found .0, found .1, length-take m os)) (e ∙ sym (found .2))
 
   -- the limit is the spot exactly where no resource of the first m has that id

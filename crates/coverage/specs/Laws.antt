@@ -54,35 +54,35 @@ firstPlaceOf p [] = Nowhere
 firstPlaceOf p (j ∷ l) = let more = firstPlaceOf p l in cond (p j) (At j) more
 
 module _ (p : ℕ → Bool) where
-  first-hit : (j : ℕ) (l : List ℕ) → p j ≡ true → firstPlaceOf p (j ∷ l) ≡ At j
-  first-hit j l e = rw e
+  first-placed : (j : ℕ) (l : List ℕ) → p j ≡ true → firstPlaceOf p (j ∷ l) ≡ At j
+  first-placed j l e = rw e
 
-  first-miss : (j : ℕ) (l : List ℕ) → p j ≡ false → firstPlaceOf p (j ∷ l) ≡ firstPlaceOf p l
-  first-miss j l e = rw e
+  first-passed : (j : ℕ) (l : List ℕ) → p j ≡ false → firstPlaceOf p (j ∷ l) ≡ firstPlaceOf p l
+  first-passed j l e = rw e
 
   -- the first that passes is in the list, passes, and none before it does
   pub first-at : (l : List ℕ) (j : ℕ) → firstPlaceOf p l ≡ At j
       → (before : List ℕ) × (after : List ℕ) × (l ≡ before ++ (j ∷ after)) × (p j ≡ true) × All (λ i. p i ≡ false) before
   first-at [] j q = let never : _≡_ {A = ℕ} 0 1 = cc in absurd (omega arith)
   first-at (i ∷ l) j q =
-      cases (p i) (λ e. let same : i ≡ j = cc (first-hit i l e) in rw (← same) ([], l, refl, e, tt))
-      (λ e. let found = first-at l j (sym (first-miss i l e) ∙ q) in
+      cases (p i) (λ e. let same : i ≡ j = cc (first-placed i l e) in rw (← same) ([], l, refl, e, tt))
+      (λ e. let found = first-at l j (sym (first-passed i l e) ∙ q) in
       (i ∷ found .0, found .1, ap (λ m. i ∷ m) (found .2), found .3, (e, found .4)))
 
   pub first-nowhere : (l : List ℕ) → firstPlaceOf p l ≡ Nowhere → All (λ i. p i ≡ false) l
   first-nowhere [] q = tt
   first-nowhere (i ∷ l) q =
-      cases (p i) (λ e. let never : _≡_ {A = ℕ} 0 1 = cc (first-hit i l e) in absurd (omega arith))
-      (λ e. (e, first-nowhere l (sym (first-miss i l e) ∙ q)))
+      cases (p i) (λ e. let never : _≡_ {A = ℕ} 0 1 = cc (first-placed i l e) in absurd (omega arith))
+      (λ e. (e, first-nowhere l (sym (first-passed i l e) ∙ q)))
 
   -- and back
   pub at-first : (before : List ℕ) (j : ℕ) (after : List ℕ) → All (λ i. p i ≡ false) before → p j ≡ true → firstPlaceOf p (before ++ (j ∷ after)) ≡ At j
-  at-first [] j after h e = first-hit j after e
-  at-first (i ∷ before) j after h e = first-miss i (before ++ (j ∷ after)) (h .0) ∙ at-first before j after (h .1) e
+  at-first [] j after h e = first-placed j after e
+  at-first (i ∷ before) j after h e = first-passed i (before ++ (j ∷ after)) (h .0) ∙ at-first before j after (h .1) e
 
   pub nowhere-first : (l : List ℕ) → All (λ i. p i ≡ false) l → firstPlaceOf p l ≡ Nowhere
   nowhere-first [] h = refl
-  nowhere-first (i ∷ l) h = first-miss i l (h .0) ∙ nowhere-first l (h .1)
+  nowhere-first (i ∷ l) h = first-passed i l (h .0) ∙ nowhere-first l (h .1)
 
   -- of what passes one test, the first that passes another is the first that passes both
   pub first-filtered : (s : ℕ → Bool) (l : List ℕ) → firstPlaceOf p (filter s l) ≡ firstPlaceOf (λ j. s j && p j) l

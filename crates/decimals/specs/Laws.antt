@@ -72,31 +72,31 @@ digit-high b h = go (ltb b 48) refl h
     go false e k = ltb-true b 58 k
 
 -- nothing but digits
-unfoldable All : List ℕ → Type 0
-All [] = Unit {0}
-All (b ∷ s) = (isDigit b ≡ true) × All s
+unfoldable AllDigits : List ℕ → Type 0
+AllDigits [] = Unit {0}
+AllDigits (b ∷ s) = (isDigit b ≡ true) × AllDigits s
 
-all-snoc : (s : List ℕ) (b : ℕ) → All s → isDigit b ≡ true → All (s ++ (b ∷ []))
-unfolding All
+all-snoc : (s : List ℕ) (b : ℕ) → AllDigits s → isDigit b ≡ true → AllDigits (s ++ (b ∷ []))
+unfolding AllDigits
 all-snoc [] b a d = (d, tt)
 all-snoc (c ∷ s) b a d = (a .0, all-snoc s b (a .1) d)
 
-all-digits-with : (f n : ℕ) → n < f → All (digitsWith f n)
-unfolding All
+all-digits-with : (f n : ℕ) → n < f → AllDigits (digitsWith f n)
+unfolding AllDigits
 all-digits-with zero n h = absurd (omega arith)
 all-digits-with (suc f) n h = elim (decLt n 10) [
   | yes lt ↦ rw (digits-with-small f n lt) (digit-of n lt, tt)
   | no ge ↦ rw (digits-with-step f n (omega arith)) (all-snoc (digitsWith f (n / 10)) (48 + n % 10) (all-digits-with f (n / 10) (omega arith)) (digit-of (n % 10) (omega arith)))
 ]
 
-run-append : (s t : List ℕ) → All s → starts t ≡ false → digitRun (s ++ t) ≡ s
-unfolding All digitRun starts
+run-append : (s t : List ℕ) → AllDigits s → starts t ≡ false → digitRun (s ++ t) ≡ s
+unfolding AllDigits digitRun starts
 run-append [] [] a h = refl
 run-append [] (b ∷ t) a h = rw h
 run-append (c ∷ s) t a h = rw (a .0) (ap (λ (l : List ℕ). c ∷ l) (run-append s t (a .1) h))
 
-after-append : (s t : List ℕ) → All s → starts t ≡ false → after (s ++ t) ≡ t
-unfolding All after starts
+after-append : (s t : List ℕ) → AllDigits s → starts t ≡ false → after (s ++ t) ≡ t
+unfolding AllDigits after starts
 after-append [] [] a h = refl
 after-append [] (b ∷ t) a h = rw h
 after-append (c ∷ s) t a h = rw (a .0) (after-append s t (a .1) h)
@@ -147,12 +147,12 @@ run-after (b ∷ s) = go (isDigit b) (run-after s)
     go true ih = ap (λ (l : List ℕ). b ∷ l) ih
     go false ih = refl
 
-all-run : (s : List ℕ) → All (digitRun s)
-unfolding All digitRun
+all-run : (s : List ℕ) → AllDigits (digitRun s)
+unfolding AllDigits digitRun
 all-run [] = tt
 all-run (b ∷ s) = go (isDigit b) refl (all-run s)
   where
-    go : (x : Bool) → isDigit b ≡ x → All (digitRun s) → All (cond x (b ∷ digitRun s) [])
+    go : (x : Bool) → isDigit b ≡ x → AllDigits (digitRun s) → AllDigits (cond x (b ∷ digitRun s) [])
     go true e ih = (e, ih)
     go false e ih = tt
 
@@ -165,8 +165,8 @@ starts-after (b ∷ s) = go (isDigit b) refl (starts-after s)
     go true e ih = ih
     go false e ih = e
 
-digits-value : (a : ℕ) (s : List ℕ) → 1 ≤ a → All s → digits (value a s) ≡ digits a ++ s
-unfolding All value
+digits-value : (a : ℕ) (s : List ℕ) → 1 ≤ a → AllDigits s → digits (value a s) ≡ digits a ++ s
+unfolding AllDigits value
 digits-value a [] h al = sym (append-nil (digits a))
 digits-value a (b ∷ s) h al =
     let lo = digit-low b (al .0) in
@@ -176,8 +176,8 @@ digits-value a (b ∷ s) h al =
     digits-value (a * 10 + (b - 48)) s (omega arith) (al .1)
     ∙ rw (digits-step (a * 10 + (b - 48)) (omega arith), q, r, append-assoc)
 
-digits-canonical : (s : List ℕ) → All s → canonical s ≡ true → digits (value 0 s) ≡ s
-unfolding All canonical value
+digits-canonical : (s : List ℕ) → AllDigits s → canonical s ≡ true → digits (value 0 s) ≡ s
+unfolding AllDigits canonical value
 digits-canonical [] al h = absurd (let z : _≡_ {A = ℕ} 0 1 = cc in omega arith)
 digits-canonical (b ∷ []) al h =
     let lo = digit-low b (al .0) in

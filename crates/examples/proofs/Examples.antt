@@ -8,8 +8,8 @@ use Rattle.lists.specs.Tests.{beq-same}
 use Rattle.lists.specs.Lists.{every}
 use Rattle.lists.specs.Bytes.{bytes}
 use Rattle.paths.specs.Containment.{same, components, climbing, trimmed, starting, contained}
-use Rattle.register.specs.Chain.{chain, live}
-use Rattle.examples.specs.Table.{holds, inside, table, weighing, lives}
+use Rattle.register.specs.Chain.{chain, live, weighing}
+use Rattle.examples.specs.Table.{holds, inside, table, lives}
 
 -- an example of a containment that holds is that containment
 pub inside-sound : (inner outer : String) (answer : Bool) →

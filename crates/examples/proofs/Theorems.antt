@@ -7,8 +7,8 @@ use Prim.Native.String.{String}
 use Rattle.lists.specs.Lists.{every}
 use Rattle.lists.specs.Bytes.{bytes}
 use Rattle.paths.specs.Containment.{contained}
-use Rattle.register.specs.Chain.{live}
-use Rattle.examples.specs.Table.{holds, inside, table, weighing, lives}
+use Rattle.register.specs.Chain.{live, weighing}
+use Rattle.examples.specs.Table.{holds, inside, table, lives}
 use Rattle.examples.proofs.Examples as examples
 
 -- 1. Every example of the table holds.

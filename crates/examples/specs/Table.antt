@@ -4,8 +4,7 @@ use mathlib.Core.List.{List, [], _∷_}
 use Prim.Native.Nat.{ℕ}
 use Prim.Native.String.{String}
 use Rattle.paths.specs.Containment.{contained}
-use Rattle.register.specs.Chain.{live}
-use Rattle.register.specs.declared.Claim.{Claim}
+use Rattle.register.specs.Chain.{live, weighing}
 use Rattle.lists.specs.Bytes.{bytes}
 
 -- one of 01's examples, with the answer that 01 gives
@@ -14,19 +13,6 @@ pub data Example : Type 0 where
   inside : (inner outer : String) → (answer : Bool) → Example
   -- a root of this weight and expiry live at a moment: yes or no
   lives : (weight expiry moment : ℕ) → (answer : Bool) → Example
-
--- a claim of that weight and expiry, and zeros besides: a root
-abbrev pub weighing : ℕ → ℕ → Claim
-weighing weight expiry = record {
-  id = 0;
-  parent = 0;
-  grantor = 0;
-  holder = 0;
-  resource = 0;
-  rights = 0;
-  weight = weight;
-  expiry = expiry;
-}
 
 -- whether the definition answers as the example says
 abbrev pub holds : Example → Bool

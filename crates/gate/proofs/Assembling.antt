@@ -26,7 +26,7 @@ use Rattle.columns.specs.Sheet.{sheetOf}
 use Rattle.soundness.specs.Laws.{register-standing}
 use Rattle.coverage.specs.Laid.{laid}
 use Rattle.uses.specs.declared.UsesJudged.{UsesJudged}
-use Rattle.gate.specs.Judged.{actionJudged, viewOf, lentOf, lentTests, judgedBy}
+use Rattle.gate.specs.Judged.{actionJudged, viewOf, lentOf, lentTests, lentJudged}
 use Rattle.gate.specs.Sheets.{sheeted}
 use Rattle.gate.specs.Laws.{judged-natural, tests-natural, view-natural}
 use Rattle.gate.specs.declared.View.{View}
@@ -39,7 +39,7 @@ module _ (r : Register) (a : Action) {v : View} (viewed : v ≡ viewOf r) where
 
   pub judged-seen : {sheet bytes : List ℕ} → sheet ≡ sheetOf (r .claims) → bytes ≡ laid (r .resources) .bytes
       → Shaped r → sound (sheeted r) ≡ true → outcomeOf (actionTests (sheeted r) a) ≡ Accepted → {judged : UsesJudged}
-      → judged ≡ judgedBy (lentOf v sheet bytes) a → judged ≡ actionJudged (sheeted r) a
+      → judged ≡ lentJudged (lentOf v sheet bytes) a → judged ≡ actionJudged (sheeted r) a
   unfolding actionTests
   judged-seen put of-bytes shaped h passed e =
       e ∙ rw (viewed, put, of-bytes) (view-natural r shaped h a (outcome-accepted _ _ passed))

@@ -25,7 +25,7 @@ use Rattle.uses.specs.Passes.{usesBy, reliedAll, coveredAll, hopsAll, faultsAll
 use Rattle.uses.specs.PassesLaws.{passes-natural}
 use Rattle.uses.specs.declared.Uses.{Uses}
 use Rattle.uses.specs.declared.UsesJudged.{UsesJudged}
-use Rattle.gate.specs.Judged.{besides, viewBy, Lent, machineBy, ownerBy, ownedBy, sightBy, judgedBy}
+use Rattle.gate.specs.Judged.{besides, viewBy, Lent, machineBy, ownerBy, ownedBy, sightBy, lentJudged}
 use Rattle.gate.specs.declared.View.{View}
 
 -- columns that are each those of the actors, the resources and the claims are the view
@@ -56,8 +56,8 @@ module _ (l : Lent) (a : Action) (few : length (l .reports) ≤ resourceLimit) (
       → covering ≡ coveredAll (take (theirs .count) (theirs .places)) rights (l .spots) (l .bytes) (l .lens) uses
       → hops ≡ hopsAll (l .ups) relied (uses .count)
       → violations ≡ pushedAll vs (faultsAll relied covering (machine && not (eqb owner 0)) (l .publics) uses)
-      → _≡_ {A = UsesJudged} (record { violations = violations; hops = hops }) (judgedBy l a)
-  unfolding judgedBy
+      → _≡_ {A = UsesJudged} (record { violations = violations; hops = hops }) (lentJudged l a)
+  unfolding lentJudged
   judged-lent of-machine of-owner of-first of-holders of-rights of-own of-asked of-theirs of-uses of-relied of-covering of-hops of-violations =
       rw (
         of-violations,

@@ -133,6 +133,6 @@ module _ (l : Lent) where
   }
 
   -- an action judged by what is lent
-  unfoldable pub judgedBy : Action → UsesJudged
-  judgedBy a =
+  unfoldable pub lentJudged : Action → UsesJudged
+  lentJudged a =
       usesJudged (sightBy (a .now) (a .actor)) (l .reports) (l .resources) a (pushedAll (listed []) (besides (machineBy (a .actor)) (ownerBy (a .actor)) a))

@@ -35,7 +35,7 @@ use Rattle.uses.specs.Sights.{ownerAt, ownerIn, ownedIn, spotsOf, upsOf, endsIn
 use Rattle.uses.specs.SightsLaws.{use-natural, asked-actor}
 use Rattle.uses.specs.Ends.{cover-natural}
 use Rattle.uses.specs.Uses.{useHops, faultsFrom, usesJudged}
-use Rattle.gate.specs.Judged.{besides, actionJudged, viewBy, viewOf, lentIn, lentTests, machineBy, sightBy, judgedBy}
+use Rattle.gate.specs.Judged.{besides, actionJudged, viewBy, viewOf, lentIn, lentTests, machineBy, sightBy, lentJudged}
 use Rattle.gate.specs.declared.View.{View}
 use Rattle.gate.specs.Sheets.{sheeted, sheeted-shaped, column-natural-expiries}
 
@@ -54,12 +54,12 @@ ownerless-natural r h x =
     there Nowhere = refl
 
 module _ (r : Register) (shaped : Shaped r) (h : sound r ≡ true) where
-  faults-natural : (moment x n : ℕ) (us : List Usage) →
+  judged-faults : (moment x n : ℕ) (us : List Usage) →
       faultsFrom (sightOf r moment x) (map resourceId (r .resources .list)) (r .resources .count) n us ≡ useViolations r moment x n us
   unfolding faultsFrom
-  faults-natural moment x n [] = sym (use-violations-nil r moment x n)
-  faults-natural moment x n (u ∷ us) =
-      rw (use-violations-cons r moment x n u us, use-natural r shaped h moment x n u .0, faults-natural moment x (suc n) us)
+  judged-faults moment x n [] = sym (use-violations-nil r moment x n)
+  judged-faults moment x n (u ∷ us) =
+      rw (use-violations-cons r moment x n u us, use-natural r shaped h moment x n u .0, judged-faults moment x (suc n) us)
 
   hops-judged : (moment x : ℕ) (us : List Usage) →
       map (λ u. useHops (sightOf r moment x) (spotFor r u) (u .right)) us ≡ map (λ u. hopsFor r moment x u) us
@@ -74,7 +74,7 @@ module _ (r : Register) (shaped : Shaped r) (h : sound r ≡ true) where
       pushedAll (pushedAll (listed []) (besides (isMachine (actorsOf (r .actors)) (a .actor)) (ownerIn r (a .actor)) a)) (faultsFrom (sightOf r (a .now) (a .actor)) (map resourceId (r .resources .list)) (r .resources .count) 0 (usesOf a))
       ≡ listed (violationsOf r a)
   judged-violations a fits =
-      ap (pushedAll (pushedAll (listed []) (besides (isMachine (actorsOf (r .actors)) (a .actor)) (ownerIn r (a .actor)) a))) (faults-natural (a .now) (a .actor) 0 (usesOf a))
+      ap (pushedAll (pushedAll (listed []) (besides (isMachine (actorsOf (r .actors)) (a .actor)) (ownerIn r (a .actor)) a))) (judged-faults (a .now) (a .actor) 0 (usesOf a))
       ∙ sym (pushed-all-append (listed []) (besides (isMachine (actorsOf (r .actors)) (a .actor)) (ownerIn r (a .actor)) a) (useViolations r (a .now) (a .actor) 0 (usesOf a)))
       ∙ ap (pushedAll (listed [])) (all-violations a)
       ∙ pushed-all-natural [] (violationsOf r a) (omega (arith, violations-most r a fits))
@@ -108,17 +108,17 @@ module _ (r : Register) (shaped : Shaped r) (h : sound (sheeted r) ≡ true) whe
   abbrev sheet : List ℕ
   sheet = sheetOf (r .claims)
 
-  long : length sheet ≡ sheetLimit
-  long = sheet-long (r .claims)
+  sheet-full : length sheet ≡ sheetLimit
+  sheet-full = sheet-long (r .claims)
 
   ups-natural : lentIn r .ups ≡ upsOf (sheeted r)
-  ups-natural = rw (column-natural-ids sheet long, column-natural-parents sheet long)
+  ups-natural = rw (column-natural-ids sheet sheet-full, column-natural-parents sheet sheet-full)
 
   spots-natural : lentIn r .spots ≡ spotsOf (sheeted r)
-  spots-natural = rw (column-natural-claimed sheet long)
+  spots-natural = rw (column-natural-claimed sheet sheet-full)
 
-  ends-natural : lentIn r .ends ≡ endsIn (sheeted r)
-  ends-natural = rw (ups-natural, column-natural-weights sheet long, column-natural-expiries r shaped h)
+  lent-ends : lentIn r .ends ≡ endsIn (sheeted r)
+  lent-ends = rw (ups-natural, column-natural-weights sheet sheet-full, column-natural-expiries r shaped h)
 
   -- an actor's sight is that of the register
   sight-natural : (moment : ℕ) → ltb moment momentEnd ≡ true → (x : ℕ) → sightBy (lentIn r) moment x ≡ sightOf (sheeted r) moment x
@@ -126,9 +126,9 @@ module _ (r : Register) (shaped : Shaped r) (h : sound (sheeted r) ≡ true) whe
       let wholly = sheeted-shaped r shaped in
       rw (
         machine-natural r x,
-        column-natural-holders sheet long,
-        column-natural-rights sheet long,
-        ends-natural,
+        column-natural-holders sheet sheet-full,
+        column-natural-rights sheet sheet-full,
+        lent-ends,
         spots-natural,
         ups-natural,
         cover-natural (sheeted r) wholly h moment timely x,
@@ -136,8 +136,8 @@ module _ (r : Register) (shaped : Shaped r) (h : sound (sheeted r) ≡ true) whe
       )
 
   -- an action in range that is judged by what is lent of a sound register is judged by the register
-  pub view-natural : (a : Action) → actionFits a ≡ true → judgedBy (lentIn r) a ≡ actionJudged (sheeted r) a
-  unfolding judgedBy
+  pub view-natural : (a : Action) → actionFits a ≡ true → lentJudged (lentIn r) a ≡ actionJudged (sheeted r) a
+  unfolding lentJudged
   view-natural a fits =
       rw (sight-natural (a .now) (lt-ltb (a .now) momentEnd (action-fits-out a fits .momentBelow)) (a .actor), machine-natural r (a .actor))
 

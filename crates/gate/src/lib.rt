@@ -11,7 +11,7 @@ ghost use Rattle.refusals.specs.Refusals.{outcomeOf};
 ghost use Rattle.verdicts.specs.Gate.{listed, padded, gated};
 ghost use Rattle.uses.specs.Pushed.{pushedAll};
 ghost use Rattle.uses.specs.Sights.{ownerAt};
-ghost use Rattle.gate.specs.Judged.{viewBy, lentOf, lentTests, besides, judgedBy};
+ghost use Rattle.gate.specs.Judged.{viewBy, lentOf, lentTests, besides, lentJudged};
 use actions::Action;
 use actions::Decision;
 use actions::Verdict;
@@ -120,7 +120,7 @@ fn asked_for(owned: bool, n: usize) -> usize
 // a sound register, and where the action is in range, these are the gate's (`view-natural` and `judged-natural` of specs/Laws); the tests are
 // the caller's.
 pub fn judge_by<'a>(v: View, sheet: &'a [u32], bytes: &'a [u8], a: Action) -> UsesJudged
-    ensures { λ y. ⌜ y ≡ judgedBy (lentOf v (now (sheet .entry)) (now (bytes .entry))) a ⌝ }
+    ensures { λ y. ⌜ y ≡ lentJudged (lentOf v (now (sheet .entry)) (now (bytes .entry))) a ⌝ }
 {
     let machine = columns::is_beside(
         &v.actors.ids,

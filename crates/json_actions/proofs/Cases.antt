@@ -9,12 +9,11 @@ use Rattle.lists.specs.Lists.{trim}
 use Rattle.paths.specs.Containment.{same}
 use Rattle.rules.specs.Sound.{distinct}
 use Rattle.decimals.specs.Decimals.{digits, digitsWith, after, value, canonical, parse, digitRun}
-use Rattle.actions.specs.Actions.{governLimit}
+use Rattle.actions.specs.Actions.{noUse, governLimit}
 use Rattle.actions.specs.declared.Usage.{Usage}
 use Rattle.actions.specs.declared.Action.{Action}
 use Rattle.refusals.specs.declared.Outcome.the-variants.{Accepted}
 use Rattle.refusals.specs.declared.Refusal.the-variants.{OutOfRange, BadJson}
-use Rattle.texts.specs.Actions.{noUse}
 use Rattle.json_tokens.specs.Tokens.{unblanked, quoted, closing, leading, tokensWith, tokens}
 use Rattle.json_tokens.specs.Spelling.{spelled, spelledAll}
 use Rattle.json_actions.specs.Names.{keyNames, kindNames, flagNames, placeOf}

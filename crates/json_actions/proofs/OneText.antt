@@ -6,9 +6,8 @@ use mathlib.Core.List.{List}
 use native.Mathlib.Omega.{arith}
 use lib.ListN.{length, take, replicate}
 use lib.Seq.{take-append-seam}
-use Rattle.actions.specs.Actions.{useLimit, usesOf}
+use Rattle.actions.specs.Actions.{noUse, useLimit, usesOf}
 use Rattle.actions.specs.declared.Action.{Action}
-use Rattle.texts.specs.Actions.{noUse}
 use Rattle.json_actions.specs.Members.{idLength}
 use Rattle.json_actions.specs.Actions.{resourcesWith, membersFrom, jsonText, jsonFits, heldId, jsonRead}
 use Rattle.json_actions.specs.declared.JsonRead.{JsonRead}

@@ -15,12 +15,11 @@ use Rattle.lists.specs.Counts.{every-counted-sound}
 use Rattle.register.specs.Limits.{idLimit, momentEnd}
 use Rattle.rights.specs.Rights.{isRight}
 use Rattle.rules.specs.Sound.{distinct}
-use Rattle.actions.specs.Actions.{useLimit, flagCount, usesOf, actionFits}
+use Rattle.actions.specs.Actions.{noUse, useLimit, flagCount, usesOf, actionFits}
 use Rattle.actions.specs.declared.Usage.{Usage}
 use Rattle.refusals.specs.declared.Outcome.the-variants.{Accepted, Refused}
 use Rattle.refusals.specs.declared.Refusal.{Refusal}
 use Rattle.refusals.specs.declared.Refusal.the-variants.{OutOfRange, BadJson}
-use Rattle.texts.specs.Actions.{noUse}
 use Rattle.json_tokens.specs.Tokens.{tokens}
 use Rattle.json_actions.specs.Names.{idPlace, actorPlace, kindPlace, readPlace, writePlace, executePlace, flagsPlace, domainPlace}
 use Rattle.json_actions.specs.Members.{Setting, Value, letters, figure, figures, settings, Member, membersOf, amongAll, isIdText, idLength, taking}

@@ -9,14 +9,14 @@ use Rattle.register.specs.Limits.{momentEnd}
 use Rattle.rights.specs.Rights.{isRight}
 use Rattle.rules.specs.Sound.{distinct}
 use Rattle.decimals.specs.Decimals.{digits}
-use Rattle.actions.specs.Actions.{useLimit, governLimit, flagCount, usesOf, actionFits}
+use Rattle.actions.specs.Actions.{noUse, useLimit, governLimit, flagCount, usesOf, actionFits}
 use Rattle.actions.specs.declared.Usage.{Usage}
 use Rattle.actions.specs.declared.Action.{Action}
 use Rattle.refusals.specs.declared.Outcome.the-variants.{Accepted, Refused}
 use Rattle.refusals.specs.declared.Refusal.{Refusal}
 use Rattle.refusals.specs.declared.Refusal.the-variants.{OutOfRange, BadJson, BeyondJson}
 use Rattle.sheets.specs.Sheets.{put}
-use Rattle.texts.specs.Actions.{noUse, noAction}
+use Rattle.texts.specs.Actions.{noAction}
 use Rattle.texts.specs.declared.Written.{Written}
 use Rattle.texts.specs.Delivery.{delivered, unwritten}
 use Rattle.json_tokens.specs.Tokens.{Token, mark, text, tokens, opensObject, closesObject, opensList, closesList, colon, comma, zeroMark, trueMark, falseMark}

@@ -5,10 +5,9 @@ use mathlib.Core.List.{List, [], _∷_, _++_}
 use lib.ListN.{length, replicate}
 use lib.Dec.{eqb}
 use Rattle.lists.specs.Lists.{filter}
-use Rattle.actions.specs.Actions.{useLimit, governLimit, usesOf}
+use Rattle.actions.specs.Actions.{noUse, useLimit, governLimit, usesOf}
 use Rattle.actions.specs.declared.Usage.{Usage}
 use Rattle.actions.specs.declared.Action.{Action}
-use Rattle.texts.specs.Actions.{noUse}
 
 -- the uses of a right, in their order
 abbrev pub usesWith : ℕ → List Usage → List Usage

@@ -10,8 +10,7 @@ use lib.Seq.{length-take-le, take-suc, take-length, getD-take, getD-drop, getD-a
 use Rattle.lists.specs.Fills.{put-first}
 use Rattle.lists.specs.Tests.{cases, clash}
 use Rattle.lists.specs.Counts.{every-counted-sound, every-counted-complete}
-use Rattle.actions.specs.Actions.{useLimit}
-use Rattle.texts.specs.Actions.{noUse}
+use Rattle.actions.specs.Actions.{noUse, useLimit}
 use Rattle.json_actions.specs.Names.{readPlace, writePlace, executePlace, domainPlace}
 use Rattle.json_actions.specs.Actions.{usedWith}
 use Rattle.json_reading.specs.Answers.{blockOf, listRoom, draftFull, usesTaken}

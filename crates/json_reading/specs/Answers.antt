@@ -9,9 +9,8 @@ use lib.ListN.{length, take, drop, getD, replicate}
 use Rattle.lists.specs.Lists.{any, every, All, counted, splice}
 use Rattle.rules.specs.Sound.{distinct}
 use Rattle.decimals.specs.Decimals.{Parsed}
-use Rattle.actions.specs.Actions.{useLimit, flagCount}
+use Rattle.actions.specs.Actions.{noUse, useLimit, flagCount}
 use Rattle.actions.specs.declared.Usage.{Usage}
-use Rattle.texts.specs.Actions.{noUse}
 use Rattle.json_tokens.specs.Tokens.{Token, mark, text, noToken, comma, tokens}
 use Rattle.json_actions.specs.Names.{keyNames, idPlace, actorPlace, kindPlace, readPlace, writePlace, executePlace, flagsPlace, domainPlace, depthPlace}
 use Rattle.json_actions.specs.Members.{Setting, Value, Member, Taken, taking, missed, made, named, takeText, isExact, exactOf, isFullSet, idLength}

@@ -30,11 +30,11 @@ last-miss : (a b c : Bool) → b ≡ false → a || ((b && c) || false) ≡ a
 last-miss a b c k = rw k (or-false a)
 
 module _ {A : Type 0} (id : A → ℕ) (d : A) (zeroed : id d ≡ 0) (l : List A) (x : ℕ) (q : A → Bool) where
-  abbrev asked : A → Bool
-  asked a = eqb x (id a) && q a
+  abbrev isAsked : A → Bool
+  isAsked a = eqb x (id a) && q a
 
-  one-more : (n : ℕ) → n < length l → any asked (take (suc n) l) ≡ any asked (take n l) || (asked (getD l n d) || false)
-  one-more n inside = rw (take-suc l n d) (any-append asked (take n l) (getD l n d ∷ []))
+  one-more : (n : ℕ) → n < length l → any isAsked (take (suc n) l) ≡ any isAsked (take n l) || (isAsked (getD l n d) || false)
+  one-more n inside = rw (take-suc l n d) (any-append isAsked (take n l) (getD l n d ∷ []))
 
   ids-last : (n : ℕ) → n < length l → distinct (map id (take (suc n) l)) ≡ true → LastApart (map id (take n l)) (id (getD l n d))
   ids-last n inside h =
@@ -57,17 +57,17 @@ module _ {A : Type 0} (id : A → ℕ) (d : A) (zeroed : id d ≡ 0) (l : List A
       (λ e. let same : x ≡ id (getD l n d) = eqb-true x (id (getD l n d)) e in
       let none : any (λ a. eqb x (id a)) (take n l) ≡ false =
       sym (any-map id (eqb x) (take n l)) ∙ ap (λ y. any (eqb y) (map id (take n l))) same ∙ apart .other in
-      let before : any asked (take n l) ≡ false = none-weaken asked (λ a. eqb x (id a)) (λ a. and-left (eqb x (id a)) (q a)) (take n l) none in
+      let before : any isAsked (take n l) ≡ false = none-weaken isAsked (λ a. eqb x (id a)) (λ a. and-left (eqb x (id a)) (q a)) (take n l) none in
       one-more n inside
-      ∙ last-hit (any asked (take n l)) (eqb x (id (getD l n d))) (q (getD l n d)) before e
+      ∙ last-hit (any isAsked (take n l)) (eqb x (id (getD l n d))) (q (getD l n d)) before e
       ∙ sym (ap (askedAt d l q) (place-hit (map id l) x n there (column-at n ∙ sym same))))
       (λ e. one-more n inside
-      ∙ last-miss (any asked (take n l)) (eqb x (id (getD l n d))) (q (getD l n d)) e
+      ∙ last-miss (any isAsked (take n l)) (eqb x (id (getD l n d))) (q (getD l n d)) e
       ∙ asked-natural n (apart .before)
       ∙ sym (ap (askedAt d l q) (place-miss (map id l) x n there (λ same. eqb-false x (id (getD l n d)) e (sym same ∙ column-at n))))))
       (λ t. let past : length l ≤ n = ltb-false n (length l) t in
       let ended : length (map id l) ≤ n = omega (arith, length-map l id) in
       let whole : take (suc n) l ≡ take n l = take-all (suc n) l (omega arith) ∙ sym (take-all n l past) in
-      ap (any asked) whole
+      ap (any isAsked) whole
       ∙ asked-natural n (rw whole at h)
       ∙ sym (ap (askedAt d l q) (place-past (map id l) x n ended)))

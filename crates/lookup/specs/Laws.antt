@@ -20,10 +20,10 @@ use Rattle.columns.specs.Laws.{getD-inside, place-none, place-hit, place-miss, 
 use Rattle.lookup.specs.Finding.{placeNumber, tabled, asked, shared, placesOf, earlierPlaces, bothPlaces}
 
 -- a number that was counted
-pub counted-read : (n i j d : ℕ) → j < n → getD (counted i n) j d ≡ i + j
-counted-read zero i j d h = absurd (omega arith)
-counted-read (suc n) i zero d h = omega arith
-counted-read (suc n) i (suc j) d h = counted-read n (suc i) j d (omega arith) ∙ omega arith
+pub counted-number : (n i j d : ℕ) → j < n → getD (counted i n) j d ≡ i + j
+counted-number zero i j d h = absurd (omega arith)
+counted-number (suc n) i zero d h = omega arith
+counted-number (suc n) i (suc j) d h = counted-number n (suc i) j d (omega arith) ∙ omega arith
 
 -- whatever stands over and over stands at each place, and is told past them all
 pub behind-none : {A : Type 0} (n i : ℕ) (none : A) → getD (replicate n none) i none ≡ none
@@ -44,7 +44,7 @@ module _ (f : ℕ → ℕ) (top none : ℕ) where
       List·getD-append (map f (counted 0 top)) (replicate (claimLimit - top) none) d i there
       ∙ getD-inside (map f (counted 0 top)) i d (f 0) there
       ∙ List·getD-map f (counted 0 top) i 0
-      ∙ ap f (counted-read top 0 i 0 h ∙ zero-add i)
+      ∙ ap f (counted-number top 0 i 0 h ∙ zero-add i)
 
   tabled-past : (i : ℕ) → top ≤ i → getD (tabled f top none) i none ≡ none
   tabled-past i h =

@@ -66,30 +66,30 @@ module _ (r : Register) (places : length (r .claims .list) ≡ claimLimit) (whol
   abbrev sheet : List ℕ
   sheet = sheetOf (r .claims)
 
-  abbrev count : ℕ
-  count = r .claims .count
+  abbrev claimTotal : ℕ
+  claimTotal = r .claims .count
 
-  pub sheet-few : count ≤ claimLimit
+  pub sheet-few : claimTotal ≤ claimLimit
   sheet-few = sound-out r whole .limits .claimCount
 
   -- at its places stand the register's claims
-  pub sheet-at : (j : ℕ) → j < count → claimAt sheet j ≡ getD (r .claims .list) j noClaim
+  pub sheet-at : (j : ℕ) → j < claimTotal → claimAt sheet j ≡ getD (r .claims .list) j noClaim
   sheet-at j h =
       sym (claims-in-at sheet j)
-      ∙ sym (getD-take count (claimsIn sheet) j noClaim h)
+      ∙ sym (getD-take claimTotal (claimsIn sheet) j noClaim h)
       ∙ ap (λ l. getD l j noClaim) (sheet-claims (r .claims) places)
-      ∙ getD-take count (r .claims .list) j noClaim h
+      ∙ getD-take claimTotal (r .claims .list) j noClaim h
 
   -- none has the number 0
-  pub sheet-numbered : (j : ℕ) → j < count → claimAt sheet j .id ≡ 0 → ⊥
+  pub sheet-numbered : (j : ℕ) → j < claimTotal → claimAt sheet j .id ≡ 0 → ⊥
   sheet-numbered j h none =
-      claim-numbered (worldOf (actorsOf (r .actors)) (resourcesOf (r .resources))) count (r .claims .list) (sound-out r whole .claims) j h
+      claim-numbered (worldOf (actorsOf (r .actors)) (resourcesOf (r .resources))) claimTotal (r .claims .list) (sound-out r whole .claims) j h
       (omega (arith, h, sheet-few, places))
       (ap (λ c. c .id) (sym (sheet-at j h)) ∙ none)
 
   -- the places from that of a number up are those of the number's chain
-  pub sheet-chain : (p : ℕ) → map (claimAt sheet) (upFrom (earlierPlaces (columnOf 0 sheet) (columnOf 1 sheet) count claimLimit) (latestPlace (columnOf 0 sheet) count p))
+  pub sheet-chain : (p : ℕ) → map (claimAt sheet) (upFrom (earlierPlaces (columnOf 0 sheet) (columnOf 1 sheet) claimTotal claimLimit) (latestPlace (columnOf 0 sheet) claimTotal p))
       ≡ chain claimId parentOf (latest (claimsOf (r .claims))) p
   sheet-chain p =
-      up-from-natural sheet (sheet-long (r .claims)) count sheet-few sheet-numbered p
+      up-from-natural sheet (sheet-long (r .claims)) claimTotal sheet-few sheet-numbered p
       ∙ ap (λ l. chain claimId parentOf (latest l) p) (sheet-claims (r .claims) places)

@@ -27,7 +27,7 @@ use Rattle.verdicts.specs.Sameness.{planned-same}
 use Rattle.soundness.specs.Laws.{register-standing}
 use Rattle.columns.specs.Sheet.{sheetOf}
 use Rattle.coverage.specs.Laid.{laid}
-use Rattle.gate.specs.Judged.{Lent, viewOf, lentOf, judgedBy}
+use Rattle.gate.specs.Judged.{Lent, viewOf, lentOf, lentJudged}
 use Rattle.gate.specs.Sheets.{sheeted}
 use Rattle.gate.specs.declared.View.{View}
 use Rattle.plans.specs.Judgements.{judgedAs, judgementsBy}
@@ -88,7 +88,7 @@ module _ {l : Lent} {p : Plan} {top : ℕ} where
       left : drop i (actionsOf p) ≡ getD (p .actions) i d ∷ drop (i + 1) (actionsOf p)
       left = let below : i < length (actionsOf p) = omega arith in drop-at (p .count) (p .actions) i d below
 
-      pub judging-next : {v : Judgement} → v ≡ cond cancelled Cancelled (judgedAs (judgedBy l (getD (p .actions) i d) .violations .count))
+      pub judging-next : {v : Judgement} → v ≡ cond cancelled Cancelled (judgedAs (lentJudged l (getD (p .actions) i d) .violations .count))
           → Judging l p top (set list i (wrapped v)) (cancelled || not (eqb (getD (p .actions) i d .flags) 0)) (i + 1)
       judging-next {v = v} e =
           let a = getD (p .actions) i d in

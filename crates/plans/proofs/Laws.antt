@@ -19,7 +19,7 @@ use Rattle.verdicts.specs.Gate.{violationsOf}
 use Rattle.verdicts.specs.Laws.{Fit}
 use Rattle.verdicts.specs.Plans.{judged, judgements, runs, halts, firstHalt}
 use Rattle.verdicts.specs.Cancelling.{judgements-nil, judgements-cons}
-use Rattle.gate.specs.Judged.{Lent, viewOf, lentIn, lentTests, judgedBy}
+use Rattle.gate.specs.Judged.{Lent, viewOf, lentIn, lentTests, lentJudged}
 use Rattle.gate.specs.Sheets.{sheeted, sheeted-shaped}
 use Rattle.gate.specs.Laws.{tests-natural, view-natural, judged-natural}
 use Rattle.plans.specs.Stops.{haltBy}
@@ -54,7 +54,7 @@ module _ (l : Lent) (cancelled : Bool) where
 
   pub judgements-by-cons : (a : Action) (actions : List Action)
       → judgementsBy l cancelled (a ∷ actions)
-      ≡ cond cancelled Cancelled (judgedAs (judgedBy l a .violations .count)) ∷ judgementsBy l (cancelled || not (eqb (a .flags) 0)) actions
+      ≡ cond cancelled Cancelled (judgedAs (lentJudged l a .violations .count)) ∷ judgementsBy l (cancelled || not (eqb (a .flags) 0)) actions
   unfolding judgementsBy
   judgements-by-cons a actions = refl
 
@@ -65,7 +65,7 @@ judged-counted (v ∷ vs) = refl
 
 module _ (r : Register) (shaped : Shaped r) (h : sound (sheeted r) ≡ true) where
   -- the verdict on an action in range
-  verdict-natural : (a : Action) → Fit (sheeted r) a → judgedAs (judgedBy (lentIn r) a .violations .count) ≡ judged (violationsOf (sheeted r) a)
+  verdict-natural : (a : Action) → Fit (sheeted r) a → judgedAs (lentJudged (lentIn r) a .violations .count) ≡ judged (violationsOf (sheeted r) a)
   verdict-natural a fit =
       ap (λ y. judgedAs (y .violations .count))
       (view-natural r shaped h a (fit .fits) ∙ judged-natural (sheeted r) (sheeted-shaped r shaped) h a (fit .fits)) ∙ judged-counted (violationsOf (sheeted r) a)

@@ -6,7 +6,7 @@ use lib.Dec.{eqb}
 use Rattle.actions.specs.declared.Action.{Action}
 use Rattle.actions.specs.declared.Judgement.{Judgement}
 use Rattle.actions.specs.declared.Judgement.the-variants.{Permitted, Refused, Cancelled}
-use Rattle.gate.specs.Judged.{Lent, judgedBy}
+use Rattle.gate.specs.Judged.{Lent, lentJudged}
 
 -- the verdict by the number of violations
 abbrev pub judgedAs : ℕ → Judgement
@@ -17,4 +17,4 @@ judgedAs (suc n) = Refused (suc n)
 unfoldable pub judgementsBy : Lent → Bool → List Action → List Judgement
 judgementsBy l cancelled [] = []
 judgementsBy l cancelled (a ∷ actions) =
-    cond cancelled Cancelled (judgedAs (judgedBy l a .violations .count)) ∷ judgementsBy l (cancelled || not (eqb (a .flags) 0)) actions
+    cond cancelled Cancelled (judgedAs (lentJudged l a .violations .count)) ∷ judgementsBy l (cancelled || not (eqb (a .flags) 0)) actions

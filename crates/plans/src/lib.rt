@@ -6,7 +6,7 @@
 ghost use mathlib.Core.Path.{_≡_};
 ghost use mathlib.Core.Bool.{false, cond};
 ghost use Rattle.verdicts.specs.Plans.{actionsOf, held, stopped, planned};
-ghost use Rattle.gate.specs.Judged.{lentOf, judgedBy};
+ghost use Rattle.gate.specs.Judged.{lentOf, lentJudged};
 ghost use Rattle.plans.specs.Stops.{stopOf, haltBy};
 ghost use Rattle.plans.specs.Judgements.{judgedAs, judgementsBy};
 use actions::Action;
@@ -70,7 +70,7 @@ fn stopped(why: Refusal, position: usize) -> PlanVerdict
 
 // The verdict on an action, by what is lent.
 fn judge<'a>(v: View, sheet: &'a [u32], bytes: &'a [u8], a: Action, cancelled: bool) -> Judgement
-    ensures { λ y. ⌜ y ≡ cond cancelled Judgement.Cancelled (judgedAs (judgedBy (lentOf v (now (sheet .entry)) (now (bytes .entry))) a .violations .count)) ⌝ }
+    ensures { λ y. ⌜ y ≡ cond cancelled Judgement.Cancelled (judgedAs (lentJudged (lentOf v (now (sheet .entry)) (now (bytes .entry))) a .violations .count)) ⌝ }
 {
     if cancelled {
         return Judgement::Cancelled;

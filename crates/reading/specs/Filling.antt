@@ -13,22 +13,22 @@ use Rattle.texts.specs.Laws.{many-none, many-next, many-length}
 use Rattle.reading.specs.Reads.{Reads}
 
 -- of n things, i are read: the array holds them, and the reading of s stands behind them
-pub record Filling {A : Type 0} (s : List ℕ) (read : State → Read A) (size : ℕ) (none : A) (st : State) (n : ℕ) (list : List A) (cursor : Cursor) (i : ℕ) : Type 0 where
+pub record Listing {A : Type 0} (s : List ℕ) (read : State → Read A) (size : ℕ) (none : A) (st : State) (n : ℕ) (list : List A) (cursor : Cursor) (i : ℕ) : Type 0 where
   pub within : i ≤ n
   pub filled : list ≡ many read i st .value ++ replicate (size - i) none
   pub stands : stateOf s cursor ≡ many read i st .state
 
 module _ {A : Type 0} {s : List ℕ} {read : State → Read A} {size : ℕ} {none : A} {st : State} {n : ℕ} where
-  pub filling-start : (list : List A) (cursor : Cursor) → list ≡ replicate (size - 0) none → stateOf s cursor ≡ st → Filling s read size none st n list cursor 0
-  filling-start list cursor empty begun = record {
+  pub listing-start : (list : List A) (cursor : Cursor) → list ≡ replicate (size - 0) none → stateOf s cursor ≡ st → Listing s read size none st n list cursor 0
+  listing-start list cursor empty begun = record {
     within = omega arith;
     filled = rw (many-none read st) empty;
     stands = rw (many-none read st) begun;
   }
 
-  pub filling-next : (list : List A) (cursor : Cursor) (i : ℕ) (x : A) (behind : Cursor) → Filling s read size none st n list cursor i → i < n → n ≤ size →
-      Reads s x behind (read (stateOf s cursor)) → Filling s read size none st n (set list i x) behind (i + 1)
-  filling-next list cursor i x behind so inside room one =
+  pub listing-next : (list : List A) (cursor : Cursor) (i : ℕ) (x : A) (behind : Cursor) → Listing s read size none st n list cursor i → i < n → n ≤ size →
+      Reads s x behind (read (stateOf s cursor)) → Listing s read size none st n (set list i x) behind (i + 1)
+  listing-next list cursor i x behind so inside room one =
       let here : read (stateOf s cursor) ≡ read (many read i st .state) = ap read (so .stands) in
       record {
         within = omega (arith, inside);
@@ -41,9 +41,9 @@ module _ {A : Type 0} {s : List ℕ} {read : State → Read A} {size : ℕ} {non
       }
 
   -- all are read
-  pub filling-done : (list : List A) (cursor : Cursor) (i : ℕ) → Filling s read size none st n list cursor i → n ≤ i →
+  pub listing-done : (list : List A) (cursor : Cursor) (i : ℕ) → Listing s read size none st n list cursor i → n ≤ i →
       (list ≡ many read n st .value ++ replicate (size - length (many read n st .value)) none) × (n ≡ length (many read n st .value)) × (stateOf s cursor ≡ many read n st .state)
-  filling-done list cursor i so past =
+  listing-done list cursor i so past =
       let all : i ≡ n = omega (arith, so .within, past) in (
         so .filled ∙ rw (all, many-length read n st),
         sym (many-length read n st),

@@ -53,6 +53,19 @@ expired moment c = not (eqb (c .expiry) 0) && leb (c .expiry) moment
 abbrev pub current : ℕ → Claim → Bool
 current moment c = ltb 0 (c .weight) && not (expired moment c)
 
+-- a claim of this weight and expiry, and zeros besides
+abbrev pub weighing : ℕ → ℕ → Claim
+weighing weight expiry = record {
+  id = 0;
+  parent = 0;
+  grantor = 0;
+  holder = 0;
+  resource = 0;
+  rights = 0;
+  weight = weight;
+  expiry = expiry;
+}
+
 -- a claim is live at a moment when every claim on its chain, the claim included, is current
 abbrev pub live : ℕ → List Claim → Claim → Bool
 live moment earlier c = every (current moment) (chainOf earlier c)

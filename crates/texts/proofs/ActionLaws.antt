@@ -16,7 +16,7 @@ use Rattle.lists.specs.Fills.{full-length}
 use Rattle.register.specs.Limits.{idLimit, momentEnd}
 use Rattle.rights.specs.Rights.{rightCount, isRight}
 use Rattle.rules.specs.Laws.{ranged-in, ranged-greatest}
-use Rattle.actions.specs.Actions.{useLimit, governLimit, flagCount, usesOf, governsOf, actionFits, SameAction}
+use Rattle.actions.specs.Actions.{noUse, useLimit, governLimit, flagCount, usesOf, governsOf, actionFits, SameAction}
 use Rattle.actions.specs.declared.Usage.{Usage}
 use Rattle.actions.specs.declared.Action.{Action}
 use Rattle.refusals.specs.declared.Outcome.the-variants.{Accepted, Refused}
@@ -24,7 +24,7 @@ use Rattle.refusals.specs.declared.Refusal.{Refusal}
 use Rattle.lines.specs.Reading.{State, going, Read, closed}
 use Rattle.texts.specs.Keys.{usesKey, governsKey}
 use Rattle.texts.specs.Records.{values, passed, linesText, sectionText}
-use Rattle.texts.specs.Actions.{headForms, headNumbers, useForms, useNumbers, useText, governForm, governText, noUse, noAction, actionFrom, ShapedAction, readUses}
+use Rattle.texts.specs.Actions.{headForms, headNumbers, useForms, useNumbers, useText, governForm, governText, noAction, actionFrom, ShapedAction, readUses}
 use Rattle.texts.specs.Actions.{readGoverns, actionOf, actionText, actionRead, actionEnding}
 use Rattle.texts.specs.Fitting.{lines-fit-none, lines-fit-more, lines-fit-first, lines-fit-others, take-few, linesFit}
 use Rattle.texts.specs.declared.ActionRead.{ActionRead}

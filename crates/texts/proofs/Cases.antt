@@ -26,7 +26,8 @@ use Rattle.decimals.specs.Decimals.{digits, digitsWith, after, value, canonical
 use Rattle.lines.specs.Lines.{begins, ended, parseLimited, atLeast, decimalLine, parseKind, kindLine, pathOn, parseScope, scopeLine}
 use Rattle.texts.specs.Records.{values, passed, linesText, many, texts}
 use Rattle.texts.specs.Registers.{readActors, readResources, readClaims, registerFrom, registerText, registerRead}
-use Rattle.texts.specs.Actions.{readUses, readGoverns, actionOf, actionText, actionRead, noUse, noAction}
+use Rattle.actions.specs.Actions.{noUse}
+use Rattle.texts.specs.Actions.{readUses, readGoverns, actionOf, actionText, actionRead, noAction}
 use Rattle.texts.specs.declared.RegisterRead.{RegisterRead}
 use Rattle.texts.specs.declared.ActionRead.{ActionRead}
 

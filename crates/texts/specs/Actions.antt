@@ -5,7 +5,7 @@ use mathlib.Core.List.{List, [], _∷_, _++_}
 use lib.ListN.{length, getD, replicate}
 use Rattle.register.specs.Limits.{idLimit, momentEnd}
 use Rattle.rights.specs.Rights.{rightCount}
-use Rattle.actions.specs.Actions.{useLimit, governLimit, flagCount, usesOf, governsOf}
+use Rattle.actions.specs.Actions.{noUse, useLimit, governLimit, flagCount, usesOf, governsOf}
 use Rattle.actions.specs.declared.Usage.{Usage}
 use Rattle.actions.specs.declared.Action.{Action}
 use Rattle.refusals.specs.declared.Outcome.the-variants.{Accepted, Refused}
@@ -52,10 +52,7 @@ readGovern st = readForm governForm st
 abbrev pub governText : ℕ → List ℕ
 governText g = linesText (governForm ∷ []) (g ∷ [])
 
--- what stands at a place that nothing was put into, and the action of all zeros
-abbrev pub noUse : Usage
-noUse = record { resource = 0; right = 0 }
-
+-- the action of all zeros
 abbrev pub noAction : Action
 noAction = record { actor = 0; flags = 0; now = 0; uses = replicate useLimit noUse; used = 0; governs = replicate governLimit 0; governed = 0 }
 

@@ -25,7 +25,7 @@ use Rattle.coverage.specs.Gathering.{endingOf, coverPlaces, heldPlaces}
 use Rattle.coverage.specs.Ends.{ends-read, ends-long, end-lasts}
 use Rattle.coverage.specs.GatheringLaws.{held-natural}
 use Rattle.uses.specs.Sights.{upsOf, endsIn}
-use Rattle.uses.specs.Relying.{claimAt}
+use Rattle.uses.specs.Relying.{claimStanding}
 use Rattle.uses.specs.SightsLaws.{around, few, long, below, stands-at, sound-at}
 
 module _ (r : Register) (shaped : Shaped r) (h : sound r ≡ true) where
@@ -42,23 +42,23 @@ module _ (r : Register) (shaped : Shaped r) (h : sound r ≡ true) where
   expiries = map expiryOf (r .claims .list)
 
   -- no claim has the number 0
-  numbered : (j : ℕ) → j < r .claims .count → getD ids j 0 ≡ 0 → ⊥
-  numbered j within zero =
+  own-number : (j : ℕ) → j < r .claims .count → getD ids j 0 ≡ 0 → ⊥
+  own-number j within zero =
       claim-numbered (around r shaped h) (r .claims .count) (r .claims .list) (sound-out r h .claims) j within (omega (arith, within, long r shaped h))
       (sym (List·getD-map claimId (r .claims .list) j noClaim) ∙ zero)
 
   module _ (j : ℕ) (inside : j < length (claimsOf (r .claims))) where
     -- the chain above the claim at a place is that among the claims before it
-    above-before : above (latest (claimsOf (r .claims))) (claimAt r j) ≡ above (latest (take j (r .claims .list))) (claimAt r j)
+    above-before : above (latest (claimsOf (r .claims))) (claimStanding r j) ≡ above (latest (take j (r .claims .list))) (claimStanding r j)
     above-before =
         let at = stands-at r shaped h j inside in
-        ap (λ l. above l (claimAt r j)) (ap latest (at .split) ∙ latest-split (at .before) (claimAt r j) (at .after))
-        ∙ place-above (around r shaped h) (latest (at .after)) (claimAt r j) (latest (take j (r .claims .list))) (sound-at r shaped h j inside)
+        ap (λ l. above l (claimStanding r j)) (ap latest (at .split) ∙ latest-split (at .before) (claimStanding r j) (at .after))
+        ∙ place-above (around r shaped h) (latest (at .after)) (claimStanding r j) (latest (take j (r .claims .list))) (sound-at r shaped h j inside)
 
     -- its end is found
-    ending : j < endingOf weights expiries (upsOf r) (r .claims .count)
+    before-ending : j < endingOf weights expiries (upsOf r) (r .claims .count)
     unfolding earlierPlaces
-    ending =
+    before-ending =
         let most : asked (r .claims .count) parents ≤ claimLimit = omega arith in
         let ups : length (upsOf r) ≡ claimLimit = tabled-length _ (asked (r .claims .count) parents) claimLimit most in
         omega (
@@ -72,19 +72,19 @@ module _ (r : Register) (shaped : Shaped r) (h : sound r ≡ true) where
         )
 
     -- by its columns it is current where it is
-    current-here : (moment : ℕ) → currentAt weights expiries moment j ≡ current moment (claimAt r j)
+    current-here : (moment : ℕ) → currentAt weights expiries moment j ≡ current moment (claimStanding r j)
     current-here moment = rw (List·getD-map weightOf (r .claims .list) j noClaim, List·getD-map expiryOf (r .claims .list) j noClaim)
 
     -- before its end a claim is live, and from it on it is not
-    pub ends-natural : (moment : ℕ) → ltb moment momentEnd ≡ true → ltb moment (getD (endsIn r) j 0) ≡ live moment (latest (claimsOf (r .claims))) (claimAt r j)
+    pub ends-natural : (moment : ℕ) → ltb moment momentEnd ≡ true → ltb moment (getD (endsIn r) j 0) ≡ live moment (latest (claimsOf (r .claims))) (claimStanding r j)
     ends-natural moment timely =
-        ap (ltb moment) (ends-read weights expiries (upsOf r) (r .claims .count) j ending)
+        ap (ltb moment) (ends-read weights expiries (upsOf r) (r .claims .count) j before-ending)
         ∙ end-lasts ids parents weights expiries (r .claims .count) (few r shaped h)
-        (omega (arith, long r shaped h, length-map (r .claims .list) parentOf)) numbered moment timely j (below r shaped h j inside)
+        (omega (arith, long r shaped h, length-map (r .claims .list) parentOf)) own-number moment timely j (below r shaped h j inside)
         ∙ ap (λ b. b && every (currentAt weights expiries moment) (chainPlaces ids parents j (getD parents j 0))) (current-here moment)
-        ∙ ap (λ b. current moment (claimAt r j) && b)
+        ∙ ap (λ b. current moment (claimStanding r j) && b)
         (ap (λ p. every (currentAt weights expiries moment) (chainPlaces ids parents j p)) (List·getD-map parentOf (r .claims .list) j noClaim)
-        ∙ current-natural (r .claims .list) moment j (claimAt r j .parent)
+        ∙ current-natural (r .claims .list) moment j (claimStanding r j .parent)
         ∙ ap (every (current moment)) (sym above-before))
 
   -- so by holders and ends the claims that can cover are gathered

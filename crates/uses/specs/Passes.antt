@@ -10,7 +10,7 @@ use Rattle.lists.specs.Fills.{filledBy}
 use Rattle.register.specs.Limits.{claimLimit, resourceLimit}
 use Rattle.columns.specs.Columns.{placesUp, stepsUp}
 use Rattle.columns.specs.declared.Place.{Place}
-use Rattle.actions.specs.Actions.{useLimit}
+use Rattle.actions.specs.Actions.{noUse, useLimit}
 use Rattle.actions.specs.declared.Action.{Action}
 use Rattle.actions.specs.declared.Usage.{Usage}
 use Rattle.actions.specs.declared.Violation.{Violation}
@@ -20,10 +20,6 @@ use Rattle.coverage.specs.Gathering.{spotIn}
 use Rattle.coverage.specs.Coverage.{firstCovering, nearestCovering}
 use Rattle.uses.specs.Uses.{openTo, stepsTold, faultsOf}
 use Rattle.uses.specs.declared.Uses.{Uses}
-
--- the use that is read past the end of a list
-abbrev pub noUse : Usage
-noUse = record { resource = 0; right = 0 }
 
 -- the place of a used resource among the first m, 64 for none
 abbrev pub usedSpot : List ℕ → ℕ → Usage → ℕ

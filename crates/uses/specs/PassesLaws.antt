@@ -17,7 +17,7 @@ use Rattle.columns.specs.Columns.{latestPlace}
 use Rattle.columns.specs.Laws.{place-cases, place-found}
 use Rattle.columns.specs.declared.Place.{Place}
 use Rattle.columns.specs.declared.Place.the-variants.{At, Nowhere}
-use Rattle.actions.specs.Actions.{useLimit, usesOf}
+use Rattle.actions.specs.Actions.{noUse, useLimit, usesOf}
 use Rattle.actions.specs.declared.Action.{Action}
 use Rattle.actions.specs.declared.Usage.{Usage}
 use Rattle.actions.specs.declared.Violation.{Violation}
@@ -28,31 +28,31 @@ use Rattle.coverage.specs.Gathering.{spotIn}
 use Rattle.coverage.specs.Coverage.{reaching, reachAt, firstCovering, nearestCovering}
 use Rattle.coverage.specs.Laws.{covering-at, nearest-any}
 use Rattle.uses.specs.Uses.{hopsFrom, coveredBy, Sight, reliedOn, coveringOn, useFaults, useHops, faultsFrom, usesJudged}
-use Rattle.uses.specs.Passes.{noUse, usedSpot, usesBy, claimNumber, reliedAt, coveredAt, reliedAll, coveredAll, hopsAt, hopsAll, faultsAt, faultsAll}
+use Rattle.uses.specs.Passes.{usedSpot, usesBy, claimNumber, reliedAt, coveredAt, reliedAll, coveredAll, hopsAt, hopsAll, faultsAt, faultsAll}
 use Rattle.uses.specs.declared.Uses.{Uses}
 use Rattle.uses.specs.declared.UsesJudged.{UsesJudged}
 
 -- ---- a place told as a number
 
 -- the place, where there is one, is below the limit of claims
-abbrev Within : Place → Type 0
-Within (At j) = j < claimLimit
-Within Nowhere = Unit {0}
+abbrev PlaceWithin : Place → Type 0
+PlaceWithin (At j) = j < claimLimit
+PlaceWithin Nowhere = Unit {0}
 
-covered-told : (freely : Bool) (p : Place) → Within p → freely || ltb (claimNumber p) claimLimit ≡ coveredBy freely p
+covered-told : (freely : Bool) (p : Place) → PlaceWithin p → freely || ltb (claimNumber p) claimLimit ≡ coveredBy freely p
 covered-told freely (At j) h = let same : min j claimLimit ≡ j = omega arith in rw (same, lt-ltb j claimLimit h) (or-true freely)
 covered-told freely Nowhere h = or-false freely
 
-hops-told : (ups : List ℕ) (p : Place) → Within p → hopsAt ups (claimNumber p) ≡ hopsFrom ups p
+hops-told : (ups : List ℕ) (p : Place) → PlaceWithin p → hopsAt ups (claimNumber p) ≡ hopsFrom ups p
 hops-told ups (At j) h = let same : min j claimLimit ≡ j = omega arith in rw (same, lt-ltb j claimLimit h)
 hops-told ups Nowhere h = refl
 
 -- what covers is one of the gathered places
 module _ (places rights spots bytes lens : List ℕ) (right spot : ℕ) (each : All (λ j. j < claimLimit) places) where
-  nearest-within : Within (nearestCovering places rights spots bytes lens right spot)
-  nearest-within = nearest-any (reachAt spots bytes lens spot) Within (reaching rights spots bytes lens right spot) 0 0 places tt each
+  nearest-within : PlaceWithin (nearestCovering places rights spots bytes lens right spot)
+  nearest-within = nearest-any (reachAt spots bytes lens spot) PlaceWithin (reaching rights spots bytes lens right spot) 0 0 places tt each
 
-  first-within : Within (firstCovering places rights spots bytes lens right spot)
+  first-within : PlaceWithin (firstCovering places rights spots bytes lens right spot)
   first-within =
       place-cases (firstCovering places rights spots bytes lens right spot)
       (λ j q. let found = covering-at rights spots bytes lens right spot places j q in
@@ -63,18 +63,18 @@ module _ (places rights spots bytes lens : List ℕ) (right spot : ℕ) (each : 
 
 module _ (s : Sight) (reports : List ℕ) (m : ℕ) where
   -- the place of a used resource
-  abbrev spotFor : Usage → ℕ
-  spotFor u = spotIn reports m (u .resource)
+  abbrev spotPlace : Usage → ℕ
+  spotPlace u = spotIn reports m (u .resource)
 
   faults-each : (f : ℕ → List Violation) (us : List Usage) (i : ℕ)
-      → ((j : ℕ) → j < length us → f (i + j) ≡ useFaults s (i + j) (spotFor (getD us j noUse)) (getD us j noUse .right))
+      → ((j : ℕ) → j < length us → f (i + j) ≡ useFaults s (i + j) (spotPlace (getD us j noUse)) (getD us j noUse .right))
       → flatten (map f (counted i (length us))) ≡ faultsFrom s reports m i us
   unfolding flatten faultsFrom
   faults-each f [] i h = refl
   faults-each f (u ∷ us) i h =
       let here : i + 0 ≡ i = omega arith in
       rw (rw here at (h 0 (omega arith)))
-      (ap (λ vs. useFaults s i (spotFor u) (u .right) ++ vs)
+      (ap (λ vs. useFaults s i (spotPlace u) (u .right) ++ vs)
       (faults-each f us (suc i) (λ j inside. let behind : suc i + j ≡ i + suc j = omega arith in rw behind (h (suc j) (omega arith)))))
 
 each-read : {A B : Type 0} (f : ℕ → B) (g : A → B) (d : A) (l : List A) (i : ℕ) → ((j : ℕ) → j < length l → f (i + j) ≡ g (getD l j d))
@@ -94,11 +94,11 @@ module _ (s : Sight) (reports : List ℕ) (m : ℕ) (a : Action) (few : length r
   abbrev uses : Uses
   uses = usesBy reports m a
 
-  abbrev relied : List ℕ
-  relied = reliedAll (s .own) (s .rights) (s .spots) (s .bytes) (s .lens) uses
+  abbrev reliedPlace : List ℕ
+  reliedPlace = reliedAll (s .own) (s .rights) (s .spots) (s .bytes) (s .lens) uses
 
-  abbrev covering : List ℕ
-  covering = coveredAll (s .theirs) (s .rights) (s .spots) (s .bytes) (s .lens) uses
+  abbrev coveringPlace : List ℕ
+  coveringPlace = coveredAll (s .theirs) (s .rights) (s .spots) (s .bytes) (s .lens) uses
 
   -- how many uses there are, and the use at a place
   abbrev top : ℕ
@@ -118,44 +118,44 @@ module _ (s : Sight) (reports : List ℕ) (m : ℕ) (a : Action) (few : length r
     unfolding usesBy
     right-at = filled-at useLimit (λ i. used i .right) top 0 i 0 inside
 
-    spot-at : getD (uses .spots) i 0 ≡ spotFor s reports m (used i)
+    spot-at : getD (uses .spots) i 0 ≡ spotPlace s reports m (used i)
     unfolding usesBy
     spot-at = filled-at useLimit (λ i. usedSpot reports m (used i)) top resourceLimit i 0 inside ∙ omega (arith, spot-most (used i .resource))
 
-    counted-at : i < min (uses .count) useLimit
+    counted-place : i < min (uses .count) useLimit
     unfolding usesBy
-    counted-at = omega arith
+    counted-place = omega arith
 
     -- the claim that the actor relies on, and one of its owner
     abbrev mine : Place
-    mine = reliedOn s (s .own) (spotFor s reports m (used i)) (used i .right)
+    mine = reliedOn s (s .own) (spotPlace s reports m (used i)) (used i .right)
 
     abbrev other : Place
-    other = coveringOn s (s .theirs) (spotFor s reports m (used i)) (used i .right)
+    other = coveringOn s (s .theirs) (spotPlace s reports m (used i)) (used i .right)
 
-    mine-within : Within mine
-    mine-within = nearest-within (s .own) (s .rights) (s .spots) (s .bytes) (s .lens) (used i .right) (spotFor s reports m (used i)) own
+    mine-within : PlaceWithin mine
+    mine-within = nearest-within (s .own) (s .rights) (s .spots) (s .bytes) (s .lens) (used i .right) (spotPlace s reports m (used i)) own
 
-    other-within : Within other
-    other-within = first-within (s .theirs) (s .rights) (s .spots) (s .bytes) (s .lens) (used i .right) (spotFor s reports m (used i)) theirs
+    other-within : PlaceWithin other
+    other-within = first-within (s .theirs) (s .rights) (s .spots) (s .bytes) (s .lens) (used i .right) (spotPlace s reports m (used i)) theirs
 
-    mine-at : getD relied i 0 ≡ claimNumber mine
+    mine-at : getD reliedPlace i 0 ≡ claimNumber mine
     unfolding reliedAll
     mine-at =
-        filled-at useLimit (reliedAt (s .own) (s .rights) (s .spots) (s .bytes) (s .lens) uses) (min (uses .count) useLimit) claimLimit i 0 counted-at
+        filled-at useLimit (reliedAt (s .own) (s .rights) (s .spots) (s .bytes) (s .lens) uses) (min (uses .count) useLimit) claimLimit i 0 counted-place
         ∙ rw (right-at, spot-at)
 
-    other-at : getD covering i 0 ≡ claimNumber other
+    other-at : getD coveringPlace i 0 ≡ claimNumber other
     unfolding coveredAll
     other-at =
-        filled-at useLimit (coveredAt (s .theirs) (s .rights) (s .spots) (s .bytes) (s .lens) uses) (min (uses .count) useLimit) claimLimit i 0 counted-at
+        filled-at useLimit (coveredAt (s .theirs) (s .rights) (s .spots) (s .bytes) (s .lens) uses) (min (uses .count) useLimit) claimLimit i 0 counted-place
         ∙ rw (right-at, spot-at)
 
-    faults-at : faultsAt relied covering (s .owned) (s .publics) uses i ≡ useFaults s i (spotFor s reports m (used i)) (used i .right)
+    faults-at : faultsAt reliedPlace coveringPlace (s .owned) (s .publics) uses i ≡ useFaults s i (spotPlace s reports m (used i)) (used i .right)
     unfolding useFaults
     faults-at = rw (right-at, spot-at, mine-at, other-at, covered-told _ mine mine-within, covered-told _ other other-within)
 
-    hops-at : hopsAt (s .ups) (getD relied i 0) ≡ useHops s (spotFor s reports m (used i)) (used i .right)
+    hops-at : hopsAt (s .ups) (getD reliedPlace i 0) ≡ useHops s (spotPlace s reports m (used i)) (used i .right)
     unfolding useHops
     hops-at = ap (hopsAt (s .ups)) mine-at ∙ hops-told (s .ups) mine mine-within
 
@@ -166,11 +166,11 @@ module _ (s : Sight) (reports : List ℕ) (m : ℕ) (a : Action) (few : length r
   used-at : (j : ℕ) → j < length (usesOf a) → getD (usesOf a) j noUse ≡ used j
   used-at j inside = getD-take (a .used) (a .uses) j noUse (omega (arith, length-take (a .used) (a .uses)))
 
-  relied-long : length relied ≡ useLimit
+  relied-long : length reliedPlace ≡ useLimit
   unfolding reliedAll
   relied-long = filled-length useLimit _ (min (uses .count) useLimit) claimLimit (omega arith)
 
-  covering-long : length covering ≡ useLimit
+  covering-long : length coveringPlace ≡ useLimit
   unfolding coveredAll
   covering-long = filled-length useLimit _ (min (uses .count) useLimit) claimLimit (omega arith)
 
@@ -178,23 +178,23 @@ module _ (s : Sight) (reports : List ℕ) (m : ℕ) (a : Action) (few : length r
   unfolding usesBy
   uses-count = sym used-length
 
-  faults-natural : faultsAll relied covering (s .owned) (s .publics) uses ≡ faultsFrom s reports m 0 (usesOf a)
+  passed-faults : faultsAll reliedPlace coveringPlace (s .owned) (s .publics) uses ≡ faultsFrom s reports m 0 (usesOf a)
   unfolding faultsAll
-  faults-natural =
-      let all : min (uses .count) (min useLimit (min (length relied) (length covering))) ≡ length (usesOf a) =
+  passed-faults =
+      let all : min (uses .count) (min useLimit (min (length reliedPlace) (length coveringPlace))) ≡ length (usesOf a) =
       omega (arith, uses-count, used-length, relied-long, covering-long) in
-      ap (λ n. flatten (map (faultsAt relied covering (s .owned) (s .publics) uses) (counted 0 n))) all
-      ∙ faults-each s reports m (faultsAt relied covering (s .owned) (s .publics) uses) (usesOf a) 0
+      ap (λ n. flatten (map (faultsAt reliedPlace coveringPlace (s .owned) (s .publics) uses) (counted 0 n))) all
+      ∙ faults-each s reports m (faultsAt reliedPlace coveringPlace (s .owned) (s .publics) uses) (usesOf a) 0
       (λ j inside. rw (zero-add j, used-at j inside) (faults-at j (omega (arith, used-length))))
 
-  hops-natural : hopsAll (s .ups) relied (uses .count) ≡ padded (map (λ u. useHops s (spotFor s reports m u) (u .right)) (usesOf a))
+  passed-hops : hopsAll (s .ups) reliedPlace (uses .count) ≡ padded (map (λ u. useHops s (spotPlace s reports m u) (u .right)) (usesOf a))
   unfolding hopsAll
-  hops-natural =
-      let all : min (uses .count) (min useLimit (length relied)) ≡ length (usesOf a) = omega (arith, uses-count, used-length, relied-long) in
-      let told : (Usage → ℕ) = λ u. useHops s (spotFor s reports m u) (u .right) in
-      ap (λ n. map (λ i. hopsAt (s .ups) (getD relied i 0)) (counted 0 n) ++ replicate (useLimit - n) 0) all
+  passed-hops =
+      let all : min (uses .count) (min useLimit (length reliedPlace)) ≡ length (usesOf a) = omega (arith, uses-count, used-length, relied-long) in
+      let told : (Usage → ℕ) = λ u. useHops s (spotPlace s reports m u) (u .right) in
+      ap (λ n. map (λ i. hopsAt (s .ups) (getD reliedPlace i 0)) (counted 0 n) ++ replicate (useLimit - n) 0) all
       ∙ rw (
-        each-read (λ i. hopsAt (s .ups) (getD relied i 0)) told noUse (usesOf a) 0
+        each-read (λ i. hopsAt (s .ups) (getD reliedPlace i 0)) told noUse (usesOf a) 0
             (λ j inside. rw (zero-add j, used-at j inside) (hops-at j (omega (arith, used-length)))),
         length-map (usesOf a) told,
       )
@@ -202,8 +202,8 @@ module _ (s : Sight) (reports : List ℕ) (m : ℕ) (a : Action) (few : length r
   -- the violations and the hop counts that the passes find are those of the uses judged one after the other
   pub passes-natural : (vs : Violations)
       → _≡_ {A = UsesJudged} (record {
-        violations = pushedAll vs (faultsAll relied covering (s .owned) (s .publics) uses);
-        hops = hopsAll (s .ups) relied (uses .count);
+        violations = pushedAll vs (faultsAll reliedPlace coveringPlace (s .owned) (s .publics) uses);
+        hops = hopsAll (s .ups) reliedPlace (uses .count);
       }) (usesJudged s reports m a vs)
   unfolding usesJudged
-  passes-natural vs = rw (faults-natural, hops-natural)
+  passes-natural vs = rw (passed-faults, passed-hops)

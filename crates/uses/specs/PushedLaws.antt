@@ -65,7 +65,7 @@ unfolding governed
 governed-counted n [] = refl
 governed-counted n (g ∷ entries) = ap (λ vs. MachineGoverns n ∷ vs) (governed-counted (suc n) entries)
 
-pub governed-length : (n : ℕ) (entries : List ℕ) → length (governed n entries) ≡ length entries
+pub pushed-length : (n : ℕ) (entries : List ℕ) → length (governed n entries) ≡ length entries
 unfolding governed
-governed-length n [] = refl
-governed-length n (g ∷ entries) = ap suc (governed-length (suc n) entries)
+pushed-length n [] = refl
+pushed-length n (g ∷ entries) = ap suc (pushed-length (suc n) entries)

@@ -51,10 +51,10 @@ placed (At j) = true
 placed Nowhere = false
 
 -- the place taken so far, or none
-abbrev taken : ℕ → ℕ → Place
-taken best bar = cond (eqb bar 0) Nowhere (At best)
+abbrev takenPlace : ℕ → ℕ → Place
+takenPlace best bar = cond (eqb bar 0) Nowhere (At best)
 
-later-taken : (j n : ℕ) → taken j (suc n) ≡ At j
+later-taken : (j n : ℕ) → takenPlace j (suc n) ≡ At j
 later-taken j n = rw (ne-eqb (suc n) 0 (λ none. omega arith))
 
 module _ {A : Type 0} (f : ℕ → A) (p : A → Bool) where
@@ -65,7 +65,7 @@ module _ {A : Type 0} (f : ℕ → A) (p : A → Bool) where
 
   -- the nearest element that passes a test is the one at the nearest place whose element does
   nearer-read : (n : A → ℕ) (best bar : ℕ) (l : List ℕ)
-      → nearerFrom p n (onlyAt f (taken best bar)) bar (map f l) ≡ onlyAt f (nearestFrom (λ j. p (f j)) (λ j. n (f j)) best bar l)
+      → nearerFrom p n (onlyAt f (takenPlace best bar)) bar (map f l) ≡ onlyAt f (nearestFrom (λ j. p (f j)) (λ j. n (f j)) best bar l)
   unfolding nearestFrom
   nearer-read n best bar [] = refl
   nearer-read n best bar (j ∷ l) =
@@ -78,13 +78,13 @@ module _ {A : Type 0} (f : ℕ → A) (p : A → Bool) where
 
 -- there is a nearest place where there is a first
 nearest-placed : (p : ℕ → Bool) (f : ℕ → ℕ) (best bar : ℕ) (l : List ℕ)
-    → placed (nearestFrom p f best bar l) ≡ placed (taken best bar) || placed (firstPlaceOf p l)
+    → placed (nearestFrom p f best bar l) ≡ placed (takenPlace best bar) || placed (firstPlaceOf p l)
 unfolding nearestFrom
-nearest-placed p f best bar [] = sym (or-false (placed (taken best bar)))
+nearest-placed p f best bar [] = sym (or-false (placed (takenPlace best bar)))
 nearest-placed p f best bar (j ∷ l) =
     cases (p j)
     (λ e. cases (leb bar (f j))
-    (λ far. rw (e, far) (nearest-placed p f j (suc (f j)) l ∙ rw (later-taken j (f j)) (sym (or-true (placed (taken best bar))))))
+    (λ far. rw (e, far) (nearest-placed p f j (suc (f j)) l ∙ rw (later-taken j (f j)) (sym (or-true (placed (takenPlace best bar))))))
     (λ near. let some : bar ≡ 0 → ⊥ = λ none. omega (arith, leb-false bar (f j) near) in
     rw (e, near) (nearest-placed p f best bar l ∙ rw (ne-eqb bar 0 some))))
     (λ e. rw e (nearest-placed p f best bar l))
@@ -100,25 +100,25 @@ same-tests true true false there claimed used inside covers h k = refl
 same-tests true true true there claimed used inside covers h k = rw (h, k) (sym (and-true (claimed && (used && inside))))
 
 -- the claim at a place, and the places of the register's claims
-abbrev pub claimAt : Register → ℕ → Claim
-claimAt r j = getD (r .claims .list) j noClaim
+abbrev pub claimStanding : Register → ℕ → Claim
+claimStanding r j = getD (r .claims .list) j noClaim
 
 abbrev pub claimPlaces : Register → List ℕ
 claimPlaces r = counted 0 (length (claimsOf (r .claims)))
 
 -- the first place at which a claim covers
 abbrev pub firstPlace : Register → ℕ → ℕ → Usage → Place
-firstPlace r moment x u = firstPlaceOf (λ j. covering r moment x u (claimAt r j)) (claimPlaces r)
+firstPlace r moment x u = firstPlaceOf (λ j. covering r moment x u (claimStanding r j)) (claimPlaces r)
 
 -- the place at which the nearest covering claim stands
 abbrev pub reachFor : Register → Usage → ℕ → ℕ
-reachFor r u j = reachOf r (claimAt r j .resource) (u .resource)
+reachFor r u j = reachOf r (claimStanding r j .resource) (u .resource)
 
 abbrev pub nearestPlace : Register → ℕ → ℕ → Usage → Place
-nearestPlace r moment x u = nearestFrom (λ j. covering r moment x u (claimAt r j)) (reachFor r u) 0 0 (claimPlaces r)
+nearestPlace r moment x u = nearestFrom (λ j. covering r moment x u (claimStanding r j)) (reachFor r u) 0 0 (claimPlaces r)
 
 -- the claims at those places are the register's
-claims-read : (r : Register) → map (claimAt r) (claimPlaces r) ≡ claimsOf (r .claims)
+claims-read : (r : Register) → map (claimStanding r) (claimPlaces r) ≡ claimsOf (r .claims)
 claims-read r = counted-first noClaim (r .claims .list) (r .claims .count)
 
 -- each is that of a claim
@@ -126,14 +126,14 @@ pub places-within : (r : Register) → All (λ j. j < length (claimsOf (r .claim
 places-within r = rw (zero-add (length (claimsOf (r .claims)))) at (counted-below 0 (length (claimsOf (r .claims))))
 
 -- the claim relied on is the one at the nearest place
-pub relied-natural : (r : Register) (moment x : ℕ) (u : Usage) → relied r moment x u ≡ onlyAt (claimAt r) (nearestPlace r moment x u)
+pub relied-natural : (r : Register) (moment x : ℕ) (u : Usage) → relied r moment x u ≡ onlyAt (claimStanding r) (nearestPlace r moment x u)
 relied-natural r moment x u =
     sym (ap (nearestOf (covering r moment x u) (λ c. reachOf r (c .resource) (u .resource))) (claims-read r))
-    ∙ nearest-read (claimAt r) (covering r moment x u) (λ c. reachOf r (c .resource) (u .resource)) (claimPlaces r)
+    ∙ nearest-read (claimStanding r) (covering r moment x u) (λ c. reachOf r (c .resource) (u .resource)) (claimPlaces r)
 
 -- some claim covers where there is a first place
 pub any-covering : (r : Register) (moment x : ℕ) (u : Usage) → any (covering r moment x u) (claimsOf (r .claims)) ≡ placed (firstPlace r moment x u)
-any-covering r moment x u = sym (ap (any (covering r moment x u)) (claims-read r)) ∙ any-read (claimAt r) (covering r moment x u) (claimPlaces r)
+any-covering r moment x u = sym (ap (any (covering r moment x u)) (claims-read r)) ∙ any-read (claimStanding r) (covering r moment x u) (claimPlaces r)
 
 either-placed : (b : Bool) (p : Place) → b || placed p ≡ coveredBy b p
 either-placed b (At j) = or-true b
@@ -143,7 +143,7 @@ either-placed b Nowhere = or-false b
 pub nearest-covers : (r : Register) (moment x : ℕ) (u : Usage) (b : Bool) → coveredBy b (nearestPlace r moment x u) ≡ coveredBy b (firstPlace r moment x u)
 nearest-covers r moment x u b =
     sym (either-placed b (nearestPlace r moment x u))
-    ∙ ap (λ some. b || some) (nearest-placed (λ j. covering r moment x u (claimAt r j)) (reachFor r u) 0 0 (claimPlaces r))
+    ∙ ap (λ some. b || some) (nearest-placed (λ j. covering r moment x u (claimStanding r j)) (reachFor r u) 0 0 (claimPlaces r))
     ∙ either-placed b (firstPlace r moment x u)
 
 -- where the claims' resources stand
@@ -160,7 +160,7 @@ module _ (r : Register) (shaped : Shaped r) (j : ℕ) (inside : j < length (clai
       omega (arith, all-asked)
 
   -- it is that of its resource
-  spot-natural : sound r ≡ true → getD (spotsOf r) j 0 ≡ placeNumber claimLimit (placeBy r (claimAt r j .resource))
+  spot-natural : sound r ≡ true → getD (spotsOf r) j 0 ≡ placeNumber claimLimit (placeBy r (claimStanding r j .resource))
   spot-natural h =
       let few : min (r .resources .count) claimLimit ≡ r .resources .count = omega (arith, sound-out r h .limits .resourceCount) in
       places-at (map resourceId (r .resources .list)) (r .resources .count) (map claimedOf (r .claims .list)) (r .claims .count) claimLimit j 0 all-asked
@@ -171,41 +171,41 @@ module _ (r : Register) (shaped : Shaped r) (h : sound r ≡ true) (moment x : �
   reaches j = reaching (map rightsOf (r .claims .list)) (spotsOf r) (laid (r .resources) .bytes) (laid (r .resources) .lens) (u .right) (spotFor r u) j
 
   -- the claim at a place covers where it can cover and reaches
-  covering-natural : (j : ℕ) → j < length (claimsOf (r .claims)) → canCover x moment (latest (claimsOf (r .claims))) (claimAt r j) && reaches j ≡ covering r moment x u (claimAt r j)
+  covering-natural : (j : ℕ) → j < length (claimsOf (r .claims)) → canCover x moment (latest (claimsOf (r .claims))) (claimStanding r j) && reaches j ≡ covering r moment x u (claimStanding r j)
   unfolding covering
   covering-natural j inside =
       let there : j < length (spotsOf r) = spot-there r shaped j inside in
       let spot = spot-natural r shaped j inside h in
-      ap (λ b. canCover x moment (latest (claimsOf (r .claims))) (claimAt r j) && b) (reaching-natural (r .claims .list) (spotsOf r) (r .resources) (shaped .paths) (u .right) (spotFor r u) j)
-      ∙ same-tests (eqb (claimAt r j .holder) x) (live moment (latest (claimsOf (r .claims))) (claimAt r j)) (hasRight (claimAt r j .rights) (u .right)) (ltb j (length (spotsOf r)))
+      ap (λ b. canCover x moment (latest (claimsOf (r .claims))) (claimStanding r j) && b) (reaching-natural (r .claims .list) (spotsOf r) (r .resources) (shaped .paths) (u .right) (spotFor r u) j)
+      ∙ same-tests (eqb (claimStanding r j .holder) x) (live moment (latest (claimsOf (r .claims))) (claimStanding r j)) (hasRight (claimStanding r j .rights) (u .right)) (ltb j (length (spotsOf r)))
       (ltb (getD (spotsOf r) j 0) resourceLimit) (ltb (spotFor r u) resourceLimit) (containing (r .resources) (getD (spotsOf r) j 0) (spotFor r u))
-      (contains r (claimAt r j .resource) (u .resource)) (lt-ltb j (length (spotsOf r)) there)
-      (contains-natural r h (claimAt r j .resource) (u .resource)
+      (contains r (claimStanding r j .resource) (u .resource)) (lt-ltb j (length (spotsOf r)) there)
+      (contains-natural r h (claimStanding r j .resource) (u .resource)
       ∙ sym (asked-elsewhere claimLimit (omega arith) (λ s. ltb (spotFor r u) resourceLimit && containing (r .resources) s (spotFor r u))
-      (placeBy r (claimAt r j .resource)))
+      (placeBy r (claimStanding r j .resource)))
       ∙ sym (ap (λ s. ltb s resourceLimit && (ltb (spotFor r u) resourceLimit && containing (r .resources) s (spotFor r u))) spot))
 
   -- and then it reaches as far as its resource does to the used one
-  reach-column : (j : ℕ) → j < length (claimsOf (r .claims)) → covering r moment x u (claimAt r j) ≡ true
+  reach-column : (j : ℕ) → j < length (claimsOf (r .claims)) → covering r moment x u (claimStanding r j) ≡ true
       → reachAt (spotsOf r) (laid (r .resources) .bytes) (laid (r .resources) .lens) (spotFor r u) j ≡ reachFor r u j
   reach-column j inside covers =
-      let held = covering-out r moment x u (claimAt r j) covers .containing in
-      let spot : getD (spotsOf r) j 0 ≡ spotBy r (claimAt r j .resource) =
-      spot-natural r shaped j inside h ∙ spot-elsewhere claimLimit (placeBy r (claimAt r j .resource)) (contained-placed r h (claimAt r j .resource) (u .resource) held) in
+      let held = covering-out r moment x u (claimStanding r j) covers .containing in
+      let spot : getD (spotsOf r) j 0 ≡ spotBy r (claimStanding r j .resource) =
+      spot-natural r shaped j inside h ∙ spot-elsewhere claimLimit (placeBy r (claimStanding r j .resource)) (contained-placed r h (claimStanding r j .resource) (u .resource) held) in
       rw (part-laid (r .resources) (shaped .paths) (getD (spotsOf r) j 0), part-laid (r .resources) (shaped .paths) (spotFor r u), spot)
-      (sym (reach-spot r h (claimAt r j .resource) (u .resource) held))
+      (sym (reach-spot r h (claimStanding r j .resource) (u .resource) held))
 
   -- by the gathered places of x, whoever looks, the place relied on is the nearest at which a claim covers
   pub nearest-natural : (looking : ℕ)
       → reliedOn (sightOf r moment looking) (coverPlaces (r .claims) x moment) (spotFor r u) (u .right) ≡ nearestPlace r moment x u
   nearest-natural looking =
       nearest-filtered (reachAt (spotsOf r) (laid (r .resources) .bytes) (laid (r .resources) .lens) (spotFor r u)) reaches
-      (λ j. canCover x moment (latest (claimsOf (r .claims))) (claimAt r j)) 0 0 (claimPlaces r)
+      (λ j. canCover x moment (latest (claimsOf (r .claims))) (claimStanding r j)) 0 0 (claimPlaces r)
       ∙ nearest-same (reachAt (spotsOf r) (laid (r .resources) .bytes) (laid (r .resources) .lens) (spotFor r u))
-      (λ j. canCover x moment (latest (claimsOf (r .claims))) (claimAt r j) && reaches j) (λ j. covering r moment x u (claimAt r j)) (reachFor r u) 0 0 (claimPlaces r)
+      (λ j. canCover x moment (latest (claimsOf (r .claims))) (claimStanding r j) && reaches j) (λ j. covering r moment x u (claimStanding r j)) (reachFor r u) 0 0 (claimPlaces r)
       (all-imp (λ j. j < length (claimsOf (r .claims)))
-      (λ j. (canCover x moment (latest (claimsOf (r .claims))) (claimAt r j) && reaches j ≡ covering r moment x u (claimAt r j))
-      × (covering r moment x u (claimAt r j) ≡ true
+      (λ j. (canCover x moment (latest (claimsOf (r .claims))) (claimStanding r j) && reaches j ≡ covering r moment x u (claimStanding r j))
+      × (covering r moment x u (claimStanding r j) ≡ true
       → reachAt (spotsOf r) (laid (r .resources) .bytes) (laid (r .resources) .lens) (spotFor r u) j ≡ reachFor r u j))
       (λ j inside. (covering-natural j inside, reach-column j inside)) (claimPlaces r) (places-within r))
 
@@ -214,9 +214,9 @@ module _ (r : Register) (shaped : Shaped r) (h : sound r ≡ true) (moment x : �
       → coveringOn (sightOf r moment looking) (coverPlaces (r .claims) x moment) (spotFor r u) (u .right) ≡ firstPlace r moment x u
   place-natural looking =
       covering-filtered (map rightsOf (r .claims .list)) (spotsOf r) (laid (r .resources) .bytes) (laid (r .resources) .lens) (u .right) (spotFor r u)
-      (λ j. canCover x moment (latest (claimsOf (r .claims))) (claimAt r j)) (claimPlaces r)
-      ∙ first-same (λ j. canCover x moment (latest (claimsOf (r .claims))) (claimAt r j) && reaches j) (λ j. covering r moment x u (claimAt r j)) (claimPlaces r)
-      (all-imp (λ j. j < length (claimsOf (r .claims))) (λ j. canCover x moment (latest (claimsOf (r .claims))) (claimAt r j) && reaches j ≡ covering r moment x u (claimAt r j))
+      (λ j. canCover x moment (latest (claimsOf (r .claims))) (claimStanding r j)) (claimPlaces r)
+      ∙ first-same (λ j. canCover x moment (latest (claimsOf (r .claims))) (claimStanding r j) && reaches j) (λ j. covering r moment x u (claimStanding r j)) (claimPlaces r)
+      (all-imp (λ j. j < length (claimsOf (r .claims))) (λ j. canCover x moment (latest (claimsOf (r .claims))) (claimStanding r j) && reaches j ≡ covering r moment x u (claimStanding r j))
       covering-natural (claimPlaces r) (places-within r))
 
   -- a use is covered where it is open or there is such a place

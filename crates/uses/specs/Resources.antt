@@ -37,9 +37,9 @@ use Rattle.uses.specs.Sights.{spotFor}
 -- what is asked at a place among the first n, which are no more than the limit, is asked of them at its spot
 asked-limited : {A : Type 0} (d : A) (l : List A) (q : A → Bool) (n : ℕ) → n ≤ resourceLimit → (p : Place) → ((j : ℕ) → p ≡ At j → j < n)
     → askedAt d l q p ≡ ltb (spotOf p) resourceLimit && q (getD (take n l) (spotOf p) d)
-asked-limited d l q n few (At j) below =
-    let here : j < resourceLimit = omega (arith, few, below j refl) in rw (lt-ltb j resourceLimit here, getD-take n l j d (below j refl))
-asked-limited d l q n few Nowhere below = refl
+asked-limited d l q n scarce (At j) below =
+    let here : j < resourceLimit = omega (arith, scarce, below j refl) in rw (lt-ltb j resourceLimit here, getD-take n l j d (below j refl))
+asked-limited d l q n scarce Nowhere below = refl
 
 -- what is asked at a spot is asked as well where none is another number past the spots
 pub asked-elsewhere : (none : ℕ) → resourceLimit ≤ none → (q : ℕ → Bool) (p : Place)
@@ -59,15 +59,15 @@ abbrev pub spotBy : Register → ℕ → ℕ
 spotBy r x = spotIn (map resourceId (r .resources .list)) (r .resources .count) x
 
 module _ (r : Register) (h : sound r ≡ true) where
-  few : r .resources .count ≤ resourceLimit
-  few = sound-out r h .limits .resourceCount
+  scarce : r .resources .count ≤ resourceLimit
+  scarce = sound-out r h .limits .resourceCount
 
   -- some resource has the number x and passes a test where x has a spot and the resource there does
   pub asked-spot : (x : ℕ) (q : Resource → Bool) → any (λ o. eqb x (o .id) && q o) (resourcesOf (r .resources))
       ≡ ltb (spotBy r x) resourceLimit && q (getD (resourcesOf (r .resources)) (spotBy r x) noResource)
   asked-spot x q =
       asked-natural resourceId noResource refl (r .resources .list) x q (r .resources .count) (sound-out r h .resources .apart)
-      ∙ asked-limited noResource (r .resources .list) q (r .resources .count) few (placeBy r x)
+      ∙ asked-limited noResource (r .resources .list) q (r .resources .count) scarce (placeBy r x)
       (λ j e. place-found (map resourceId (r .resources .list)) x (r .resources .count) j e .0)
 
   -- the path of one resource contains that of another where both have a spot and the path at the one contains the path at the other
@@ -117,7 +117,7 @@ module _ (r : Register) (h : sound r ≡ true) where
       → ltb (spotOf p) resourceLimit && eqb (getD (resourcesOf (r .resources)) (spotOf p) noResource .public) 1
       ≡ eqb (getD (map publicOf (r .resources .list)) (spotOf p) 0) 1
   public-spot shaped (At j) below =
-      let here : j < resourceLimit = omega (arith, few, below j refl) in
+      let here : j < resourceLimit = omega (arith, scarce, below j refl) in
       rw (
         lt-ltb j resourceLimit here,
         getD-take (r .resources .count) (r .resources .list) j noResource (below j refl),

@@ -34,7 +34,7 @@ use Rattle.coverage.specs.Laws.{nearest-any}
 use Rattle.uses.specs.Uses.{openTo, hopsFrom, coveredBy, reliedOn, useFaults, useHops, coveringOn, stepsTold}
 use Rattle.coverage.specs.Gathering.{coverPlaces}
 use Rattle.uses.specs.Sights.{ownerAt, ownerIn, ownedIn, upsOf, sightOf, spotFor}
-use Rattle.uses.specs.Relying.{claimAt, claimPlaces, places-within, relied-natural, place-natural, covers-natural, onlyAt, reachFor, nearestPlace, nearest-covers}
+use Rattle.uses.specs.Relying.{claimStanding, claimPlaces, places-within, relied-natural, place-natural, covers-natural, onlyAt, reachFor, nearestPlace, nearest-covers}
 use Rattle.uses.specs.Relying.{nearest-natural}
 
 -- ---- the claim relied on: its hops
@@ -52,7 +52,7 @@ module _ (r : Register) (shaped : Shaped r) (h : sound r ≡ true) where
   below j inside = omega (arith, length-take (r .claims .count) (r .claims .list))
 
   -- the claim at a place of the register stands there, behind the claims at the places below
-  abbrev pub stands-at : (j : ℕ) → j < length (claimsOf (r .claims)) → IsIn (claimsOf (r .claims)) (claimAt r j)
+  abbrev pub stands-at : (j : ℕ) → j < length (claimsOf (r .claims)) → IsIn (claimsOf (r .claims)) (claimStanding r j)
   stands-at j inside =
       let before = take-take j (r .claims .count) (r .claims .list) (omega (arith, below j inside)) in
       let here = getD-take (r .claims .count) (r .claims .list) j noClaim (below j inside) in
@@ -66,40 +66,40 @@ module _ (r : Register) (shaped : Shaped r) (h : sound r ≡ true) where
 
   -- in a sound register the claims around it are sound
   pub sound-at : (j : ℕ) (inside : j < length (claimsOf (r .claims)))
-      → soundClaims around (latest (stands-at j inside .after) ++ claimAt r j ∷ latest (take j (r .claims .list))) ≡ true
-  sound-at j inside = sound-place r h (claimAt r j) (stands-at j inside)
+      → soundClaims around (latest (stands-at j inside .after) ++ claimStanding r j ∷ latest (take j (r .claims .list))) ≡ true
+  sound-at j inside = sound-place r h (claimStanding r j) (stands-at j inside)
 
   -- the claim at a place of the register has as many hops as the walk up from there counts
-  hops-at : (j : ℕ) → j < length (claimsOf (r .claims)) → hopsIn r (onlyAt (claimAt r) (At j)) ≡ hopsFrom (upsOf r) (At j)
+  hops-at : (j : ℕ) → j < length (claimsOf (r .claims)) → hopsIn r (onlyAt (claimStanding r) (At j)) ≡ hopsFrom (upsOf r) (At j)
   hops-at j inside =
       let at = stands-at j inside in
-      let whole : hopsOf (latest (claimsOf (r .claims))) (claimAt r j) ≡ hopsOf (latest (take j (r .claims .list))) (claimAt r j) =
-      ap (λ l. hopsOf l (claimAt r j)) (ap latest (at .split) ∙ latest-split (at .before) (claimAt r j) (at .after))
-      ∙ place-hops-whole around (latest (at .after)) (claimAt r j) (latest (take j (r .claims .list))) (sound-at j inside) in
-      let counted : length (placesUp (upsOf r) j) ≡ hopsOf (latest (take j (r .claims .list))) (claimAt r j) =
+      let whole : hopsOf (latest (claimsOf (r .claims))) (claimStanding r j) ≡ hopsOf (latest (take j (r .claims .list))) (claimStanding r j) =
+      ap (λ l. hopsOf l (claimStanding r j)) (ap latest (at .split) ∙ latest-split (at .before) (claimStanding r j) (at .after))
+      ∙ place-hops-whole around (latest (at .after)) (claimStanding r j) (latest (take j (r .claims .list))) (sound-at j inside) in
+      let counted : length (placesUp (upsOf r) j) ≡ hopsOf (latest (take j (r .claims .list))) (claimStanding r j) =
       hop-count-natural (r .claims .list) (r .claims .count) few long
       (λ i before. claim-numbered around (r .claims .count) (r .claims .list) (sound-out r h .claims) i before (omega (arith, before, long)))
       j (below j inside) in
-      sym (ap stepsTold (steps-within (placesUp (upsOf r) j) (hopsOf (latest (claimsOf (r .claims))) (claimAt r j)) (counted ∙ sym whole)
-      (place-hops-most r h (claimAt r j) at)))
+      sym (ap stepsTold (steps-within (placesUp (upsOf r) j) (hopsOf (latest (claimsOf (r .claims))) (claimStanding r j)) (counted ∙ sym whole)
+      (place-hops-most r h (claimStanding r j) at)))
 
   -- the hop count of the claim relied on, by columns
   pub relied-hops : (moment x : ℕ) (u : Usage) → hopsFor r moment x u ≡ hopsFrom (upsOf r) (nearestPlace r moment x u)
   unfolding hopsFor
   relied-hops moment x u =
       ap (hopsIn r) (relied-natural r moment x u)
-      ∙ nearest-any (reachFor r u) (λ p. hopsIn r (onlyAt (claimAt r) p) ≡ hopsFrom (upsOf r) p) _ 0 0 (claimPlaces r) refl
+      ∙ nearest-any (reachFor r u) (λ p. hopsIn r (onlyAt (claimStanding r) p) ≡ hopsFrom (upsOf r) p) _ 0 0 (claimPlaces r) refl
       (all-imp (λ j. j < length (claimsOf (r .claims)))
-      (λ j. hopsIn r (onlyAt (claimAt r) (At j)) ≡ hopsFrom (upsOf r) (At j)) hops-at (claimPlaces r) (places-within r))
+      (λ j. hopsIn r (onlyAt (claimStanding r) (At j)) ≡ hopsFrom (upsOf r) (At j)) hops-at (claimPlaces r) (places-within r))
 
 -- ---- the actor: whether it is a machine, and its owner
 module _ (r : Register) (h : sound r ≡ true) (x : ℕ) where
   -- where the actor numbered x stands
-  abbrev actorPlace : Place
-  actorPlace = latestPlace (map actorId (r .actors .list)) (r .actors .count) x
+  abbrev placeOfActor : Place
+  placeOfActor = latestPlace (map actorId (r .actors .list)) (r .actors .count) x
 
   -- some actor has the number x and passes a test where the one at the place of x does
-  pub asked-actor : (q : Actor → Bool) → any (λ a. eqb x (a .id) && q a) (actorsOf (r .actors)) ≡ askedAt noActor (r .actors .list) q actorPlace
+  pub asked-actor : (q : Actor → Bool) → any (λ a. eqb x (a .id) && q a) (actorsOf (r .actors)) ≡ askedAt noActor (r .actors .list) q placeOfActor
   asked-actor q = asked-natural actorId noActor refl (r .actors .list) x q (r .actors .count) (sound-out r h .actors .apart)
 
   -- what is asked of a machine and of its owner, place by place
@@ -119,7 +119,7 @@ module _ (r : Register) (h : sound r ≡ true) (x : ℕ) where
   unfolding ownerLacks
   owner-natural moment u =
       asked-actor (λ a. eqb machineKind (a .kind) && (not (eqb (a .owner) 0) && not (covers r moment (a .owner) u)))
-      ∙ owner-asked (λ y. covers r moment y u) actorPlace
+      ∙ owner-asked (λ y. covers r moment y u) placeOfActor
       ∙ sym (ap (λ b. (b && not (eqb (ownerIn r x) 0)) && not (covers r moment (ownerIn r x) u)) (asked-actor (λ a. eqb machineKind (a .kind))))
 
 -- ---- the judgement

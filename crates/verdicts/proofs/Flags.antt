@@ -54,7 +54,7 @@ flags-none-zero flags small h = bits-none flags small (flags-none-out flags h)
 -- a permitted action has no flag set
 pub permitted-flagless : (r : Register) (a : Action) → gated r a .decision ≡ Permitted → a .flags ≡ 0
 permitted-flagless r a h =
-    let told = permitted-out r a h in flags-none-zero (a .flags) (action-fits-out a (told .passed .fits) .flagsBelow) (told .clean .flagless)
+    let told = permitted-out r a h in flags-none-zero (a .flags) (action-fits-out a (told .passed .fits) .flagsFew) (told .clean .flagless)
 
 -- an action with a flag set that is not stopped is refused
 pub flag-refuses : (r : Register) (a : Action) → Passed r a → (i : ℕ) → i < flagCount → (a .flags / 2 ^ i % 2 ≡ 0 → ⊥) → gated r a .decision ≡ Refused
@@ -63,7 +63,7 @@ flag-refuses r a passed i below set =
 
 pub flags-refuse : (r : Register) (a : Action) → Passed r a → (a .flags ≡ 0 → ⊥) → gated r a .decision ≡ Refused
 flags-refuse r a passed set =
-    refused-in r a passed (λ none. set (flags-none-zero (a .flags) (action-fits-out a (passed .fits) .flagsBelow) (violations-none-out r a none .flagless)))
+    refused-in r a passed (λ none. set (flags-none-zero (a .flags) (action-fits-out a (passed .fits) .flagsFew) (violations-none-out r a none .flagless)))
 
 -- no flag is no violation
 pub flags-zero : flagsSet 0 ≡ []

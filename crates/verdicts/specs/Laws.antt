@@ -47,7 +47,7 @@ gated-judged r a e = ap (λ o. verdictOn o r a) e
 pub record Ranges (a : Action) : Type 0 where
   pub actorGreatest : a .actor ≤ idLimit
   pub momentBelow : a .now < momentEnd
-  pub flagsBelow : a .flags < 2 ^ flagCount
+  pub flagsFew : a .flags < 2 ^ flagCount
   pub usesMost : a .used ≤ useLimit
   pub governedMost : a .governed ≤ governLimit
 
@@ -59,7 +59,7 @@ action-fits-out a h =
     record {
       actorGreatest = leb-true (a .actor) idLimit (told .0);
       momentBelow = ltb-true (a .now) momentEnd (told .1 .0);
-      flagsBelow = ltb-true (a .flags) (2 ^ flagCount) (told .1 .1 .0);
+      flagsFew = ltb-true (a .flags) (2 ^ flagCount) (told .1 .1 .0);
       usesMost = leb-true (a .used) useLimit (told .1 .1 .1 .0);
       governedMost = leb-true (a .governed) governLimit (told .1 .1 .1 .1 .1 .0);
     }

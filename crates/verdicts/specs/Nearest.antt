@@ -110,13 +110,13 @@ module _ {C : Type 0} (p : C → Bool) (f : C → ℕ) where
       cond (p c && leb bar (f c)) nearer more
 
   -- one passes and has that number
-  abbrev reaching : ℕ → C → Bool
-  reaching bar c = p c && leb bar (f c)
+  abbrev reachingAt : ℕ → C → Bool
+  reachingAt bar c = p c && leb bar (f c)
 
   -- what falls short of one behind it is passed over
-  passed-over : (c : C) (L : List C) (bar : ℕ) → any (reaching bar) L ≡ true → (p c ≡ true → f c < bar) → nearestOf p f (c ∷ L) ≡ nearestOf p f L
+  passed-over : (c : C) (L : List C) (bar : ℕ) → any (reachingAt bar) L ≡ true → (p c ≡ true → f c < bar) → nearestOf p f (c ∷ L) ≡ nearestOf p f L
   passed-over c L bar some short =
-      let found = any-place (reaching bar) L some in
+      let found = any-place (reachingAt bar) L some in
       let d : C = found .0 in
       let e : p d ≡ true = and-left (p d) (leb bar (f d)) (found .2) in
       let far : bar ≤ f d = leb-true bar (f d) (and-right (p d) (leb bar (f d)) (found .2)) in
@@ -133,38 +133,38 @@ module _ {C : Type 0} (p : C → Bool) (f : C → ℕ) where
       ∙ first-agree (unexceeded p f (c ∷ L)) (unexceeded p f L) L (each-all (λ M b. unexceeded p f (c ∷ L) b ≡ unexceeded p f L b) (λ M b. alike b) L)
 
   -- what passes is taken where none behind it reaches further
-  taken : (c : C) (L : List C) → p c ≡ true → any (reaching (suc (f c))) L ≡ false → nearestOf p f (c ∷ L) ≡ c ∷ []
-  taken c L e none =
+  nearest-first : (c : C) (L : List C) → p c ≡ true → any (reachingAt (suc (f c))) L ≡ false → nearestOf p f (c ∷ L) ≡ c ∷ []
+  nearest-first c L e none =
       first-hit (unexceeded p f (c ∷ L)) c L
       (top-in c (c ∷ L) e (
         (λ k. omega arith),
-        all-imp (λ d. reaching (suc (f c)) d ≡ false) (λ d. p d ≡ true → f d ≤ f c)
-            (λ d out k. cases (leb (suc (f c)) (f d)) (λ far. clash (reaching (suc (f c)) d) (and-both (p d) (leb (suc (f c)) (f d)) k far) out)
-            (λ near. omega (arith, leb-false (suc (f c)) (f d) near))) L (none-all (reaching (suc (f c))) L none),
+        all-imp (λ d. reachingAt (suc (f c)) d ≡ false) (λ d. p d ≡ true → f d ≤ f c)
+            (λ d out k. cases (leb (suc (f c)) (f d)) (λ far. clash (reachingAt (suc (f c)) d) (and-both (p d) (leb (suc (f c)) (f d)) k far) out)
+            (λ near. omega (arith, leb-false (suc (f c)) (f d) near))) L (none-all (reachingAt (suc (f c))) L none),
       ))
 
-  walk : (L best : List C) (bar : ℕ) → nearerFrom best bar L ≡ cond (any (reaching bar) L) (nearestOf p f L) best
+  walk : (L best : List C) (bar : ℕ) → nearerFrom best bar L ≡ cond (any (reachingAt bar) L) (nearestOf p f L) best
   walk [] best bar = refl
   walk (c ∷ L) best bar =
-      cases (reaching bar c)
+      cases (reachingAt bar c)
       (λ e. let passes : p c ≡ true = and-left (p c) (leb bar (f c)) e in
       rw e
       (walk L (c ∷ []) (suc (f c))
-      ∙ cases (any (reaching (suc (f c))) L)
+      ∙ cases (any (reachingAt (suc (f c))) L)
       (λ some. rw some (sym (passed-over c L (suc (f c)) some (λ k. omega arith))))
-      (λ none. rw none (sym (taken c L passes none)))))
+      (λ none. rw none (sym (nearest-first c L passes none)))))
       (λ out. rw out
       (walk L best bar
-      ∙ cases (any (reaching bar) L)
+      ∙ cases (any (reachingAt bar) L)
       (λ some. rw some (sym (passed-over c L bar some
-      (λ k. cases (leb bar (f c)) (λ far. clash (reaching bar c) (and-both (p c) (leb bar (f c)) k far) out) (λ near. leb-false bar (f c) near)))))
+      (λ k. cases (leb bar (f c)) (λ far. clash (reachingAt bar c) (and-both (p c) (leb bar (f c)) k far) out) (λ near. leb-false bar (f c) near)))))
       (λ none. rw none)))
 
   -- the nearest is what such a walk takes
   pub nearest-walked : (L : List C) → nearestOf p f L ≡ nearerFrom [] 0 L
   nearest-walked L =
-      let all : any (reaching 0) L ≡ any p L =
-      any-same (reaching 0) p L (each-all (λ M c. reaching 0 c ≡ p c) (λ M c. rw (le-leb 0 (f c) (omega arith)) (and-true (p c))) L) in
+      let all : any (reachingAt 0) L ≡ any p L =
+      any-same (reachingAt 0) p L (each-all (λ M c. reachingAt 0 c ≡ p c) (λ M c. rw (le-leb 0 (f c) (omega arith)) (and-true (p c))) L) in
       cases (any p L)
       (λ some. sym (walk L [] 0 ∙ rw (all, some)))
       (λ none. nearest-none L none ∙ sym (walk L [] 0 ∙ rw (all, none)))

@@ -96,17 +96,17 @@ module _ (w : World) where
 
 -- a claim at its place in a sound register
 module _ (r : Register) (h : sound r ≡ true) (c : Claim) (at : IsIn (claimsOf (r .claims)) c) where
-  abbrev around : World
-  around = worldOf (actorsOf (r .actors)) (resourcesOf (r .resources))
+  abbrev surroundings : World
+  surroundings = worldOf (actorsOf (r .actors)) (resourcesOf (r .resources))
 
   -- the chain above it is that among the earlier claims
   higher-earlier : higherThan r c ≡ above (latest (at .before)) c
   higher-earlier =
       ap (λ l. above l c) (ap latest (at .split) ∙ latest-split (at .before) c (at .after))
-      ∙ place-above around (latest (at .after)) c (latest (at .before)) (sound-place r h c at)
+      ∙ place-above surroundings (latest (at .after)) c (latest (at .before)) (sound-place r h c at)
 
   pub place-climbing : Climbs (c .parent) (higherThan r c)
-  place-climbing = rw higher-earlier (place-climbs around (latest (at .after)) c (latest (at .before)) (sound-place r h c at))
+  place-climbing = rw higher-earlier (place-climbs surroundings (latest (at .after)) c (latest (at .before)) (sound-place r h c at))
 
   pub place-higher : All (λ d. IsIn (claimsOf (r .claims)) d) (higherThan r c)
   place-higher = all-chain (λ d. d .id) (λ d. d .parent) (λ d. IsIn (claimsOf (r .claims)) d) (latest (claimsOf (r .claims))) (c .parent)
@@ -114,24 +114,24 @@ module _ (r : Register) (h : sound r ≡ true) (c : Claim) (at : IsIn (claimsOf 
 
   pub place-attenuating : Attenuates c (higherThan r c)
   place-attenuating =
-      let behind = prefix-sound around (latest (at .after)) (c ∷ latest (at .before)) (sound-place r h c at) in
-      rw higher-earlier (link around c (latest (at .before)) behind
-      (chain-linked around (latest (at .before)) (c .parent) (earlier-sound around c (latest (at .before)) behind)))
+      let behind = prefix-sound surroundings (latest (at .after)) (c ∷ latest (at .before)) (sound-place r h c at) in
+      rw higher-earlier (link surroundings c (latest (at .before)) behind
+      (chain-linked surroundings (latest (at .before)) (c .parent) (earlier-sound surroundings c (latest (at .before)) behind)))
 
   pub place-hops-most : hopsOf (latest (claimsOf (r .claims))) c ≤ hopLimit
-  place-hops-most = rw higher-earlier (place-hops around (latest (at .after)) c (latest (at .before)) (sound-place r h c at))
+  place-hops-most = rw higher-earlier (place-hops surroundings (latest (at .after)) c (latest (at .before)) (sound-place r h c at))
 
   pub place-rooted : rootOf c (higherThan r c) .parent ≡ 0
-  place-rooted = rw higher-earlier (place-root around (latest (at .after)) c (latest (at .before)) (sound-place r h c at))
+  place-rooted = rw higher-earlier (place-root surroundings (latest (at .after)) c (latest (at .before)) (sound-place r h c at))
 
   -- its root is granted by the keeper of its resource
   pub place-keeper : (o : Resource) → IsIn (resourcesOf (r .resources)) o → o .id ≡ c .resource → rootOf c (higherThan r c) .grantor ≡ o .keeper
   place-keeper o by claimed =
       let root : Claim = rootOf c (higherThan r c) in
-      let all = sound-kept around (latest (claimsOf (r .claims))) (sound-out r h .claims) in
-      let own = all-place (λ d. rootKept around d ≡ true) (latest (claimsOf (r .claims))) all c
+      let all = sound-kept surroundings (latest (claimsOf (r .claims))) (sound-out r h .claims) in
+      let own = all-place (λ d. rootKept surroundings d ≡ true) (latest (claimsOf (r .claims))) all c
       record { before = latest (at .after); after = latest (at .before); split = ap latest (at .split) ∙ latest-split (at .before) c (at .after) } in
-      let kept = root-all (λ d. rootKept around d ≡ true) c (higherThan r c) own
-      (all-chain (λ d. d .id) (λ d. d .parent) (λ d. rootKept around d ≡ true) (latest (claimsOf (r .claims))) (c .parent) all) in
+      let kept = root-all (λ d. rootKept surroundings d ≡ true) c (higherThan r c) own
+      (all-chain (λ d. d .id) (λ d. d .parent) (λ d. rootKept surroundings d ≡ true) (latest (claimsOf (r .claims))) (c .parent) all) in
       keeper-place (resourcesOf (r .resources)) (sound-out r h .resources .apart) (root .grantor) (root .resource)
-      (root-kept-out around root kept place-rooted) o by (claimed ∙ sym (root-resource c (higherThan r c) place-attenuating))
+      (root-kept-out surroundings root kept place-rooted) o by (claimed ∙ sym (root-resource c (higherThan r c) place-attenuating))

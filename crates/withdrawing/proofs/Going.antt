@@ -18,7 +18,7 @@ use Rattle.register.specs.Limits.{claimLimit}
 use Rattle.columns.specs.Columns.{placesUp}
 use Rattle.columns.specs.Laws.{places-up-at, places-up-none}
 use Rattle.lookup.specs.Laws.{behind-none}
-use Rattle.withdrawing.specs.Struck.{goes, goneBy}
+use Rattle.withdrawing.specs.Struck.{goesAt, goneBy}
 use Rattle.withdrawing.proofs.Laws.{gone-at}
 
 -- a walk has come to a place, for which `up` is kept, and what it is to answer, e, is asked of that place and of those above it
@@ -43,13 +43,13 @@ gone-past : (P : ℕ → Bool) (ups : List ℕ) (n j : ℕ) → n ≤ claimLimit
 unfolding goneBy
 gone-past P ups n j few h =
     let top = min n claimLimit in
-    let behind : j ≡ length (map (goes P ups) (counted 0 top)) + (j - n) = omega (arith, length-map (counted 0 top) (goes P ups), counted-length 0 top) in
-    ap (λ k. getD (map (goes P ups) (counted 0 top) ++ replicate (claimLimit - top) false) k false) behind
-    ∙ getD-append-add (map (goes P ups) (counted 0 top)) (replicate (claimLimit - top) false) (j - n) false
+    let behind : j ≡ length (map (goesAt P ups) (counted 0 top)) + (j - n) = omega (arith, length-map (counted 0 top) (goesAt P ups), counted-length 0 top) in
+    ap (λ k. getD (map (goesAt P ups) (counted 0 top) ++ replicate (claimLimit - top) false) k false) behind
+    ∙ getD-append-add (map (goesAt P ups) (counted 0 top)) (replicate (claimLimit - top) false) (j - n) false
     ∙ behind-none (claimLimit - top) (j - n) false
 
 -- a claim goes where P names it, or where its parent goes
-goes-next : (P : ℕ → Bool) (ups : List ℕ) (i : ℕ) → i ≤ claimLimit → goes P ups i ≡ P i || getD (goneBy P ups i) (getD ups i i) false
+goes-next : (P : ℕ → Bool) (ups : List ℕ) (i : ℕ) → i ≤ claimLimit → goesAt P ups i ≡ P i || getD (goneBy P ups i) (getD ups i i) false
 goes-next P ups i few =
     ap (λ b. P i || b)
     (cases (ltb (getD ups i i) i)
@@ -73,7 +73,7 @@ module _ {P : ℕ → Bool} {ups : List ℕ} {top : ℕ} where
     pub telling-next : i < top → {b : Bool} → b ≡ P i || getD gone (getD ups i i) false → Telling P ups top (i + 1) (set gone i b)
     unfolding goneBy
     telling-next h {b} e =
-        let f : (ℕ → Bool) = goes P ups in
+        let f : (ℕ → Bool) = goesAt P ups in
         let own : b ≡ f i = e ∙ ap (λ l. P i || getD l (getD ups i i) false) (s .told) ∙ sym (goes-next P ups i (omega (arith, s .within, s .room))) in
         let long : length (map f (counted 0 i)) ≡ i = length-map (counted 0 i) f ∙ counted-length 0 i in
         let more : map f (counted 0 (i + 1)) ≡ map f (counted 0 i) ++ (f i ∷ []) =
@@ -90,8 +90,8 @@ module _ {P : ℕ → Bool} {ups : List ℕ} {top : ℕ} where
     unfolding goneBy
     telling-length =
         rw (s .told)
-        (length-append (map (goes P ups) (counted 0 (min i claimLimit))) (replicate (claimLimit - min i claimLimit) false)
-        ∙ rw (length-map (counted 0 (min i claimLimit)) (goes P ups), counted-length 0 (min i claimLimit), length-replicate) (omega arith))
+        (length-append (map (goesAt P ups) (counted 0 (min i claimLimit))) (replicate (claimLimit - min i claimLimit) false)
+        ∙ rw (length-map (counted 0 (min i claimLimit)) (goesAt P ups), counted-length 0 (min i claimLimit), length-replicate) (omega arith))
 
     pub telling-done : top ≤ i → (n : ℕ) → top ≡ min n claimLimit → gone ≡ goneBy P ups n
     unfolding goneBy

@@ -24,26 +24,26 @@ use Rattle.columns.specs.Laws.{getD-inside, places-latest}
 use Rattle.columns.specs.Sheet.{sheetOf, sheetLimit, columnOf, claimAt, claimsIn}
 use Rattle.columns.specs.SheetLaws.{sheet-long, sheet-claims, claims-in-length, claims-in-at}
 use Rattle.lookup.specs.Finding.{earlierPlaces}
-use Rattle.lookup.specs.Laws.{counted-read}
+use Rattle.lookup.specs.Laws.{counted-number}
 use Rattle.lookup.specs.Walks.{above-natural, sheet-few, sheet-at, sheet-numbered}
 use Rattle.refusals.specs.Refusals.{outcomeOf}
 use Rattle.changes.specs.Changes.{Withdrawal, revoke, clearResource, clearExpired, names, leftOf, revokeTests, clearResourceTests, clearExpiredTests, withdrawTests, withdrawn}
 use Rattle.refusals.specs.Laws.{outcome-cases, outcome-accepted}
 use Rattle.refusals.specs.declared.Outcome.{Outcome}
 use Rattle.refusals.specs.declared.Outcome.the-variants.{Accepted}
-use Rattle.withdrawing.specs.Struck.{goes, goneBy, staying, spared, struckClaims, struckOf}
+use Rattle.withdrawing.specs.Struck.{goesAt, goneBy, staying, spared, struckClaims, struckOf}
 use Rattle.withdrawing.specs.declared.Struck.{Struck}
 
 -- whether one of the first n claims goes is kept at its place
-pub gone-at : (P : ℕ → Bool) (ups : List ℕ) (n j : ℕ) → j < min n claimLimit → getD (goneBy P ups n) j false ≡ goes P ups j
+pub gone-at : (P : ℕ → Bool) (ups : List ℕ) (n j : ℕ) → j < min n claimLimit → getD (goneBy P ups n) j false ≡ goesAt P ups j
 unfolding goneBy
 gone-at P ups n j h =
     let top = min n claimLimit in
-    let there : j < length (map (goes P ups) (counted 0 top)) = omega (arith, length-map (counted 0 top) (goes P ups), counted-length 0 top) in
-    List·getD-append (map (goes P ups) (counted 0 top)) (replicate (claimLimit - top) false) false j there
-    ∙ getD-inside (map (goes P ups) (counted 0 top)) j false (goes P ups 0) there
-    ∙ List·getD-map (goes P ups) (counted 0 top) j 0
-    ∙ ap (goes P ups) (counted-read top 0 j 0 h ∙ zero-add j)
+    let there : j < length (map (goesAt P ups) (counted 0 top)) = omega (arith, length-map (counted 0 top) (goesAt P ups), counted-length 0 top) in
+    List·getD-append (map (goesAt P ups) (counted 0 top)) (replicate (claimLimit - top) false) false j there
+    ∙ getD-inside (map (goesAt P ups) (counted 0 top)) j false (goesAt P ups 0) there
+    ∙ List·getD-map (goesAt P ups) (counted 0 top) j 0
+    ∙ ap (goesAt P ups) (counted-number top 0 j 0 h ∙ zero-add j)
 
 -- the claims that stay, where the first n of a sheet are looked at and each that goes is told at its place
 module _ (P : Claim → Bool) (s : List ℕ) (long : length s ≡ sheetLimit) (n : ℕ) (few : n ≤ claimLimit)

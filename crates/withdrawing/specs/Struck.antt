@@ -28,12 +28,12 @@ askedTests whole known unknown stands absent may =
     ∷ []
 
 -- whether a claim goes, by its place: P names it, or one above it
-abbrev pub goes : (ℕ → Bool) → List ℕ → ℕ → Bool
-goes P ups j = any P (j ∷ placesUp ups j)
+abbrev pub goesAt : (ℕ → Bool) → List ℕ → ℕ → Bool
+goesAt P ups j = any P (j ∷ placesUp ups j)
 
 -- for each of the first n claims, whether it goes
 unfoldable pub goneBy : (ℕ → Bool) → List ℕ → ℕ → List Bool
-goneBy P ups n = map (goes P ups) (counted 0 (min n claimLimit)) ++ replicate (claimLimit - min n claimLimit) false
+goneBy P ups n = map (goesAt P ups) (counted 0 (min n claimLimit)) ++ replicate (claimLimit - min n claimLimit) false
 
 -- the places of those that stay, among the first n claims, latest first
 abbrev pub staying : List Bool → ℕ → List ℕ

@@ -6,12 +6,12 @@ use mathlib.Core.List.{List, [], _∷_, _++_}
 use native.Mathlib.Omega.{arith}
 use lib.ListN.{length, replicate}
 use Rattle.register.specs.Limits.{idLimit, momentEnd}
-use Rattle.actions.specs.Actions.{useLimit, governLimit, flagCount}
+use Rattle.actions.specs.Actions.{noUse, useLimit, governLimit, flagCount}
 use Rattle.actions.specs.declared.Usage.{Usage}
 use Rattle.lines.specs.Reading.{State, going, number, closed, formRefusal}
 use Rattle.lines.specs.Answers.{stateOf}
 use Rattle.texts.specs.Keys.{nowKey, actorKey, flagsKey}
-use Rattle.texts.specs.Actions.{headForms, noUse, readUses, readGoverns, actionEnding, actionOf, actionRead}
+use Rattle.texts.specs.Actions.{headForms, readUses, readGoverns, actionEnding, actionOf, actionRead}
 use Rattle.texts.specs.declared.ActionRead.{ActionRead}
 use Rattle.reading.specs.Runs.{Run, run-none, run-next, run-start, field-bound}
 use borrow.Author.Needs.{needs}

@@ -10,12 +10,12 @@ use Rattle.lines.specs.Answers.{stateOf}
 use Rattle.texts.specs.Keys.{governsKey, governKey}
 use Rattle.texts.specs.Actions.{readGovern, readGoverns}
 use Rattle.reading.specs.Runs.{field-bound}
-use Rattle.reading.specs.Filling.{Filling, filling-start, filling-next, filling-done}
+use Rattle.reading.specs.Filling.{Listing, listing-start, listing-next, listing-done}
 use Rattle.action_reading.proofs.read_governs.Statement.{statement}
 use Rattle.action_reading.proofs.read_governs.Tie as tie
 
 abbrev Inv-loop : tie.InvT-loop
-Inv-loop s governed governs₀ cursor₀ i₀ key governs cursor i = Filling s readGovern governLimit 0 (stateOf s cursor₀) governed governs cursor i
+Inv-loop s governed governs₀ cursor₀ i₀ key governs cursor i = Listing s readGovern governLimit 0 (stateOf s cursor₀) governed governs cursor i
 
 abbrev μ-loop : tie.MeasureT-loop
 μ-loop s governed governs₀ cursor₀ i₀ key governs cursor i = governed - i
@@ -33,7 +33,7 @@ read-count-requires : tie.Need-read-count-requires Inv-loop μ-loop
 read-count-requires c κs = search needs
 
 loop-holds : tie.Need-loop-holds Inv-loop μ-loop
-loop-holds c = filling-start _ _ refl refl
+loop-holds c = listing-start _ _ refl refl
 
 slice-aggregate-read-number : tie.Need-slice-aggregate-read-number Inv-loop μ-loop
 slice-aggregate-read-number c = search needs
@@ -67,7 +67,7 @@ loop-again : tie.Need-loop-again Inv-loop μ-loop
 loop-again c =
     let before = c .before .before .before .before .before .loop in
     let one = c .before .before .read-number in
-    filling-next (before .governs) (before .cursor) (before .i) (one .result .value) (one .result .cursor) (before .inv)
+    listing-next (before .governs) (before .cursor) (before .i) (one .result .value) (one .result .cursor) (before .inv)
     (c .before .before .before .before .loop-test .taken) (count-bound (c .before .before .before .before .before .before .before))
     (record { got = one .ensures .value; stands = one .ensures .state })
 
@@ -76,7 +76,7 @@ unfolding readGoverns
 returns c =
     let end = c .before .loop in
     let counted = c .before .before .before .read-count in
-    let all = filling-done (end .governs) (end .cursor) (end .i) (end .inv) (c .loop-test .left) in
+    let all = listing-done (end .governs) (end .cursor) (end .i) (end .inv) (c .loop-test .left) in
     rw (← counted .ensures .value, ← counted .ensures .state) (all .0, (all .1, all .2))
 
 pub read-governs-spec : {M : Type 1} → statement M

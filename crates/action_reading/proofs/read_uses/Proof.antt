@@ -3,18 +3,18 @@ use Prim.Native.Nat.{_-_, _≤_}
 use borrow.Author.Needs.{needs}
 use native.Mathlib.Omega.{arith}
 use mathlib.Core.Path.{refl}
-use Rattle.actions.specs.Actions.{useLimit}
+use Rattle.actions.specs.Actions.{noUse, useLimit}
 use Rattle.lines.specs.Reading.{countRefusal}
 use Rattle.lines.specs.Answers.{stateOf}
 use Rattle.texts.specs.Keys.{usesKey}
-use Rattle.texts.specs.Actions.{noUse, readUse, readUses}
+use Rattle.texts.specs.Actions.{readUse, readUses}
 use Rattle.reading.specs.Runs.{field-bound}
-use Rattle.reading.specs.Filling.{Filling, filling-start, filling-next, filling-done}
+use Rattle.reading.specs.Filling.{Listing, listing-start, listing-next, listing-done}
 use Rattle.action_reading.proofs.read_uses.Statement.{statement}
 use Rattle.action_reading.proofs.read_uses.Tie as tie
 
 abbrev Inv-loop : tie.InvT-loop
-Inv-loop s used uses₀ cursor₀ i₀ uses cursor i = Filling s readUse useLimit noUse (stateOf s cursor₀) used uses cursor i
+Inv-loop s used uses₀ cursor₀ i₀ uses cursor i = Listing s readUse useLimit noUse (stateOf s cursor₀) used uses cursor i
 
 abbrev μ-loop : tie.MeasureT-loop
 μ-loop s used uses₀ cursor₀ i₀ uses cursor i = used - i
@@ -32,7 +32,7 @@ read-count-requires : tie.Need-read-count-requires Inv-loop μ-loop
 read-count-requires c κs = search needs
 
 loop-holds : tie.Need-loop-holds Inv-loop μ-loop
-loop-holds c = filling-start _ _ refl refl
+loop-holds c = listing-start _ _ refl refl
 
 read-use-requires : tie.Need-read-use-requires Inv-loop μ-loop
 read-use-requires c κs = search needs
@@ -53,7 +53,7 @@ loop-again : tie.Need-loop-again Inv-loop μ-loop
 loop-again c =
     let before = c .before .before .before .before .loop in
     let one = c .before .before .read-use in
-    filling-next (before .uses) (before .cursor) (before .i) (one .result .usage) (one .result .cursor) (before .inv)
+    listing-next (before .uses) (before .cursor) (before .i) (one .result .usage) (one .result .cursor) (before .inv)
     (c .before .before .before .loop-test .taken) (count-bound (c .before .before .before .before .before .before)) (one .ensures)
 
 returns : tie.Need-returns Inv-loop μ-loop
@@ -61,7 +61,7 @@ unfolding readUses
 returns c =
     let end = c .before .loop in
     let counted = c .before .before .before .read-count in
-    let all = filling-done (end .uses) (end .cursor) (end .i) (end .inv) (c .loop-test .left) in
+    let all = listing-done (end .uses) (end .cursor) (end .i) (end .inv) (c .loop-test .left) in
     rw (← counted .ensures .value, ← counted .ensures .state) (all .0, (all .1, all .2))
 
 pub read-uses-spec : {M : Type 1} → statement M

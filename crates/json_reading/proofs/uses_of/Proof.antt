@@ -7,9 +7,8 @@ use mathlib.Core.Logic.{⊎-elim}
 use native.Mathlib.Omega.{arith}
 use borrow.Author.Needs.{needs}
 use lib.ListN.{take, getD, set, replicate}
-use Rattle.actions.specs.Actions.{useLimit}
+use Rattle.actions.specs.Actions.{noUse, useLimit}
 use Rattle.actions.specs.declared.Usage.{Usage}
-use Rattle.texts.specs.Actions.{noUse}
 use Rattle.json_reading.specs.Answers.{usesTaken, usesFrom}
 use Rattle.json_reading.proofs.Fillings.{filled-next, filled-whole, uses-length, read-at, write-at, execute-at}
 use Rattle.json_reading.proofs.uses_of.Statement.{statement}

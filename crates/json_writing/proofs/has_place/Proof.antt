@@ -10,10 +10,9 @@ use lib.Dec.{leb}
 use lib.ListN.{length, getD}
 use Rattle.lists.specs.Lists.{every}
 use Rattle.lists.specs.Loops.{Loop, start, turn, next, done, length-mapped}
-use Rattle.actions.specs.Actions.{useLimit, usesOf}
+use Rattle.actions.specs.Actions.{noUse, useLimit, usesOf}
 use Rattle.actions.specs.declared.Usage.{Usage}
 use Rattle.actions.specs.declared.Action.{Action}
-use Rattle.texts.specs.Actions.{noUse}
 use Rattle.json_actions.specs.Actions.{jsonHolds}
 use Rattle.json_writing.proofs.has_place.Statement.{statement}
 use Rattle.json_writing.proofs.has_place.Tie as tie

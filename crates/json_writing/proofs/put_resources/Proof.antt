@@ -6,8 +6,7 @@ use native.Mathlib.Omega.{arith}
 use borrow.Author.Needs.{needs}
 use lib.ListN.{length, length-take}
 use Rattle.lists.specs.Loops.{length-mapped}
-use Rattle.actions.specs.Actions.{useLimit, usesOf}
-use Rattle.texts.specs.Actions.{noUse}
+use Rattle.actions.specs.Actions.{noUse, useLimit, usesOf}
 use Rattle.sheets.specs.Laws.{writing-start, writing-length}
 use Rattle.json_writing.specs.Pieces.{resourcesText}
 use Rattle.json_writing.proofs.Listing.{Listing, listing-passed, listing-room, listing-next, listing-done}

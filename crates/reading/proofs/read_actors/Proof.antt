@@ -14,12 +14,12 @@ use Rattle.register.specs.declared.Actor.{Actor}
 use Rattle.lines.specs.Answers.{stateOf}
 use Rattle.texts.specs.Registers.{readActor, readActors, heldActors}
 use Rattle.reading.specs.Runs.{field-bound}
-use Rattle.reading.specs.Filling.{Filling, filling-start, filling-next, filling-done}
+use Rattle.reading.specs.Filling.{Listing, listing-start, listing-next, listing-done}
 use Rattle.reading.proofs.read_actors.Statement.{statement}
 use Rattle.reading.proofs.read_actors.Tie as tie
 
 abbrev Inv-loop : tie.InvT-loop
-Inv-loop s count list₀ cursor₀ i₀ list cursor i = Filling s readActor actorLimit noActor (stateOf s cursor₀) count list cursor i
+Inv-loop s count list₀ cursor₀ i₀ list cursor i = Listing s readActor actorLimit noActor (stateOf s cursor₀) count list cursor i
 
 abbrev μ-loop : tie.MeasureT-loop
 μ-loop s count list₀ cursor₀ i₀ list cursor i = count - i
@@ -37,7 +37,7 @@ read-count-requires : tie.Need-read-count-requires Inv-loop μ-loop
 read-count-requires c κs = search needs
 
 loop-holds : tie.Need-loop-holds Inv-loop μ-loop
-loop-holds c = filling-start _ _ refl refl
+loop-holds c = listing-start _ _ refl refl
 
 read-actor-requires : tie.Need-read-actor-requires Inv-loop μ-loop
 read-actor-requires c κs = search needs
@@ -58,7 +58,7 @@ loop-again : tie.Need-loop-again Inv-loop μ-loop
 loop-again c =
     let before = c .before .before .before .before .loop in
     let one = c .before .before .read-actor in
-    filling-next (before .list) (before .cursor) (before .i) (one .result .actor) (one .result .cursor) (before .inv) (c .before .before .before .loop-test .taken) (count-bound (c .before .before .before .before .before .before)) (one .ensures)
+    listing-next (before .list) (before .cursor) (before .i) (one .result .actor) (one .result .cursor) (before .inv) (c .before .before .before .loop-test .taken) (count-bound (c .before .before .before .before .before .before)) (one .ensures)
 
 -- a list with its count as the answer holds it
 held : (list : List Actor) (n : ℕ) (things : List Actor) → list ≡ things ++ replicate (actorLimit - length things) noActor → n ≡ length things →
@@ -72,7 +72,7 @@ returns c =
     let counted = c .before .before .before .read-count in
     let s = c .before .before .before .before .before .before .args .s .now in
     let things = many readActor (counted .result .value) (stateOf s (counted .result .cursor)) .value in
-    let all = filling-done (end .list) (end .cursor) (end .i) (end .inv) (c .loop-test .left) in
+    let all = listing-done (end .list) (end .cursor) (end .i) (end .inv) (c .loop-test .left) in
     rw (← counted .ensures .value, ← counted .ensures .state) (held (end .list) (counted .result .value) things (all .0) (all .1), all .2)
 
 pub read-actors-spec : {M : Type 1} → statement M

@@ -14,12 +14,12 @@ use Rattle.register.specs.declared.Claim.{Claim}
 use Rattle.lines.specs.Answers.{stateOf}
 use Rattle.texts.specs.Registers.{readClaim, readClaims, heldClaims}
 use Rattle.reading.specs.Runs.{field-bound}
-use Rattle.reading.specs.Filling.{Filling, filling-start, filling-next, filling-done}
+use Rattle.reading.specs.Filling.{Listing, listing-start, listing-next, listing-done}
 use Rattle.reading.proofs.read_claims.Statement.{statement}
 use Rattle.reading.proofs.read_claims.Tie as tie
 
 abbrev Inv-loop : tie.InvT-loop
-Inv-loop s count list₀ cursor₀ i₀ list cursor i = Filling s readClaim claimLimit noClaim (stateOf s cursor₀) count list cursor i
+Inv-loop s count list₀ cursor₀ i₀ list cursor i = Listing s readClaim claimLimit noClaim (stateOf s cursor₀) count list cursor i
 
 abbrev μ-loop : tie.MeasureT-loop
 μ-loop s count list₀ cursor₀ i₀ list cursor i = count - i
@@ -40,7 +40,7 @@ none-requires : tie.Need-none-requires Inv-loop μ-loop
 none-requires c κs = search needs
 
 loop-holds : tie.Need-loop-holds Inv-loop μ-loop
-loop-holds c = rw (c .before .none .ensures) (filling-start _ _ refl refl)
+loop-holds c = rw (c .before .none .ensures) (listing-start _ _ refl refl)
 
 read-claim-requires : tie.Need-read-claim-requires Inv-loop μ-loop
 read-claim-requires c κs = search needs
@@ -61,7 +61,7 @@ loop-again : tie.Need-loop-again Inv-loop μ-loop
 loop-again c =
     let before = c .before .before .before .before .loop in
     let one = c .before .before .read-claim in
-    filling-next (before .list) (before .cursor) (before .i) (one .result .claim) (one .result .cursor) (before .inv) (c .before .before .before .loop-test .taken) (count-bound (c .before .before .before .before .before .before .before)) (one .ensures)
+    listing-next (before .list) (before .cursor) (before .i) (one .result .claim) (one .result .cursor) (before .inv) (c .before .before .before .loop-test .taken) (count-bound (c .before .before .before .before .before .before .before)) (one .ensures)
 
 -- a list with its count as the answer holds it
 held : (list : List Claim) (n : ℕ) (things : List Claim) → list ≡ things ++ replicate (claimLimit - length things) noClaim → n ≡ length things →
@@ -75,7 +75,7 @@ returns c =
     let counted = c .before .before .before .before .read-count in
     let s = c .before .before .before .before .before .before .before .args .s .now in
     let things = many readClaim (counted .result .value) (stateOf s (counted .result .cursor)) .value in
-    let all = filling-done (end .list) (end .cursor) (end .i) (end .inv) (c .loop-test .left) in
+    let all = listing-done (end .list) (end .cursor) (end .i) (end .inv) (c .loop-test .left) in
     rw (← counted .ensures .value, ← counted .ensures .state) (held (end .list) (counted .result .value) things (all .0) (all .1), all .2)
 
 pub read-claims-spec : {M : Type 1} → statement M

@@ -8,8 +8,8 @@ use borrow.Author.Needs.{needs}
 use lib.ListN.{getD}
 use Rattle.lists.specs.Fills.{Filling, filling-start, filling-next, filling-end}
 use Rattle.register.specs.Limits.{resourceLimit}
-use Rattle.actions.specs.Actions.{useLimit}
-use Rattle.uses.specs.Passes.{noUse, usedSpot, usesBy}
+use Rattle.actions.specs.Actions.{noUse, useLimit}
+use Rattle.uses.specs.Passes.{usedSpot, usesBy}
 use Rattle.uses.specs.declared.Uses.{Uses}
 use Rattle.uses.proofs.uses_of.Statement.{statement}
 use Rattle.uses.proofs.uses_of.Tie as tie
