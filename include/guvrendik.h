@@ -225,7 +225,7 @@ typedef struct guvrendik_soundness {
  * stands; a parent has DELEGATE; a machine grants only where it has an owner, and never right 13, 15 or 16; no claim has more
  * than 16 hops; the holder of a claim with a parent holds no claim higher on the chain and did not grant its root.
  * No refusal: every register is answered.
- * Stack: 53,000 bytes. */
+ * Stack: 55,000 bytes. */
 guvrendik_soundness guvrendik_sound(guvrendik_register r);
 
 /* ---- Changes ---- */
@@ -248,7 +248,7 @@ typedef struct guvrendik_granted {
  * right; 14 it has less weight; 15 more than 16 hops; 16 a circle.
  * Refused for no other cause: a claim of weight 0, whose expiry has passed or is later than its parent's, is granted.
  * Accepted, everything but the new claim and the count of claims is as it came, also what stands past the counts.
- * Stack: 108,000 bytes. */
+ * Stack: 96,000 bytes. */
 guvrendik_granted guvrendik_grant(guvrendik_register r, guvrendik_claim c, uint64_t moment);
 
 /* The answer of guvrendik_revoke, guvrendik_clear_resource and guvrendik_clear_expired. */
@@ -268,7 +268,7 @@ typedef struct guvrendik_revoked {
  * Accepted, every place past the count of claims holds a claim of all zeros: nothing of a withdrawn claim is left.
  * Any two of this call and the two below leave the same register in either order, but a revocation that comes second may be told 17: the
  * first took its claim.
- * Stack: 89,000 bytes. */
+ * Stack: 91,000 bytes. */
 guvrendik_revoked guvrendik_revoke(guvrendik_register r, uint32_t revoker, uint32_t claim);
 
 /* Clears a resource: every claim on it goes, of whatever weight and expiry. The rest keep their order.
@@ -279,7 +279,7 @@ guvrendik_revoked guvrendik_revoke(guvrendik_register r, uint32_t revoker, uint3
  * is not its keeper, though it may be the keeper's machine or the keeper of another resource.
  * Where no claim is on it, the call is accepted and none goes. Accepted, every place past the count of claims holds a claim of all
  * zeros.
- * Stack: 90,000 bytes. */
+ * Stack: 91,000 bytes. */
 guvrendik_revoked guvrendik_clear_resource(guvrendik_register r, uint32_t caller, uint32_t resource);
 
 /* Clears old claims: every claim goes that has expired at the moment, its expiry not 0 and not above it, and every claim that has such a
@@ -291,7 +291,7 @@ guvrendik_revoked guvrendik_clear_resource(guvrendik_register r, uint32_t caller
  * not human.
  * Where nothing has expired, as at 0, the call is accepted and none goes. Accepted, every place past the count of claims holds a claim of
  * all zeros.
- * Stack: 89,000 bytes. */
+ * Stack: 91,000 bytes. */
 guvrendik_revoked guvrendik_clear_expired(guvrendik_register r, uint32_t caller, uint64_t moment);
 
 /* ---- The gate ---- */
@@ -349,7 +349,7 @@ typedef struct guvrendik_verdict {
  *  a  the action, every field in the range that guvrendik_action gives
  * Refusals, the first that applies: 1 register not sound; 2 a field or count of the action out of range; 3 actor not in the
  * register. Then there are no violations and no hop counts.
- * Stack: 75,000 bytes. */
+ * Stack: 70,000 bytes. */
 guvrendik_verdict guvrendik_gate(guvrendik_register r, guvrendik_action a);
 
 typedef struct guvrendik_plan {
@@ -377,7 +377,7 @@ typedef struct guvrendik_plan_verdict {
  *  p  the plan
  * Refusals, the first that applies: 1 register not sound; 2 more than 16 actions; then the first action that is refused with 2
  * or 3, as by guvrendik_gate, stops the whole plan, also one that would be cancelled. Then there are no judgements.
- * Stack: 71,000 bytes. */
+ * Stack: 77,000 bytes. */
 guvrendik_plan_verdict guvrendik_judge_plan(guvrendik_register r, guvrendik_plan p);
 
 /* ---- Paths ---- */
@@ -419,7 +419,7 @@ typedef struct guvrendik_register_read {
  * Refusals: the first failing line decides between 19, not of the form or a number or path outside its field's range, and 20, a
  * count above its limit, whatever its length; a text that ends early, and bytes after the end, fail as the next line with 19.
  * Soundness comes last, with 1.
- * Stack: 116,000 bytes. */
+ * Stack: 86,000 bytes. */
 guvrendik_register_read guvrendik_read_register(const uint8_t *text, size_t text_len);
 
 /* The answer of a call that writes a text. */
@@ -435,7 +435,7 @@ typedef struct guvrendik_written {
  *                     every register. May be NULL where buffer_len is 0.
  * Refusals, the first that applies: 1 register not sound; 21 buffer too short. Then the buffer keeps every byte.
  * Accepted, the buffer keeps its bytes past the text. No zero byte is added.
- * Stack: 98,000 bytes. */
+ * Stack: 100,000 bytes. */
 guvrendik_written guvrendik_write_register(guvrendik_register r, uint8_t *buffer, size_t buffer_len);
 
 /* The answer of guvrendik_read_action. */
@@ -461,7 +461,7 @@ guvrendik_action_read guvrendik_read_action(const uint8_t *text, size_t text_len
  *                              are enough for every verdict.
  * Refusal: 21 buffer too short. Then the buffer keeps every byte. A text that is not read is no refusal of this call: its answer
  * is the text with verdict=stopped.
- * Stack: 100,000 bytes. */
+ * Stack: 79,000 bytes. */
 guvrendik_written guvrendik_verdict_text(const uint8_t *register_text, size_t register_len, const uint8_t *action_text,
                                          size_t action_len, uint8_t *buffer, size_t buffer_len);
 

@@ -15,6 +15,8 @@ A definition is a lemma where its type, behind its arguments, speaks of values: 
 takes values (`Place l c`, a record with values for parameters). A type that takes nothing but types (`Bool`, `List ℕ`, `Read Register`, `Type 0`)
 is that of a definition.
 
+A public name of specs/ stands once there, and what stands in specs/ has a user: another definition of its file, or a file that imports and names it.
+
 docs/RULES.md names a definition or a theorem, in backticks, as `crate/File: name` (`rules/Sound: drawnFrom`, `verdicts/TheoremsPlans: plan-gated`), several
 with commas between (`rules/Sound: alone, over`), and a file alone as `crate/File`. The word crate itself stands for any. What runs a rule is a folder
 below tests/cases, as `cases/name`, or the beginning of a line that tests/calls prints, in quotes.
@@ -279,6 +281,24 @@ class Tree:
             if module and module.group(2) == "specs":
                 self.importers.setdefault((module.group(1), "specs", module.group(3)), set()).add((crate, folder, name))
 
+    def used(self):
+        """What of specs/ some file imports and names, as (crate, file, name)."""
+        found = set()
+        for crate in self.crates:
+            texts = [t for folder in ("specs", "proofs") for t in self.read_all(f"crates/{crate}/{folder}", ".antt").values()]
+            for text in texts + list(self.sources[crate].values()):
+                lines = [line.strip() for line in text.splitlines()]
+                uses = [USE.match(line) for line in lines if line.startswith(("use ", "ghost use "))]
+                words = {w.rstrip(".") for line in lines if not line.startswith(("use ", "ghost use ", "--", "//")) for w in TOKEN.findall(line)}
+                for module, names, alias in (u.groups() for u in uses if u and MODULE.match(u.group(1))):
+                    own, folder, file = MODULE.match(module).groups()
+                    for name in filter(None, (n.strip() for n in (names or "").split(","))):
+                        there, _, here = name.partition(" as ")
+                        if (here or there).strip("_") in words:
+                            found.add((own, file, there))
+                    found |= {(own, file, w.partition(".")[2]) for w in words if alias and w.startswith(alias + ".")}
+        return found
+
     def declared(self, crate):
         for text in self.sources[crate].values():
             for found in re.finditer(r"^pub (?:struct|enum) (\w+) \{(.*?)^\}", re.sub(r"//.*", "", text), re.M | re.S):
@@ -504,6 +524,7 @@ class Belief:
             self.faults.append(f"{via} names {what}, which stands nowhere")
         self.check_marks()
         self.check_names()
+        self.check_used()
         self.check_reached()
         self.check_believed()
         self.check_needed()
@@ -540,6 +561,16 @@ class Belief:
         for name, items in sorted(named.items()):
             if any(item.pub for item in items):
                 self.holds(len(items) == 1, f"{name} stands more than once in specs/: {', '.join(item.file.label() for item in items)}")
+
+    def check_used(self):
+        """What stands in specs/ has a user: another definition of its file, or a file that imports it."""
+        used = self.tree.used()
+        for file in self.tree.spec_files():
+            rows = [set(TOKEN.findall(uncommented(line))) for line in file.text.splitlines()]
+            for item in file.items:
+                word = item.name.strip("_")
+                own = any({word, word + "."} & words for number, words in enumerate(rows, 1) if number not in item.rows)
+                self.holds(own or (file.crate, file.name, item.name) in used, f"{item.label()} has no user")
 
     def check_reached(self):
         for item, via in sorted(self.reached.items(), key=lambda pair: pair[0].label()):
@@ -684,6 +715,8 @@ BROKEN = (
     ("a definition that nothing reaches put into a believed file",
      append("crates/rules/specs/Sound.antt", "\npub unsound : Register → Bool\nunsound r = not (sound r)\n"),
      "unsound", "rules/Sound: unsound stands in a believed file, and nothing reaches it"),
+    ("a law that nothing uses", append("crates/rules/specs/Laws.antt", "\npub sound-twice : (r : Register) → sound r ≡ sound r\nsound-twice r = refl\n"),
+     "sound-twice", "rules/Laws: sound-twice has no user"),
     ("a name that stands twice", append("crates/rules/specs/Laws.antt", "\ndrawnFrom : ℕ\ndrawnFrom = 0\n"),
      "drawnFrom", "drawnFrom stands more than once in specs/: rules/"),
     ("a rule that names what does not stand", append(RULES, "\n`rules/Sound: soundly`\n"),

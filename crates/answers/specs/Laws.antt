@@ -31,9 +31,7 @@ use Rattle.answers.specs.declared.PlanAnswer.{PlanAnswer}
 use Rattle.answers.specs.declared.RegisterAnswer.{RegisterAnswer}
 use Rattle.answers.specs.declared.ActionAnswer.{ActionAnswer}
 use Rattle.answers.specs.declared.JsonAnswer.{JsonAnswer}
-use Rattle.answers.specs.Answers.{containment, yesNumber}
-use Rattle.answers.specs.Answers.{acceptedNumber, refusalNumber, grantAnswer, revokeAnswer}
-use Rattle.answers.specs.Answers.{decisionNumber, stopNumber, violationList, gateAnswer, judgementList, planAnswer, registerAnswer, actionAnswer, jsonAnswer}
+use Rattle.answers.specs.Answers.{containment, yesNumber, acceptedNumber, refusalNumber, grantAnswer, revokeAnswer, decisionNumber, stopNumber, violationList, gateAnswer, judgementList, planAnswer, registerAnswer, actionAnswer, jsonAnswer}
 use Rattle.answers.specs.declared.Containment.{Containment}
 
 -- the same by the one answer that tells both

@@ -6,7 +6,7 @@ use Prim.Native.Nat.{ℕ, _+_, _≤_, _<_}
 use native.Mathlib.Numerals.{add-one}
 use native.Mathlib.Omega.{arith}
 use borrow.Author.Tests.{ltb-true, ltb-false}
-use lib.Dec.{eqb, ltb}
+use lib.Dec.{ltb}
 use lib.ListN.{length, take, set}
 use lib.Seq.{take-suc-set, take-all, set-out}
 use Rattle.lists.specs.Tests.{cases}
@@ -17,8 +17,7 @@ use Rattle.register.specs.declared.Register.{Register}
 use Rattle.rules.specs.Sound.{worldOf}
 use Rattle.rules.specs.Sameness.{world-same, sound-same}
 use Rattle.refusals.specs.Refusals.{outcomeOf, isAccepted}
-use Rattle.changes.specs.Changes.{worldIn, standing, worldTests, grantTests, appended, granted, revokeTests, clearResourceTests, clearExpiredTests, leftOf, holding}
-use Rattle.changes.specs.Changes.{Withdrawal, revoke, clearResource, clearExpired, names, withdrawTests, withdrawn}
+use Rattle.changes.specs.Changes.{worldIn, standing, worldTests, grantTests, appended, granted, revokeTests, clearResourceTests, clearExpiredTests, leftOf, holding, Withdrawal, revoke, clearResource, clearExpired, names, withdrawTests, withdrawn}
 
 -- one more behind the first n of two lists that agree so far and are as long as each other
 take-set-same : (l k : List Claim) (n : ℕ) (c : Claim) → length l ≡ length k → take n l ≡ take n k

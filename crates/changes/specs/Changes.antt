@@ -15,8 +15,7 @@ use Rattle.rules.specs.Sound.{World, worldOf, sound, claimFits, namesStand, roo
 use Rattle.refusals.specs.Refusals.{Test, outcomeOf, isAccepted}
 use Rattle.changes.specs.declared.Granted.{Granted}
 use Rattle.changes.specs.declared.Revoked.{Revoked}
-use Rattle.refusals.specs.declared.Refusal.the-variants.{Unsound, OutOfRange, Unknown, IdStands, Full, NotKeeper, Ownerless, MachineBarred, ParentAbsent, ParentNotHeld}
-use Rattle.refusals.specs.declared.Refusal.the-variants.{ParentDead, NoDelegate, RightLacking, WeightAbove, TooManyHops, Circle, ClaimAbsent, NoGrantor}
+use Rattle.refusals.specs.declared.Refusal.the-variants.{Unsound, OutOfRange, Unknown, IdStands, Full, NotKeeper, Ownerless, MachineBarred, ParentAbsent, ParentNotHeld, ParentDead, NoDelegate, RightLacking, WeightAbove, TooManyHops, Circle, ClaimAbsent, NoGrantor}
 use Rattle.rules.specs.Struck.{strike}
 
 -- the world of a register, and its claims latest first

@@ -17,10 +17,10 @@ use Rattle.rules.specs.Sound.{World, claimFits}
 
 -- the world by the first n of the columns of the actors, and the first m of those of the resources
 abbrev pub worldBy : List ℕ → List ℕ → List ℕ → ℕ → List ℕ → List ℕ → ℕ → World
-worldBy ids kinds owners n reports keepers m = record {
-  known = λ x. any (eqb x) (take n ids);
-  machine = λ x. beside (take n ids) (take n kinds) x machineKind;
-  ownerless = λ x. beside (take n ids) (take n owners) x 0;
+worldBy names kinds owners n reports keepers m = record {
+  known = λ x. any (eqb x) (take n names);
+  machine = λ x. beside (take n names) (take n kinds) x machineKind;
+  ownerless = λ x. beside (take n names) (take n owners) x 0;
   listed = λ x. any (eqb x) (take m reports);
   keeps = λ g x. beside (take m reports) (take m keepers) x g;
 }

@@ -1,6 +1,6 @@
 -- Laws: A claim by itself, judged by what is looked up of it in the columns, is judged as 01 says: by the world of the actors and resources that they
 -- are the columns of, where those have distinct ids. Assumes nothing.
-use mathlib.Core.Path.{_≡_, refl, sym, ap, _∙_}
+use mathlib.Core.Path.{_≡_, refl, sym, ap, _∙_, fun-ext}
 use mathlib.Core.Bool.{Bool, true, false, not, _&&_, _||_}
 use mathlib.Core.List.{List, [], _∷_, map}
 use Prim.Native.Nat.{ℕ, _≤_}
@@ -11,16 +11,20 @@ use lib.ListN.{take, getD, List·getD-map}
 use Rattle.lists.specs.Lists.{any, ands}
 use Rattle.rights.specs.Rights.{barsMachine}
 use Rattle.register.specs.Limits.{claimLimit, machineKind}
-use Rattle.register.specs.Register.{noActor, noResource}
+use Rattle.register.specs.Register.{actorsOf, resourcesOf, noActor, noResource}
 use Rattle.register.specs.declared.Actor.{Actor}
 use Rattle.register.specs.declared.Resource.{Resource}
+use Rattle.register.specs.declared.Actors.{Actors}
+use Rattle.register.specs.declared.Resources.{Resources}
 use Rattle.register.specs.declared.Claim.{Claim}
-use Rattle.columns.specs.Columns.{actorId, ownerOf, resourceId, keeperOf, latestPlace, actorKind}
-use Rattle.columns.specs.Laws.{place-cases, place-found, nowhere-none, place-among, among-natural}
+use Rattle.columns.specs.Columns.{actorId, ownerOf, resourceId, keeperOf, latestPlace, actorKind, beside, actorsTo, resourcesTo, actorColumns, resourceColumns}
+use Rattle.columns.specs.Laws.{place-cases, place-found, nowhere-none, place-among, among-natural, beside-natural, up-to-first}
+use Rattle.columns.specs.declared.ActorColumns.{ActorColumns}
+use Rattle.columns.specs.declared.ResourceColumns.{ResourceColumns}
 use Rattle.lookup.specs.Finding.{placeNumber}
 use Rattle.lookup.specs.Asked.{askedAt, asked-natural}
-use Rattle.rules.specs.Sound.{worldOf, distinct, claimFits, namesStand, rootKept, machineMay, alone}
-use Rattle.claims.specs.Alone.{placeIn, foundIn, aloneAt}
+use Rattle.rules.specs.Sound.{worldOf, isMachine, distinct, claimFits, namesStand, rootKept, machineMay, alone}
+use Rattle.claims.specs.Alone.{worldBy, placeIn, foundIn, aloneAt}
 
 -- what is looked up by the number x among the first n of a list
 module _ {A : Type 0} (id : A → ℕ) (l : List A) (n x : ℕ) (short : n ≤ claimLimit) where
@@ -84,3 +88,28 @@ alone-natural actors n resources m c few apart short distant =
       ← field-asked actorId actors n (c .grantor) few apart noActor refl ownerOf refl 0 placed,
     ))
     (λ placed. rw (← field-asked resourceId resources m (c .resource) short distant noResource refl keeperOf refl (c .grantor) placed)))
+
+-- the world by the columns of lists is that of those lists
+world-columns : (l : List Actor) (n : ℕ) (k : List Resource) (m : ℕ)
+    → worldBy (map actorId l) (map actorKind l) (map ownerOf l) n (map resourceId k) (map keeperOf k) m ≡ worldOf (take n l) (take m k)
+world-columns l n k m =
+    let known : _≡_ {A = ℕ → Bool} (λ x. any (eqb x) (take n (map actorId l))) (λ x. any (λ a. eqb x (a .id)) (take n l)) =
+    fun-ext (λ x. among-natural actorId x n l) in
+    let machine : _≡_ {A = ℕ → Bool} (λ x. beside (take n (map actorId l)) (take n (map actorKind l)) x machineKind) (isMachine (take n l)) =
+    fun-ext (λ x. beside-natural actorId actorKind x machineKind n l) in
+    let ownerless : _≡_ {A = ℕ → Bool} (λ x. beside (take n (map actorId l)) (take n (map ownerOf l)) x 0) (λ x. any (λ a. eqb x (a .id) && eqb 0 (a .owner)) (take n l)) =
+    fun-ext (λ x. beside-natural actorId ownerOf x 0 n l) in
+    let listed : _≡_ {A = ℕ → Bool} (λ x. any (eqb x) (take m (map resourceId k))) (λ x. any (λ o. eqb x (o .id)) (take m k)) =
+    fun-ext (λ x. among-natural resourceId x m k) in
+    let keeps : _≡_ {A = ℕ → ℕ → Bool} (λ g x. beside (take m (map resourceId k)) (take m (map keeperOf k)) x g) (λ g x. any (λ o. eqb x (o .id) && eqb g (o .keeper)) (take m k)) =
+    fun-ext (λ g. fun-ext (λ x. beside-natural resourceId keeperOf x g m k)) in
+    rw (known, machine, ownerless, listed, keeps)
+
+-- and that by the columns of the actors and resources that stand is theirs
+pub world-natural : (a : Actors) (o : Resources) {people : ActorColumns} {things : ResourceColumns}
+    → people ≡ actorColumns (actorsTo a .list) → things ≡ resourceColumns (resourcesTo o .list)
+    → worldBy (people .names) (people .kinds) (people .owners) (a .count) (things .reports) (things .keepers) (o .count) ≡ worldOf (actorsOf a) (resourcesOf o)
+world-natural a o of-people of-things =
+    rw (of-people, of-things)
+    (world-columns (actorsTo a .list) (a .count) (resourcesTo o .list) (o .count)
+    ∙ rw (up-to-first noActor (a .count) (a .list), up-to-first noResource (o .count) (o .list)))

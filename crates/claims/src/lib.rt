@@ -26,11 +26,11 @@ pub fn claim_fits(c: Claim) -> bool
 }
 
 // Whether every actor and resource that a claim names stands, among the first `n` actors and the first `m` resources.
-pub fn names_stand<'a>(ids: &'a [u32], n: usize, reports: &'a [u32], m: usize, c: Claim) -> bool
-    ensures { λ r. ⌜ r ≡ namesStand (worldBy (now (ids .entry)) [] [] n (now (reports .entry)) [] m) c ⌝ }
+pub fn names_stand<'a>(names: &'a [u32], n: usize, reports: &'a [u32], m: usize, c: Claim) -> bool
+    ensures { λ r. ⌜ r ≡ namesStand (worldBy (now (names .entry)) [] [] n (now (reports .entry)) [] m) c ⌝ }
 {
-    columns::is_among(ids, n, c.grantor)
-        & columns::is_among(ids, n, c.holder)
+    columns::is_among(names, n, c.grantor)
+        & columns::is_among(names, n, c.holder)
         & columns::is_among(reports, m, c.resource)
 }
 
@@ -67,7 +67,7 @@ pub fn stands_alone(
 }
 
 // (b): whether a claim is drawn from its parent.
-pub fn drawn_from(p: Claim, c: Claim) -> bool
+fn drawn_from(p: Claim, c: Claim) -> bool
     ensures { λ r. ⌜ r ≡ drawnFrom p c ⌝ }
 {
     if p.holder != c.grantor {

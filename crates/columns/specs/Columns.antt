@@ -1,13 +1,16 @@
 -- Working: The columns of a register's lists, and chains as places of columns. They are shaped for the code; what they are in 01's words is proved in
 -- Laws (`chain-natural`).
 use mathlib.Core.Bool.{Bool, false, _&&_, _||_, cond}
-use mathlib.Core.List.{List, [], _∷_, map}
-use Prim.Native.Nat.{ℕ, zero, suc}
+use mathlib.Core.List.{List, [], _∷_, _++_, map}
+use Prim.Native.Nat.{ℕ, zero, suc, _-_}
 use lib.Dec.{eqb, ltb, leb}
-use lib.ListN.{length, getD}
+use lib.ListN.{length, take, getD, replicate}
 use Rattle.register.specs.Limits.{hopLimit}
+use Rattle.register.specs.Register.{noActor, noResource}
 use Rattle.register.specs.Chain.{chain, current, weighing}
 use Rattle.register.specs.declared.Actor.{Actor}
+use Rattle.register.specs.declared.Actors.{Actors}
+use Rattle.register.specs.declared.Resources.{Resources}
 use Rattle.register.specs.declared.Resource.{Resource}
 use Rattle.register.specs.declared.Claim.{Claim}
 use Rattle.columns.specs.declared.ActorColumns.{ActorColumns}
@@ -59,12 +62,23 @@ weightOf c = c .weight
 abbrev pub expiryOf : Claim → ℕ
 expiryOf c = c .expiry
 
+-- the first n of a list, with the same behind them as far as the list goes
+unfoldable pub upTo : {A : Type 0} → A → ℕ → List A → List A
+upTo none n l = take n l ++ replicate (length l - n) none
+
+-- the actors, the resources that stand, with zeros behind them
+abbrev pub actorsTo : Actors → Actors
+actorsTo k = record { list = upTo noActor (k .count) (k .list); count = k .count }
+
+abbrev pub resourcesTo : Resources → Resources
+resourcesTo k = record { list = upTo noResource (k .count) (k .list); count = k .count }
+
 -- the columns of a list of actors, of resources
 abbrev pub actorColumns : List Actor → ActorColumns
-actorColumns l = record { ids = map actorId l; kinds = map actorKind l; owners = map ownerOf l }
+actorColumns l = record { names = map actorId l; kinds = map actorKind l; owners = map ownerOf l }
 
 abbrev pub resourceColumns : List Resource → ResourceColumns
-resourceColumns l = record { ids = map resourceId l; keepers = map keeperOf l; publics = map publicOf l }
+resourceColumns l = record { reports = map resourceId l; keepers = map keeperOf l; publics = map publicOf l }
 
 -- the places below n of an array, the latest first
 unfoldable pub places : ℕ → List ℕ

@@ -1,13 +1,13 @@
 -- Laws: What columns say of the lists that they are the columns of, and what the definitions over columns say place by place. Assumes nothing.
 use mathlib.Core.Path.{_≡_, refl, sym, ap, _∙_, fun-ext}
 use mathlib.Core.Bool.{Bool, true, false, _&&_, _||_, or-false}
-use mathlib.Core.List.{List, [], _∷_, map, reverse-append}
-use Prim.Native.Nat.{ℕ, zero, suc, _≤_, _<_, min}
+use mathlib.Core.List.{List, [], _∷_, _++_, map, append-nil, reverse-append}
+use Prim.Native.Nat.{ℕ, zero, suc, _-_, _≤_, _<_, min}
 use native.Mathlib.Omega.{arith}
 use borrow.Author.Tests.{lt-ltb, le-ltb, eq-eqb, ne-eqb, le-leb, lt-leb, ltb-true, ltb-false, eqb-true, eqb-false, leb-true, leb-false}
 use lib.Dec.{eqb, ltb, leb}
-use lib.ListN.{length, take, getD, length-map, List·getD-map, List·getD-eq-default}
-use lib.Seq.{take-suc, take-all}
+use lib.ListN.{length, take, getD, replicate, length-map, length-append, length-take, length-replicate, List·getD-map, List·getD-eq-default}
+use lib.Seq.{take-suc, take-all, take-append-seam, getD-take}
 use Rattle.lists.specs.Tests.{cases, and-left, and-right, and-both, or-left, or-right}
 use Rattle.lists.specs.Lists.{any, every}
 use Rattle.lists.specs.Each.{every-map, any-append}
@@ -19,7 +19,7 @@ use Rattle.register.specs.declared.Claim.{Claim}
 use Rattle.columns.specs.declared.Hops.the-variants.{Up, Beyond}
 use Rattle.columns.specs.declared.Place.{Place}
 use Rattle.columns.specs.declared.Place.the-variants.{At, Nowhere}
-use Rattle.columns.specs.Columns.{claimId, parentOf, grantorOf, holderOf, weightOf, expiryOf, places, latestPlace, beside, chainPlaces, stepsUp, currentAt, placesUp}
+use Rattle.columns.specs.Columns.{claimId, parentOf, grantorOf, holderOf, weightOf, expiryOf, upTo, places, latestPlace, beside, chainPlaces, stepsUp, currentAt, placesUp}
 
 and-none : (a b : Bool) → b ≡ false → a && b ≡ false
 and-none true b e = e
@@ -30,6 +30,29 @@ pub getD-inside : {A : Type 0} (l : List A) (i : ℕ) (d e : A) → i < length l
 getD-inside [] i d e h = absurd (omega arith)
 getD-inside (x ∷ l) zero d e h = refl
 getD-inside (x ∷ l) (suc i) d e h = getD-inside l i d e (omega arith)
+
+-- a list up to a count
+module _ {A : Type 0} (none : A) (n : ℕ) (l : List A) where
+  pub up-to-length : length (upTo none n l) ≡ length l
+  unfolding upTo
+  up-to-length = omega (arith, length-append (take n l) (replicate (length l - n) none), length-take n l, length-replicate (length l - n) none)
+
+  -- past its end there is nothing to put behind it
+  pub up-to-all : length l ≤ n → upTo none n l ≡ l
+  unfolding upTo
+  up-to-all h = let over : length l - n ≡ 0 = omega arith in rw (over, take-all n l h) (append-nil l)
+
+  -- the first are those of the list
+  pub up-to-first : take n (upTo none n l) ≡ take n l
+  unfolding upTo
+  up-to-first =
+      cases (leb n (length l))
+      (λ e. let long : length (take n l) ≡ n = omega (arith, leb-true n (length l) e, length-take n l) in
+      ap (λ k. take k (take n l ++ replicate (length l - n) none)) (sym long) ∙ take-append-seam (take n l) (replicate (length l - n) none))
+      (λ e. ap (take n) (up-to-all (omega (arith, leb-false n (length l) e))))
+
+  pub up-to-at : (i : ℕ) (d : A) → i < n → getD (upTo none n l) i d ≡ getD l i d
+  up-to-at i d h = sym (getD-take n (upTo none n l) i d h) ∙ ap (λ m. getD m i d) up-to-first ∙ getD-take n l i d h
 
 -- whether place n of a column is there and holds x
 abbrev holdsAt : List ℕ → ℕ → ℕ → Bool
@@ -304,13 +327,6 @@ module _ (cs : List Claim) where
       ap (λ f. every f (chainPlaces (map claimId cs) (map parentOf cs) n p)) (current-at moment)
       ∙ sym (every-map (λ j. getD cs j noClaim) (current moment) (chainPlaces (map claimId cs) (map parentOf cs) n p))
       ∙ ap (every (current moment)) (chain-natural n p)
-
-  -- what is found is the claim of that number, and the chain from it up begins with it
-  pub latest-place-found : (n x k : ℕ) → latestPlace (map claimId cs) n x ≡ At k
-      → (k < n) × (k < length cs) × (claimId (getD cs k noClaim) ≡ x)
-  latest-place-found n x k q =
-      let found = place-found (map claimId cs) x n k q in
-      (found .0, omega (arith, found .1, length-map cs claimId), sym (List·getD-map claimId cs k noClaim) ∙ found .2)
 
   pub chain-found : (n x k : ℕ) → (x ≡ 0 → ⊥) → latestPlace (map claimId cs) n x ≡ At k
       → chain claimId parentOf (latest (take n cs)) x

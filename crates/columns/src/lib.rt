@@ -8,7 +8,7 @@ ghost use lib.ListN.{length, getD, take};
 ghost use Rattle.lists.specs.Lists.{any};
 ghost use Rattle.register.specs.Limits.{claimLimit};
 ghost use Rattle.register.specs.Register.{claimsOf};
-ghost use Rattle.columns.specs.Columns.{latestPlace, stepsUp, beside, actorColumns, resourceColumns, placesUp};
+ghost use Rattle.columns.specs.Columns.{latestPlace, stepsUp, beside, actorsTo, resourcesTo, actorColumns, resourceColumns, placesUp};
 ghost use Rattle.columns.specs.Sheet.{sheetLimit, columnOf, claimAt, claimPut, sheetWith};
 use register::Actors;
 use register::Claim;
@@ -51,32 +51,33 @@ pub enum Hops {
     Beyond,
 }
 
-// The columns of a list of actors.
+// The columns of the actors: their ids are the names that claims and actions know them by.
 pub struct ActorColumns {
-    pub ids: [u32; Register::ACTORS],
+    pub names: [u32; Register::ACTORS],
     pub kinds: [u32; Register::ACTORS],
     pub owners: [u32; Register::ACTORS],
 }
 
-// The columns of a list of resources.
+// The columns of the resources: their ids are the reports.
 pub struct ResourceColumns {
-    pub ids: [u32; Register::RESOURCES],
+    pub reports: [u32; Register::RESOURCES],
     pub keepers: [u32; Register::RESOURCES],
     pub publics: [u32; Register::RESOURCES],
 }
 
-// The actors' columns, in one pass.
+// The actors' columns up to the count, 0 behind it, in one pass.
 pub fn actor_columns(k: Actors) -> ActorColumns
-    ensures { λ r. ⌜ r ≡ actorColumns (k .list) ⌝ }
+    ensures { λ r. ⌜ r ≡ actorColumns (actorsTo k .list) ⌝ }
 {
+    let top = lists::least(k.count, Register::ACTORS);
     let mut columns = ActorColumns {
-        ids: [0; Register::ACTORS],
+        names: [0; Register::ACTORS],
         kinds: [0; Register::ACTORS],
         owners: [0; Register::ACTORS],
     };
     let mut i: usize = 0;
-    while i < Register::ACTORS {
-        columns.ids[i] = k.list[i].id;
+    while i < top {
+        columns.names[i] = k.list[i].id;
         columns.kinds[i] = k.list[i].kind;
         columns.owners[i] = k.list[i].owner;
         i += 1;
@@ -84,18 +85,19 @@ pub fn actor_columns(k: Actors) -> ActorColumns
     columns
 }
 
-// The resources' columns, in one pass.
+// The resources' columns up to the count, 0 behind it, in one pass.
 pub fn resource_columns(k: Resources) -> ResourceColumns
-    ensures { λ r. ⌜ r ≡ resourceColumns (k .list) ⌝ }
+    ensures { λ r. ⌜ r ≡ resourceColumns (resourcesTo k .list) ⌝ }
 {
+    let top = lists::least(k.count, Register::RESOURCES);
     let mut columns = ResourceColumns {
-        ids: [0; Register::RESOURCES],
+        reports: [0; Register::RESOURCES],
         keepers: [0; Register::RESOURCES],
         publics: [0; Register::RESOURCES],
     };
     let mut i: usize = 0;
-    while i < Register::RESOURCES {
-        columns.ids[i] = k.list[i].id;
+    while i < top {
+        columns.reports[i] = k.list[i].id;
         columns.keepers[i] = k.list[i].keeper;
         columns.publics[i] = k.list[i].public;
         i += 1;

@@ -16,7 +16,7 @@ use Rattle.register.specs.Chain.{current, weighing}
 use Rattle.register.specs.Liveness.{above-unpast}
 use Rattle.columns.specs.Columns.{latestPlace, chainPlaces, currentAt}
 use Rattle.columns.specs.Laws.{place-cases, place-found, chain-places-at, chain-places-nowhere}
-use Rattle.lookup.specs.Finding.{placeNumber, asked, earlierPlaces}
+use Rattle.lookup.specs.Finding.{asked, earlierPlaces}
 use Rattle.lookup.specs.Laws.{earlier-at}
 use Rattle.coverage.specs.Gathering.{endUnder, endBehind, endsTo, endingOf, endsOf}
 

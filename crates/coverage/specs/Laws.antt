@@ -1,11 +1,11 @@
 -- Laws: What covering by columns says of the claims and the resources that they are the columns of, and which place is the first. Assumes nothing.
 use mathlib.Core.Path.{_≡_, refl, sym, ap, _∙_}
-use mathlib.Core.Bool.{Bool, true, false, _&&_, cond, and-false}
+use mathlib.Core.Bool.{Bool, true, false, _&&_, cond}
 use mathlib.Core.List.{List, [], _∷_, _++_, map}
-use Prim.Native.Nat.{ℕ, _≤_, _<_, suc, _+_}
+use Prim.Native.Nat.{ℕ, suc, _+_}
 use native.Mathlib.Numerals.{add-one}
 use native.Mathlib.Omega.{arith}
-use borrow.Author.Tests.{lt-ltb, le-ltb, eq-eqb, ne-eqb}
+use borrow.Author.Tests.{eq-eqb, ne-eqb}
 use lib.Dec.{ltb, eqb, leb}
 use lib.ListN.{length, getD, List·getD-map}
 use Rattle.lists.specs.Tests.{cases}
@@ -36,18 +36,6 @@ module _ (cs : List Claim) (spots : List ℕ) (k : Resources) (sized : All (λ o
       && (ltb j (length spots) && (ltb (getD spots j 0) resourceLimit && (ltb spot resourceLimit && containing k (getD spots j 0) spot)))
   reaching-natural = rw (List·getD-map rightsOf cs j noClaim, part-laid k sized (getD spots j 0), part-laid k sized spot)
 
-  -- where both resources stand at a place
-  pub reaching-placed : j < length spots → getD spots j 0 < resourceLimit → spot < resourceLimit
-      → reaching (map rightsOf cs) spots (laid k .bytes) (laid k .lens) right spot j
-      ≡ hasRight (getD cs j noClaim .rights) right && containing k (getD spots j 0) spot
-  reaching-placed there claimed used =
-      reaching-natural ∙ rw (lt-ltb j (length spots) there, lt-ltb (getD spots j 0) resourceLimit claimed, lt-ltb spot resourceLimit used)
-
-  -- a claim whose resource stands at no place reaches nothing
-  pub reaching-unplaced : resourceLimit ≤ getD spots j 0 → reaching (map rightsOf cs) spots (laid k .bytes) (laid k .lens) right spot j ≡ false
-  reaching-unplaced past =
-      rw (le-ltb (getD spots j 0) resourceLimit past, and-false (ltb j (length spots))) (and-false (hasRight (getD (map rightsOf cs) j 0) right))
-
 -- ---- the first place of a list that passes a test
 abbrev pub firstPlaceOf : (ℕ → Bool) → List ℕ → Place
 firstPlaceOf p [] = Nowhere
@@ -68,21 +56,6 @@ module _ (p : ℕ → Bool) where
       cases (p i) (λ e. let same : i ≡ j = cc (first-placed i l e) in rw (← same) ([], l, refl, e, tt))
       (λ e. let found = first-at l j (sym (first-passed i l e) ∙ q) in
       (i ∷ found .0, found .1, ap (λ m. i ∷ m) (found .2), found .3, (e, found .4)))
-
-  pub first-nowhere : (l : List ℕ) → firstPlaceOf p l ≡ Nowhere → All (λ i. p i ≡ false) l
-  first-nowhere [] q = tt
-  first-nowhere (i ∷ l) q =
-      cases (p i) (λ e. let never : _≡_ {A = ℕ} 0 1 = cc (first-placed i l e) in absurd (omega arith))
-      (λ e. (e, first-nowhere l (sym (first-passed i l e) ∙ q)))
-
-  -- and back
-  pub at-first : (before : List ℕ) (j : ℕ) (after : List ℕ) → All (λ i. p i ≡ false) before → p j ≡ true → firstPlaceOf p (before ++ (j ∷ after)) ≡ At j
-  at-first [] j after h e = first-placed j after e
-  at-first (i ∷ before) j after h e = first-passed i (before ++ (j ∷ after)) (h .0) ∙ at-first before j after (h .1) e
-
-  pub nowhere-first : (l : List ℕ) → All (λ i. p i ≡ false) l → firstPlaceOf p l ≡ Nowhere
-  nowhere-first [] h = refl
-  nowhere-first (i ∷ l) h = first-passed i l (h .0) ∙ nowhere-first l (h .1)
 
   -- of what passes one test, the first that passes another is the first that passes both
   pub first-filtered : (s : ℕ → Bool) (l : List ℕ) → firstPlaceOf p (filter s l) ≡ firstPlaceOf (λ j. s j && p j) l
@@ -121,10 +94,6 @@ module _ (rights spots bytes lens : List ℕ) (right spot : ℕ) where
       → (before : List ℕ) × (after : List ℕ) × (l ≡ before ++ (j ∷ after)) × (reaching rights spots bytes lens right spot j ≡ true)
       × All (λ i. reaching rights spots bytes lens right spot i ≡ false) before
   covering-at l j q = first-at (reaching rights spots bytes lens right spot) l j (sym (covering-first l) ∙ q)
-
-  pub covering-nowhere : (l : List ℕ) → firstCovering l rights spots bytes lens right spot ≡ Nowhere
-      → All (λ i. reaching rights spots bytes lens right spot i ≡ false) l
-  covering-nowhere l q = first-nowhere (reaching rights spots bytes lens right spot) l (sym (covering-first l) ∙ q)
 
   pub covering-filtered : (s : ℕ → Bool) (l : List ℕ)
       → firstCovering (filter s l) rights spots bytes lens right spot ≡ firstPlaceOf (λ j. s j && reaching rights spots bytes lens right spot j) l

@@ -197,7 +197,7 @@ pub fn lay(bytes: &mut [u8], k: Resources) -> [usize; Register::RESOURCES]
 }
 
 // Whether the path at place `x` contains the path at place `y`, and how far it reaches. Past the places there is the empty path.
-pub fn is_inside<'a>(bytes: &'a [u8], lens: &'a [usize], x: usize, y: usize) -> Reach
+fn is_inside<'a>(bytes: &'a [u8], lens: &'a [usize], x: usize, y: usize) -> Reach
     ensures { λ r. ⌜ r ≡ reachBetween (partAt (now (bytes .entry)) (now (lens .entry)) x) (partAt (now (bytes .entry)) (now (lens .entry)) y) ⌝ }
 {
     let outer = part_at(bytes, lens, x);

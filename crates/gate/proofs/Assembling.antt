@@ -5,6 +5,7 @@ use mathlib.Core.List.{List, [], _∷_}
 use Prim.Native.Nat.{ℕ}
 use lib.Dec.{eqb, eqb·suc-zero}
 use lib.ListN.{length}
+use Rattle.lists.specs.Tests.{cases}
 use Rattle.register.specs.Limits.{claimLimit}
 use Rattle.register.specs.Register.{Shaped}
 use Rattle.register.specs.declared.Register.{Register}
@@ -14,7 +15,7 @@ use Rattle.actions.specs.declared.Violation.{Violation}
 use Rattle.actions.specs.declared.Decision.the-variants.{Permitted, Refused, Stopped}
 use Rattle.actions.specs.declared.Verdict.{Verdict}
 use Rattle.refusals.specs.Refusals.{outcomeOf}
-use Rattle.refusals.specs.Laws.{outcome-pass, outcome-fail, outcome-accepted}
+use Rattle.refusals.specs.Laws.{outcome-cases, outcome-pass, outcome-fail, outcome-accepted}
 use Rattle.refusals.specs.declared.Outcome.{Outcome}
 use Rattle.refusals.specs.declared.Outcome.the-variants.{Accepted, Refused as RefusedFor}
 use Rattle.refusals.specs.declared.Refusal.{Refusal}
@@ -23,19 +24,19 @@ use Rattle.verdicts.specs.Gate.{violationsOf, listed, padded, decided, actionTe
 use Rattle.verdicts.specs.Laws.{gated-stopped, gated-judged}
 use Rattle.verdicts.specs.Sameness.{gated-same}
 use Rattle.columns.specs.Sheet.{sheetOf}
-use Rattle.soundness.specs.Laws.{register-standing}
 use Rattle.coverage.specs.Laid.{laid}
 use Rattle.uses.specs.declared.UsesJudged.{UsesJudged}
-use Rattle.gate.specs.Judged.{actionJudged, viewOf, lentOf, lentTests, lentJudged}
-use Rattle.gate.specs.Sheets.{sheeted}
-use Rattle.gate.specs.Laws.{judged-natural, tests-natural, view-natural}
+use Rattle.soundness.specs.declared.Findings.{Findings}
+use Rattle.gate.specs.Judged.{actionJudged, countsOf, viewBy, viewOf, Lent, lentOf, lentTests, lentJudged, verdictTold, verdictBy, AsGated}
+use Rattle.gate.specs.Sheets.{sheeted, sheeted-same, sheeted-shaped}
+use Rattle.gate.specs.Laws.{judged-natural, tests-natural, view-natural, known-sound, view-told}
 use Rattle.gate.specs.declared.View.{View}
 
 -- what is told of the view of a register is told of the register
 module _ (r : Register) (a : Action) {v : View} (viewed : v ≡ viewOf r) where
-  pub outcome-seen : {outcome : Outcome} → outcome ≡ outcomeOf (lentTests (v .actors .ids) (v .counts .actors) a)
+  pub outcome-seen : {outcome : Outcome} → outcome ≡ outcomeOf (lentTests (v .actors .names) (v .counts .actors) a)
       → outcome ≡ outcomeOf (actionTests (sheeted r) a)
-  outcome-seen e = e ∙ ap (λ w. outcomeOf (lentTests (w .actors .ids) (w .counts .actors) a)) viewed ∙ ap outcomeOf (tests-natural r a)
+  outcome-seen e = e ∙ ap (λ w. outcomeOf (lentTests (w .actors .names) (w .counts .actors) a)) viewed ∙ ap outcomeOf (tests-natural r a)
 
   pub judged-seen : {sheet bytes : List ℕ} → sheet ≡ sheetOf (r .claims) → bytes ≡ laid (r .resources) .bytes
       → Shaped r → sound (sheeted r) ≡ true → outcomeOf (actionTests (sheeted r) a) ≡ Accepted → {judged : UsesJudged}
@@ -71,4 +72,56 @@ gate-stopped r a why h stops = sym (gated-stopped r a why (outcome-pass _ _ h �
 
 -- a register whose claims are read from their sheet gets the same answer
 pub gate-sheeted : (r : Register) → length (r .claims .list) ≡ claimLimit → (a : Action) → gated (sheeted r) a ≡ gated r a
-gate-sheeted r long a = gated-same (sheeted r) r (register-standing r long) a
+gate-sheeted r long a = gated-same (sheeted r) r (sheeted-same r long) a
+
+-- ---- the verdict by what was found of a register
+
+abbrev stopping : Refusal → Verdict
+stopping why = record { decision = Stopped why; violations = listed []; hops = padded [] }
+
+module _ (r : Register) (s : List ℕ) (known : Findings) (a : Action) where
+  -- what is looked at, and what is lent of it
+  abbrev view : View
+  view = viewBy (countsOf r) s (laid (r .resources) .lens) known
+
+  abbrev lent : Lent
+  lent = lentOf view s (laid (r .resources) .bytes)
+
+  pub verdict-unsound : known .sound ≡ false → stopping Unsound ≡ verdictBy r s known a
+  unfolding verdictBy
+  verdict-unsound h = sym (ap (λ o. verdictTold o (lentJudged lent a)) (outcome-fail _ _ h))
+
+  module _ (h : known .sound ≡ true) where
+    tested : {o : Outcome} → outcomeOf (lentTests (known .actors .names) (r .actors .count) a) ≡ o → verdictTold o (lentJudged lent a) ≡ verdictBy r s known a
+    unfolding verdictBy
+    tested e = sym (ap (λ o. verdictTold o (lentJudged lent a)) (outcome-pass _ _ h ∙ e))
+
+    pub verdict-stopped : (why : Refusal) → outcomeOf (lentTests (known .actors .names) (r .actors .count) a) ≡ RefusedFor why
+        → stopping why ≡ verdictBy r s known a
+    verdict-stopped why e = tested e
+
+    pub verdict-judged : outcomeOf (lentTests (known .actors .names) (r .actors .count) a) ≡ Accepted → {judged : UsesJudged} → judged ≡ lentJudged lent a
+        → verdictTold Accepted judged ≡ verdictBy r s known a
+    verdict-judged e of-judged = ap (verdictTold Accepted) of-judged ∙ tested e
+
+  -- it is the gate's, where the sheet is that of the register's claims and the register was judged by it
+  pub gated-told : length (r .claims .list) ≡ claimLimit → (known .sound ≡ true → Shaped r) → AsGated r s known a (verdictBy r s known a)
+  gated-told long sized put told =
+      let soundly = known-sound r long put told in
+      cases (known .sound)
+      (λ t. let h = sym soundly ∙ t in
+      let wholly = sized t in
+      let seen : view ≡ viewOf r = view-told r long put told refl refl in
+      let tests = lentTests (known .actors .names) (r .actors .count) a in
+      outcome-cases (outcomeOf tests)
+      (λ e. let passed = sym (outcome-seen r a seen refl) ∙ e in
+      sym (tested t e)
+      ∙ gate-judged (sheeted r) (sheeted-shaped r wholly) h a (lentJudged lent a) passed (judged-seen r a seen put refl wholly h passed refl))
+      (λ why e. sym (tested t e) ∙ gate-stopped (sheeted r) a why h (sym (outcome-seen r a seen refl) ∙ e)))
+      (λ t. sym (verdict-unsound t) ∙ gate-unsound (sheeted r) a (sym soundly ∙ t))
+      ∙ gate-sheeted r long a
+
+  -- so a verdict that is told in one way is told in both
+  pub both-told : length (r .claims .list) ≡ claimLimit → (known .sound ≡ true → Shaped r) → {v : Verdict} → v ≡ verdictBy r s known a
+      → (v ≡ verdictBy r s known a) × AsGated r s known a v
+  both-told long sized e = (e, λ put told. e ∙ gated-told long sized put told)

@@ -1,4 +1,4 @@
--- What is taken out of a register is its view, and an action judged step by step is judged by what is lent. Assumes nothing.
+-- An action judged step by step is judged by what is lent. Assumes nothing.
 use mathlib.Core.Path.{_≡_}
 use mathlib.Core.Bool.{Bool, not, _&&_, cond}
 use mathlib.Core.List.{List, []}
@@ -6,42 +6,19 @@ use Prim.Native.Nat.{ℕ, _≤_}
 use lib.Dec.{eqb}
 use lib.ListN.{length, take}
 use Rattle.register.specs.Limits.{resourceLimit}
-use Rattle.register.specs.declared.Actors.{Actors}
-use Rattle.register.specs.declared.Resources.{Resources}
-use Rattle.columns.specs.Columns.{actorColumns, resourceColumns}
-use Rattle.columns.specs.Sheet.{columnOf}
-use Rattle.columns.specs.declared.ActorColumns.{ActorColumns}
-use Rattle.columns.specs.declared.ResourceColumns.{ResourceColumns}
 use Rattle.actions.specs.Actions.{useLimit}
 use Rattle.actions.specs.declared.Action.{Action}
 use Rattle.actions.specs.declared.Violations.{Violations}
 use Rattle.verdicts.specs.Gate.{listed}
 use Rattle.uses.specs.Pushed.{pushedAll}
-use Rattle.soundness.specs.declared.Findings.{Findings}
-use Rattle.coverage.specs.Gathering.{endsOf, gatheredBy}
+use Rattle.coverage.specs.Gathering.{gatheredBy}
 use Rattle.coverage.specs.GatheringLaws.{gathered-first, held-below}
 use Rattle.coverage.specs.declared.Gathered.{Gathered}
 use Rattle.uses.specs.Passes.{usesBy, reliedAll, coveredAll, hopsAll, faultsAll}
 use Rattle.uses.specs.PassesLaws.{passes-natural}
 use Rattle.uses.specs.declared.Uses.{Uses}
 use Rattle.uses.specs.declared.UsesJudged.{UsesJudged}
-use Rattle.gate.specs.Judged.{besides, viewBy, Lent, machineBy, ownerBy, ownedBy, sightBy, lentJudged}
-use Rattle.gate.specs.declared.View.{View}
-
--- columns that are each those of the actors, the resources and the claims are the view
-pub viewed : (a : Actors) (o : Resources) (s : List ℕ) (n : ℕ) (lens : List ℕ) (known : Findings) {actors : ActorColumns} {resources : ResourceColumns}
-    {weights expiries ends : List ℕ} → actors ≡ actorColumns (a .list) → resources ≡ resourceColumns (o .list) → weights ≡ columnOf 6 s
-    → expiries ≡ columnOf 7 s → ends ≡ endsOf weights expiries (known .ups) n
-    → _≡_ {A = View} (record {
-      counts = record { actors = a .count; resources = o .count; claims = n };
-      actors = actors;
-      resources = resources;
-      lens = lens;
-      ups = known .ups;
-      spots = known .spots;
-      ends = ends;
-    }) (viewBy a o s n lens known)
-viewed a o s n lens known of-actors of-resources of-weights of-expiries of-ends = rw (of-ends, of-actors, of-resources, of-weights, of-expiries)
+use Rattle.gate.specs.Judged.{besides, Lent, machineBy, ownerBy, ownedBy, sightBy, lentJudged}
 
 module _ (l : Lent) (a : Action) (few : length (l .reports) ≤ resourceLimit) (long : length (a .uses) ≡ useLimit) {machine : Bool} {owner asked : ℕ}
     {vs violations : Violations} {holders rights relied covering hops : List ℕ} {own theirs : Gathered} {uses : Uses} where

@@ -1,4 +1,5 @@
 -- Working: An action judged by the columns of a register. What it is in 01's words is `judged-natural` of Laws.
+use mathlib.Core.Path.{_≡_}
 use mathlib.Core.Bool.{Bool, not, _&&_, cond}
 use mathlib.Core.List.{List, [], _∷_, _++_, map}
 use Prim.Native.Nat.{ℕ}
@@ -7,19 +8,21 @@ use lib.ListN.{take}
 use Rattle.lists.specs.Lists.{any}
 use Rattle.register.specs.Limits.{machineKind}
 use Rattle.register.specs.Register.{actorsOf}
-use Rattle.register.specs.declared.Actors.{Actors}
-use Rattle.register.specs.declared.Resources.{Resources}
 use Rattle.register.specs.declared.Register.{Register}
-use Rattle.rules.specs.Sound.{isMachine}
-use Rattle.columns.specs.Columns.{resourceId, actorColumns, resourceColumns, latestPlace, beside}
+use Rattle.rules.specs.Sound.{sound, isMachine}
+use Rattle.columns.specs.Columns.{resourceId, latestPlace, beside}
 use Rattle.columns.specs.Sheet.{columnOf, sheetOf}
-use Rattle.refusals.specs.Refusals.{Test}
-use Rattle.refusals.specs.declared.Refusal.the-variants.{OutOfRange, Unknown}
+use Rattle.refusals.specs.Refusals.{Test, outcomeOf}
+use Rattle.refusals.specs.declared.Outcome.{Outcome}
+use Rattle.refusals.specs.declared.Outcome.the-variants.{Accepted, Refused as RefusedFor}
+use Rattle.refusals.specs.declared.Refusal.the-variants.{Unsound, OutOfRange, Unknown}
 use Rattle.actions.specs.Actions.{governsOf, actionFits}
 use Rattle.actions.specs.declared.Action.{Action}
+use Rattle.actions.specs.declared.Decision.the-variants.{Permitted, Refused, Stopped}
+use Rattle.actions.specs.declared.Verdict.{Verdict}
 use Rattle.actions.specs.declared.Violation.{Violation}
 use Rattle.actions.specs.declared.Violation.the-variants.{NoOwner}
-use Rattle.verdicts.specs.Gate.{flagsSet, governed, listed}
+use Rattle.verdicts.specs.Gate.{flagsSet, governed, listed, padded, gated}
 use Rattle.uses.specs.Pushed.{pushedAll}
 use Rattle.soundness.specs.Judged.{judgedBy as soundnessBy}
 use Rattle.soundness.specs.declared.Findings.{Findings}
@@ -28,6 +31,7 @@ use Rattle.coverage.specs.Gathering.{heldPlaces, endsOf}
 use Rattle.uses.specs.Uses.{Sight, usesJudged}
 use Rattle.uses.specs.declared.UsesJudged.{UsesJudged}
 use Rattle.uses.specs.Sights.{ownerAt, ownerIn, sightOf}
+use Rattle.gate.specs.declared.Counts.{Counts}
 use Rattle.gate.specs.declared.View.{View}
 
 -- the violations besides those of the uses, in 01's order, of an actor that is a machine or not and has this owner or none
@@ -41,23 +45,26 @@ actionJudged r a =
     usesJudged (sightOf r (a .now) (a .actor)) (map resourceId (r .resources .list)) (r .resources .count) a
     (pushedAll (listed []) (besides (isMachine (actorsOf (r .actors)) (a .actor)) (ownerIn r (a .actor)) a))
 
--- what is looked at besides the claims' sheet and the bytes of the paths, by the actors and resources, that sheet, the number of claims, the lengths
--- of the paths, and where parents and resources stand
-abbrev pub viewBy : Actors → Resources → List ℕ → ℕ → List ℕ → Findings → View
-viewBy a o s n lens known = record {
-  counts = record { actors = a .count; resources = o .count; claims = n };
-  actors = actorColumns (a .list);
-  resources = resourceColumns (o .list);
+-- what is looked at besides the claims' sheet and the bytes of the paths, by the counts, that sheet, the lengths of the paths and what was found of the
+-- register
+abbrev pub viewBy : Counts → List ℕ → List ℕ → Findings → View
+viewBy counts s lens known = record {
+  counts = counts;
+  actors = known .actors;
+  resources = known .resources;
   lens = lens;
   ups = known .ups;
   spots = known .spots;
-  ends = endsOf (columnOf 6 s) (columnOf 7 s) (known .ups) n;
+  ends = endsOf (columnOf 6 s) (columnOf 7 s) (known .ups) (counts .claims);
 }
 
 -- that of a register
+abbrev pub countsOf : Register → Counts
+countsOf r = record { actors = r .actors .count; resources = r .resources .count; claims = r .claims .count }
+
 abbrev pub viewOf : Register → View
 viewOf r =
-    viewBy (r .actors) (r .resources) (sheetOf (r .claims)) (r .claims .count) (laid (r .resources) .lens)
+    viewBy (countsOf r) (sheetOf (r .claims)) (laid (r .resources) .lens)
     (soundnessBy (r .actors) (r .resources) (sheetOf (r .claims)) (r .claims .count))
 
 -- the columns that are lent, with the counts of the lists
@@ -81,11 +88,11 @@ pub record Lent : Type 0 where
 -- those of a view, a sheet of claims and the bytes of the paths
 abbrev pub lentOf : View → List ℕ → List ℕ → Lent
 lentOf v s bytes = record {
-  names = v .actors .ids;
+  names = v .actors .names;
   kinds = v .actors .kinds;
   owners = v .actors .owners;
   actors = v .counts .actors;
-  reports = v .resources .ids;
+  reports = v .resources .reports;
   publics = v .resources .publics;
   resources = v .counts .resources;
   bytes = bytes;
@@ -136,3 +143,22 @@ module _ (l : Lent) where
   unfoldable pub lentJudged : Action → UsesJudged
   lentJudged a =
       usesJudged (sightBy (a .now) (a .actor)) (l .reports) (l .resources) a (pushedAll (listed []) (besides (machineBy (a .actor)) (ownerBy (a .actor)) a))
+
+-- the verdict by the outcome of the tests and what was judged: permitted means an empty list
+abbrev pub verdictTold : Outcome → UsesJudged → Verdict
+verdictTold (RefusedFor why) judged = record { decision = Stopped why; violations = listed []; hops = padded [] }
+verdictTold Accepted judged = record {
+  decision = cond (eqb (judged .violations .count) 0) Permitted Refused;
+  violations = judged .violations;
+  hops = judged .hops;
+}
+
+-- the verdict on an action by a sheet and what was found of a register
+unfoldable pub verdictBy : Register → List ℕ → Findings → Action → Verdict
+verdictBy r s known a =
+    let l = lentOf (viewBy (countsOf r) s (laid (r .resources) .lens) known) s (laid (r .resources) .bytes) in
+    verdictTold (outcomeOf (record { passed = known .sound; refusal = Unsound } ∷ lentTests (l .names) (l .actors) a)) (lentJudged l a)
+
+-- that is the gate's, where the sheet is that of the register's claims and the register was judged by it
+abbrev pub AsGated : Register → List ℕ → Findings → Action → Verdict → Type 0
+AsGated r s known a v = s ≡ sheetOf (r .claims) → known ≡ soundnessBy (r .actors) (r .resources) s (r .claims .count) → v ≡ gated r a

@@ -4,14 +4,15 @@ use mathlib.Core.Bool.{Bool, true, false, _&&_, cond}
 use mathlib.Core.List.{List, [], _∷_, _++_, map, append-assoc}
 use Prim.Native.Nat.{ℕ, suc}
 use native.Mathlib.Omega.{arith}
-use borrow.Author.Tests.{lt-ltb, eq-eqb}
+use borrow.Author.Tests.{lt-ltb}
 use lib.Dec.{eqb, ltb}
 use lib.ListN.{length, getD, List·getD-map}
-use Rattle.register.specs.Limits.{machineKind, momentEnd}
+use Rattle.register.specs.Limits.{claimLimit, machineKind, momentEnd}
 use Rattle.register.specs.Register.{actorsOf, noActor, Shaped}
 use Rattle.register.specs.declared.Register.{Register}
 use Rattle.rules.specs.Sound.{sound, isMachine}
-use Rattle.columns.specs.Columns.{actorId, ownerOf, resourceId, holderOf, latestPlace, actorKind}
+use Rattle.rules.specs.Sameness.{sound-same}
+use Rattle.columns.specs.Columns.{actorId, ownerOf, resourceId, holderOf, latestPlace, actorKind, actorsTo}
 use Rattle.columns.specs.Laws.{among-natural, beside-natural}
 use Rattle.columns.specs.Sheet.{sheetLimit, sheetOf}
 use Rattle.columns.specs.SheetLaws.{column-natural-ids, column-natural-parents, column-natural-holders, column-natural-claimed, column-natural-rights, column-natural-weights, sheet-long}
@@ -30,14 +31,15 @@ use Rattle.coverage.specs.Gathering.{coverPlaces, heldPlaces}
 use Rattle.coverage.specs.GatheringLaws.{held-none}
 use Rattle.coverage.specs.Laid.{laid}
 use Rattle.soundness.specs.Judged.{judgedBy as soundnessBy}
+use Rattle.soundness.specs.Laws.{judged-sound}
 use Rattle.soundness.specs.declared.Findings.{Findings}
 use Rattle.uses.specs.Sights.{ownerAt, ownerIn, ownedIn, spotsOf, upsOf, endsIn, sightOf, spotFor}
 use Rattle.uses.specs.SightsLaws.{use-natural, asked-actor}
 use Rattle.uses.specs.Ends.{cover-natural}
 use Rattle.uses.specs.Uses.{useHops, faultsFrom, usesJudged}
-use Rattle.gate.specs.Judged.{besides, actionJudged, viewBy, viewOf, lentIn, lentTests, machineBy, sightBy, lentJudged}
+use Rattle.gate.specs.Judged.{besides, actionJudged, countsOf, viewBy, viewOf, lentIn, lentTests, machineBy, sightBy, lentJudged}
 use Rattle.gate.specs.declared.View.{View}
-use Rattle.gate.specs.Sheets.{sheeted, sheeted-shaped, column-natural-expiries}
+use Rattle.gate.specs.Sheets.{sheeted, sheeted-same, sheeted-laid, sheeted-shaped, column-natural-expiries}
 
 -- a machine without owner: by its place, since ids are distinct
 ownerless-natural : (r : Register) → sound r ≡ true → (x : ℕ) → isOwnerless r x ≡ isMachine (actorsOf (r .actors)) x && eqb (ownerIn r x) 0
@@ -88,14 +90,14 @@ module _ (r : Register) (shaped : Shaped r) (h : sound r ≡ true) where
 -- ---- what is lent of a register
 
 module _ (r : Register) where
-  -- tests 2 and 3 by the ids of the actors
-  pub tests-natural : (a : Action) → lentTests (viewOf r .actors .ids) (viewOf r .counts .actors) a ≡ actionTests (sheeted r) a
+  -- tests 2 and 3 by the names of the actors
+  pub tests-natural : (a : Action) → lentTests (viewOf r .actors .names) (viewOf r .counts .actors) a ≡ actionTests (sheeted r) a
   unfolding actionTests
-  tests-natural a = rw (among-natural actorId (a .actor) (r .actors .count) (r .actors .list))
+  tests-natural a = rw (among-natural actorId (a .actor) (r .actors .count) (actorsTo (r .actors) .list))
 
-  -- a machine, by the columns of ids and kinds
-  machine-natural : (x : ℕ) → machineBy (lentIn r) x ≡ isMachine (actorsOf (r .actors)) x
-  machine-natural x = beside-natural actorId actorKind x machineKind (r .actors .count) (r .actors .list)
+  -- a machine, by the columns of names and kinds
+  machine-natural : (x : ℕ) → machineBy (lentIn r) x ≡ isMachine (actorsOf (sheeted r .actors)) x
+  machine-natural x = beside-natural actorId actorKind x machineKind (r .actors .count) (actorsTo (r .actors) .list)
 
 -- in a sound register, at a moment in range, the claims gathered for an owner that is asked or not
 theirs-natural : (r : Register) → Shaped r → sound r ≡ true → (moment : ℕ) → ltb moment momentEnd ≡ true → (owned : Bool) (x : ℕ)
@@ -132,7 +134,8 @@ module _ (r : Register) (shaped : Shaped r) (h : sound (sheeted r) ≡ true) whe
         spots-natural,
         ups-natural,
         cover-natural (sheeted r) wholly h moment timely x,
-        theirs-natural (sheeted r) wholly h moment timely (ownedIn r x) (ownerIn r x),
+        theirs-natural (sheeted r) wholly h moment timely (ownedIn (sheeted r) x) (ownerIn (sheeted r) x),
+        sheeted-laid (r .resources),
       )
 
   -- an action in range that is judged by what is lent of a sound register is judged by the register
@@ -142,14 +145,11 @@ module _ (r : Register) (shaped : Shaped r) (h : sound (sheeted r) ≡ true) whe
       rw (sight-natural (a .now) (lt-ltb (a .now) momentEnd (action-fits-out a fits .momentBelow)) (a .actor), machine-natural r (a .actor))
 
 -- what was found of a register when its claims were put into a sheet
-module _ (r : Register) {sheet : List ℕ} (put : sheet ≡ sheetOf (r .claims)) {known : Findings}
+module _ (r : Register) (places : length (r .claims .list) ≡ claimLimit) {sheet : List ℕ} (put : sheet ≡ sheetOf (r .claims)) {known : Findings}
     (told : known ≡ soundnessBy (r .actors) (r .resources) sheet (r .claims .count)) where
-  known-told : known ≡ soundnessBy (r .actors) (r .resources) (sheetOf (r .claims)) (r .claims .count)
-  known-told = told ∙ ap (λ s. soundnessBy (r .actors) (r .resources) s (r .claims .count)) put
-
   pub known-sound : known .sound ≡ sound (sheeted r)
-  known-sound = ap (λ k. k .sound) known-told ∙ rw (eq-eqb (length (sheetOf (r .claims))) sheetLimit (sheet-long (r .claims)))
+  known-sound = judged-sound r places put told ∙ sym (sound-same (sheeted r) r (sheeted-same r places))
 
-  pub view-told : {lens : List ℕ} → lens ≡ laid (r .resources) .lens → {v : View}
-      → v ≡ viewBy (r .actors) (r .resources) sheet (r .claims .count) lens known → v ≡ viewOf r
-  view-told of-lens viewed = viewed ∙ rw (put, known-told, of-lens)
+  pub view-told : {lens : List ℕ} → lens ≡ laid (r .resources) .lens → {v : View} → v ≡ viewBy (countsOf r) sheet lens known → v ≡ viewOf r
+  view-told of-lens viewed =
+      viewed ∙ rw (told ∙ ap (λ s. soundnessBy (r .actors) (r .resources) s (r .claims .count)) put, put, of-lens)

@@ -1,6 +1,6 @@
 -- Laws: A register whose claims are read from the sheet that they were put into is the same register, and the sheet's columns are those of its
 -- claims. Assumes nothing.
-use mathlib.Core.Path.{_≡_, sym, ap, _∙_}
+use mathlib.Core.Path.{_≡_, refl, sym, ap, _∙_}
 use mathlib.Core.Bool.{true}
 use mathlib.Core.List.{List, map, _++_}
 use Prim.Native.Nat.{ℕ, _+_, _-_, _*_, _≤_, _<_}
@@ -10,25 +10,30 @@ use lib.Dec.{ltb}
 use lib.ListN.{length, getD, take, drop, replicate, length-map, length-take, length-replicate, List·getD-map, List·getD-eq-default}
 use lib.Seq.{getD-take, getD-drop, getD-append-add, ext-getD}
 use Rattle.lists.specs.Tests.{cases}
-use Rattle.register.specs.Limits.{claimLimit, momentEnd}
-use Rattle.register.specs.Register.{claimsOf, noClaim, Shaped}
+use Rattle.lists.specs.Lists.{All}
+use Rattle.lists.specs.Each.{all-append, all-take}
+use Rattle.lists.specs.Fills.{all-replicate}
+use Rattle.register.specs.Limits.{claimLimit, pathLimit, momentEnd}
+use Rattle.register.specs.Register.{claimsOf, resourceStanding, noActor, noResource, noClaim, Same, Shaped}
 use Rattle.register.specs.Chain.{latest}
 use Rattle.register.specs.declared.Claim.{Claim}
+use Rattle.register.specs.declared.Resources.{Resources}
 use Rattle.register.specs.declared.Register.{Register}
-use Rattle.columns.specs.Columns.{expiryOf}
+use Rattle.columns.specs.Columns.{expiryOf, upTo, actorsTo, resourcesTo}
+use Rattle.columns.specs.Laws.{up-to-length, up-to-first}
 use Rattle.columns.specs.Sheet.{sheetLimit, lastColumn, columnOf, claimAt, claimsIn, numbersOf, sheetWith, sheetOf}
-use Rattle.columns.specs.SheetLaws.{column-within, column-length, column-with, claims-in-length, claims-in-at, sheet-long}
+use Rattle.columns.specs.SheetLaws.{column-within, column-length, column-with, claims-in-length, claims-in-at, sheet-long, sheet-claims}
 use Rattle.rules.specs.Sound.{sound}
 use Rattle.rules.specs.Laws.{claim-fits-out, acceptable-out}
 use Rattle.rules.specs.Places.{prefix-sound, latest-acceptable}
 use Rattle.coverage.specs.LaidLaws.{zero-at}
 use Rattle.uses.specs.SightsLaws.{around, stands-at, sound-at}
 use Rattle.soundness.specs.Judged.{registerBy}
-use Rattle.soundness.specs.Laws.{register-standing}
+use Rattle.coverage.specs.Laid.{lensOf, laid}
 
--- a register with its claims read from their sheet
+-- a register with its claims read from their sheet, and zeros behind its actors and resources
 abbrev pub sheeted : Register → Register
-sheeted r = registerBy (r .actors) (r .resources) (sheetOf (r .claims)) (r .claims .count)
+sheeted r = registerBy (actorsTo (r .actors)) (resourcesTo (r .resources)) (sheetOf (r .claims)) (r .claims .count)
 
 -- a column of a sheet of zeros has zeros
 column-none : (zeros : List ℕ) → length zeros ≡ sheetLimit → ((i : ℕ) → getD zeros i 0 ≡ 0) → (j : ℕ) → j ≤ lastColumn → (i : ℕ) → getD (columnOf j zeros) i 0 ≡ 0
@@ -56,13 +61,36 @@ past-none zeros long blank j cs there few i past =
     column-with zeros cs j long few there ∙ ap (λ n. numbers ++ drop n (columnOf j zeros)) (sym many) in
     ap (λ l. getD l i 0) holds ∙ getD-behind numbers (columnOf j zeros) i (omega (arith, many)) ∙ column-none zeros long blank j there i
 
+-- it is the same register
+pub sheeted-same : (r : Register) → length (r .claims .list) ≡ claimLimit → Same (sheeted r) r
+sheeted-same r long = record {
+  actorCount = refl;
+  actors = up-to-first noActor (r .actors .count) (r .actors .list);
+  resourceCount = refl;
+  resources = ap (map resourceStanding) (up-to-first noResource (r .resources .count) (r .resources .list));
+  claimCount = refl;
+  claims = sheet-claims (r .claims) long;
+}
+
+-- its paths are laid alike
+pub sheeted-laid : (o : Resources) → laid (resourcesTo o) ≡ laid o
+unfolding laid lensOf
+sheeted-laid o = rw (up-to-first noResource (o .count) (o .list))
+
+paths-to : (o : Resources) → All (λ x. length (x .path) ≡ pathLimit) (o .list) → All (λ x. length (x .path) ≡ pathLimit) (resourcesTo o .list)
+unfolding upTo
+paths-to o sized =
+    all-append (λ x. length (x .path) ≡ pathLimit) (take (o .count) (o .list)) (replicate (length (o .list) - o .count) noResource)
+    (all-take (λ x. length (x .path) ≡ pathLimit) (o .count) (o .list) sized)
+    (all-replicate (λ x. length (x .path) ≡ pathLimit) (length (o .list) - o .count) noResource (length-replicate {A = ℕ} pathLimit 0))
+
 module _ (r : Register) (shaped : Shaped r) where
   pub sheeted-shaped : Shaped (sheeted r)
   sheeted-shaped =
       record {
-        actors = shaped .actors;
-        resources = shaped .resources;
-        paths = shaped .paths;
+        actors = up-to-length noActor (r .actors .count) (r .actors .list) ∙ shaped .actors;
+        resources = up-to-length noResource (r .resources .count) (r .resources .list) ∙ shaped .resources;
+        paths = paths-to (r .resources) (shaped .paths);
         claims = claims-in-length (sheetOf (r .claims));
       }
 
@@ -85,7 +113,7 @@ module _ (r : Register) (shaped : Shaped r) where
     late-none : (j : ℕ) → getD (columnOf 8 sheet) j 0 ≡ 0
     late-none j =
         let few : length (claimsOf (r .claims)) ≤ claimLimit = omega (arith, shaped .claims, length-take (r .claims .count) (r .claims .list)) in
-        let same : length (claimsOf (sheeted r .claims)) ≡ length (claimsOf (r .claims)) = ap length (register-standing r (shaped .claims) .claims) in
+        let same : length (claimsOf (sheeted r .claims)) ≡ length (claimsOf (r .claims)) = ap length (sheet-claims (r .claims) (shaped .claims)) in
         cases (ltb j (length (claimsOf (r .claims))))
         (λ e. let inside : j < length (claimsOf (sheeted r .claims)) = omega (arith, ltb-true j (length (claimsOf (r .claims))) e, same) in
         omega (arith, timely j inside))

@@ -11,7 +11,7 @@ ghost use Rattle.refusals.specs.Refusals.{outcomeOf};
 ghost use Rattle.verdicts.specs.Gate.{listed, padded, gated};
 ghost use Rattle.uses.specs.Pushed.{pushedAll};
 ghost use Rattle.uses.specs.Sights.{ownerAt};
-ghost use Rattle.gate.specs.Judged.{viewBy, lentOf, lentTests, besides, lentJudged};
+ghost use Rattle.gate.specs.Judged.{viewBy, lentOf, lentTests, besides, lentJudged, verdictBy, AsGated};
 use actions::Action;
 use actions::Decision;
 use actions::Verdict;
@@ -23,9 +23,7 @@ use columns::ResourceColumns;
 use refusals::Outcome;
 use refusals::Refusal;
 use register::Actor;
-use register::Actors;
 use register::Register;
-use register::Resources;
 use soundness::Findings;
 use uses::UsesJudged;
 
@@ -50,35 +48,29 @@ pub struct View {
     pub ends: [u64; Register::CLAIMS],
 }
 
-// What is looked at of the actors, the resources and the first `n` claims of a sheet, with the lengths of the paths and what was found when
-// soundness was judged.
+// What is looked at of a register with these counts whose claims stand in a sheet, with the lengths of the paths and what was found of it.
 pub fn view_of(
-    a: Actors,
-    o: Resources,
+    counts: Counts,
     sheet: &[u32],
-    n: usize,
     lens: [usize; Register::RESOURCES],
     known: Findings,
 ) -> View
-    ensures { λ v. ⌜ v ≡ viewBy a o (now (sheet .entry)) n lens known ⌝ }
+    ensures { λ v. ⌜ v ≡ viewBy counts (now (sheet .entry)) lens known ⌝ }
 {
-    let actors = columns::actor_columns(a);
-    let resources = columns::resource_columns(o);
     let weights = columns::column(sheet, columns::WEIGHTS);
     let expiries = columns::column(sheet, columns::EXPIRIES);
-    let ends = coverage::ends(weights, expiries, &known.ups, n);
-    let counts = Counts {
-        actors: a.count,
-        resources: o.count,
-        claims: n,
-    };
+    let ends = coverage::ends(weights, expiries, &known.ups, counts.claims);
+    let actors = known.actors;
+    let resources = known.resources;
+    let ups = known.ups;
+    let spots = known.spots;
     View {
         counts,
         actors,
         resources,
         lens,
-        ups: known.ups,
-        spots: known.spots,
+        ups,
+        spots,
         ends,
     }
 }
@@ -123,13 +115,13 @@ pub fn judge_by<'a>(v: View, sheet: &'a [u32], bytes: &'a [u8], a: Action) -> Us
     ensures { λ y. ⌜ y ≡ lentJudged (lentOf v (now (sheet .entry)) (now (bytes .entry))) a ⌝ }
 {
     let machine = columns::is_beside(
-        &v.actors.ids,
+        &v.actors.names,
         &v.actors.kinds,
         v.counts.actors,
         a.actor,
         Actor::MACHINE,
     );
-    let owner = owner_of(&v.actors.ids, &v.actors.owners, v.counts.actors, a.actor);
+    let owner = owner_of(&v.actors.names, &v.actors.owners, v.counts.actors, a.actor);
     let owned = machine & (owner != 0);
     let vs = first_violations(a, machine, owner);
     let holders = columns::column(sheet, columns::HOLDERS);
@@ -137,7 +129,7 @@ pub fn judge_by<'a>(v: View, sheet: &'a [u32], bytes: &'a [u8], a: Action) -> Us
     let own = coverage::gather(holders, &v.ends, v.counts.claims, a.actor, a.now);
     let asked = asked_for(owned, v.counts.claims);
     let theirs = coverage::gather(holders, &v.ends, asked, owner, a.now);
-    let uses = uses::uses_of(&v.resources.ids, v.counts.resources, a);
+    let uses = uses::uses_of(&v.resources.reports, v.counts.resources, a);
     let relied = uses::relied_on(
         &own.places,
         own.count,
@@ -207,6 +199,30 @@ fn decided(judged: UsesJudged) -> Verdict
     }
 }
 
+// The gate by a sheet of the register's claims and what was found of the register, which is refused with 1 where that says that it is not sound.
+pub fn gate_by(r: Register, sheet: &[u32], known: Findings, a: Action) -> Verdict
+    ensures told { λ v. ⌜ v ≡ verdictBy r (now (sheet .entry)) known a ⌝ }
+    ensures gated { λ v. ⌜ AsGated r (now (sheet .entry)) known a v ⌝ }
+{
+    if !known.sound {
+        return stopped(Refusal::Unsound);
+    }
+    let o = r.resources;
+    let mut bytes = [0u8; coverage::BYTES];
+    let lens = coverage::lay(&mut bytes, o);
+    let counts = Counts {
+        actors: r.actors.count,
+        resources: r.resources.count,
+        claims: r.claims.count,
+    };
+    let v = view_of(counts, sheet, lens, known);
+    let outcome = action_outcome(&v.actors.names, v.counts.actors, a);
+    match outcome {
+        Outcome::Refused(why) => stopped(why),
+        Outcome::Accepted => decided(judge_by(v, sheet, &bytes, a)),
+    }
+}
+
 // The gate.
 pub fn gate(r: Register, a: Action) -> Verdict
     ensures { λ v. ⌜ v ≡ gated r a ⌝ }
@@ -214,19 +230,8 @@ pub fn gate(r: Register, a: Action) -> Verdict
     let actors = r.actors;
     let o = r.resources;
     let k = r.claims;
-    let n = k.count;
     let mut sheet = [0u32; columns::SHEET];
     columns::put_claims(&mut sheet, k);
-    let known = soundness::judged(actors, o, &sheet, n);
-    if !known.sound {
-        return stopped(Refusal::Unsound);
-    }
-    let mut bytes = [0u8; coverage::BYTES];
-    let lens = coverage::lay(&mut bytes, o);
-    let v = view_of(actors, o, &sheet, n, lens, known);
-    let outcome = action_outcome(&v.actors.ids, v.counts.actors, a);
-    match outcome {
-        Outcome::Refused(why) => stopped(why),
-        Outcome::Accepted => decided(judge_by(v, &sheet, &bytes, a)),
-    }
+    let known = soundness::judged(actors, o, &sheet, k.count);
+    gate_by(r, &sheet, known, a)
 }

@@ -10,20 +10,15 @@ use lib.ListN.{length, take, getD, length-map}
 use Rattle.lists.specs.Tests.{cases}
 use Rattle.lists.specs.Lists.{any, every}
 use Rattle.lists.specs.Each.{any-reverse, every-map}
-use Rattle.register.specs.Limits.{machineKind, claimLimit, hopLimit}
-use Rattle.register.specs.Register.{actorsOf, resourcesOf, claimsOf}
+use Rattle.register.specs.Limits.{claimLimit, hopLimit}
+use Rattle.register.specs.Register.{claimsOf}
 use Rattle.register.specs.Chain.{above, current}
-use Rattle.register.specs.declared.Actors.{Actors}
-use Rattle.register.specs.declared.Resources.{Resources}
 use Rattle.register.specs.declared.Claim.{Claim}
 use Rattle.register.specs.declared.Register.{Register}
-use Rattle.columns.specs.Columns.{actorId, actorKind, ownerOf, resourceId, keeperOf, claimId, beside, latestPlace, actorColumns, resourceColumns, placesUp, stepsUp}
-use Rattle.columns.specs.declared.ActorColumns.{ActorColumns}
-use Rattle.columns.specs.declared.ResourceColumns.{ResourceColumns}
+use Rattle.columns.specs.Columns.{claimId, latestPlace, placesUp, stepsUp}
 use Rattle.columns.specs.declared.Place.the-variants.{At, Nowhere}
-use Rattle.columns.specs.Laws.{among-natural, beside-natural, places-up-at, places-up-none, steps-up-within, steps-up-beyond}
-use Rattle.lookup.specs.Laws.{hop-count-natural}
-use Rattle.rules.specs.Sound.{worldOf, namesStand, rootKept, sound, withinHops}
+use Rattle.columns.specs.Laws.{among-natural, places-up-at, places-up-none, steps-up-within, steps-up-beyond}
+use Rattle.rules.specs.Sound.{namesStand, rootKept, sound, withinHops}
 use Rattle.claims.specs.Alone.{worldBy}
 use Rattle.granting.specs.Drawn.{chainTests, drawnTests, parentAsked}
 use Rattle.register.specs.Laws.{circling-map}
@@ -40,34 +35,15 @@ use Rattle.refusals.specs.declared.Refusal.the-variants.{ParentAbsent}
 use Rattle.changes.specs.Changes.{standing, parentTests}
 use Rattle.granting.proofs.Deciding.{parent-absent, parent-present}
 
--- the actors and the resources
-module _ (a : Actors) (o : Resources) (c : Claim) {people : ActorColumns} {things : ResourceColumns} {b : Bool}
-    (actors : people ≡ actorColumns (a .list)) (resources : things ≡ resourceColumns (o .list)) where
-  pub names-asked : b ≡ namesStand (worldBy (people .ids) [] [] (a .count) (things .ids) [] (o .count)) c
-      → b ≡ namesStand (worldOf (actorsOf a) (resourcesOf o)) c
+-- what of the world is not looked at is all one
+module _ (names kinds owners : List ℕ) (h : ℕ) (reports keepers : List ℕ) (m : ℕ) (c : Claim) {b : Bool} where
+  pub names-asked : b ≡ namesStand (worldBy names [] [] h reports [] m) c → b ≡ namesStand (worldBy names kinds owners h reports keepers m) c
   unfolding namesStand
-  names-asked e =
-      e
-      ∙ rw (
-        actors,
-        resources,
-        among-natural actorId (c .grantor) (a .count) (a .list),
-        among-natural actorId (c .holder) (a .count) (a .list),
-        among-natural resourceId (c .resource) (o .count) (o .list),
-      )
+  names-asked e = e
 
-  pub root-asked : b ≡ rootKept (worldBy [] [] [] 0 (things .ids) (things .keepers) (o .count)) c
-      → b ≡ rootKept (worldOf (actorsOf a) (resourcesOf o)) c
+  pub root-asked : b ≡ rootKept (worldBy [] [] [] 0 reports keepers m) c → b ≡ rootKept (worldBy names kinds owners h reports keepers m) c
   unfolding rootKept
-  root-asked e = e ∙ rw (resources, beside-natural resourceId keeperOf (c .resource) (c .grantor) (o .count) (o .list))
-
-  pub machine-asked : b ≡ beside (take (a .count) (people .ids)) (take (a .count) (people .kinds)) (c .grantor) machineKind
-      → b ≡ worldOf (actorsOf a) (resourcesOf o) .machine (c .grantor)
-  machine-asked e = e ∙ rw actors (beside-natural actorId actorKind (c .grantor) machineKind (a .count) (a .list))
-
-  pub ownerless-asked : b ≡ beside (take (a .count) (people .ids)) (take (a .count) (people .owners)) (c .grantor) 0
-      → b ≡ worldOf (actorsOf a) (resourcesOf o) .ownerless (c .grantor)
-  ownerless-asked e = e ∙ rw actors (beside-natural actorId ownerOf (c .grantor) 0 (a .count) (a .list))
+  root-asked e = e
 
 -- a claim has one hop more than its parent
 near-next : (m : ℕ) → ltb m hopLimit ≡ leb (suc m) hopLimit

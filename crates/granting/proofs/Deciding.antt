@@ -15,8 +15,7 @@ use Rattle.rules.specs.Sound.{World, sound, claimFits, namesStand, rootKept, wi
 use Rattle.refusals.specs.Refusals.{Test, outcomeOf}
 use Rattle.changes.specs.Changes.{worldIn, standing, parentTests, grantTests}
 use Rattle.refusals.specs.Laws.{outcome-cases, outcome-nil, outcome-pass, outcome-fail, outcome-append, outcome-append-refused}
-use Rattle.refusals.specs.declared.Refusal.the-variants.{Unsound, OutOfRange, Unknown, IdStands, Full, NotKeeper, Ownerless, MachineBarred, ParentAbsent, ParentNotHeld}
-use Rattle.refusals.specs.declared.Refusal.the-variants.{ParentDead, NoDelegate, RightLacking, WeightAbove, TooManyHops, Circle}
+use Rattle.refusals.specs.declared.Refusal.the-variants.{Unsound, OutOfRange, Unknown, IdStands, Full, NotKeeper, Ownerless, MachineBarred, ParentAbsent, ParentNotHeld, ParentDead, NoDelegate, RightLacking, WeightAbove, TooManyHops, Circle}
 use Rattle.refusals.specs.declared.Outcome.{Outcome}
 use Rattle.refusals.specs.declared.Outcome.the-variants.{Accepted, Refused}
 use Rattle.granting.specs.Drawn.{toldTests, drawnTests, chainTests, outcomeThen, firstTests, world-tests, parent-tests}

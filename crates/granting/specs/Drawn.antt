@@ -11,7 +11,6 @@ use Rattle.rights.specs.Rights.{delegating, hasRight, hasRights, barsMachine}
 use Rattle.register.specs.Limits.{claimLimit, momentEnd}
 use Rattle.register.specs.Chain.{circling, current}
 use Rattle.register.specs.declared.Claim.{Claim}
-use Rattle.lookup.specs.Finding.{earlierPlaces}
 use Rattle.rules.specs.Sound.{World, namesStand, fresh, rootKept, withinHops, claimFits}
 use Rattle.refusals.specs.Refusals.{Test}
 use Rattle.changes.specs.Changes.{sourceLive, worldTests, parentTests}

@@ -6,36 +6,37 @@ ghost use lib.Dec.{ltb};
 ghost use lib.ListN.{length, getD};
 ghost use Rattle.lists.specs.Lists.{every};
 ghost use Rattle.register.specs.Limits.{hopLimit};
-ghost use Rattle.register.specs.Register.{actorsOf, resourcesOf};
 ghost use Rattle.register.specs.Chain.{current};
-ghost use Rattle.rules.specs.Sound.{worldOf};
+ghost use Rattle.claims.specs.Alone.{worldBy};
 ghost use Rattle.columns.specs.Columns.{placesUp};
 ghost use Rattle.columns.specs.Sheet.{claimAt};
 ghost use Rattle.refusals.specs.Refusals.{outcomeOf};
 ghost use Rattle.changes.specs.Changes.{grantTests};
 ghost use Rattle.granting.specs.Drawn.{toldTests, drawnTests, chainTests, outcomeThen, firstTests, parentAsked};
+use columns::ActorColumns;
 use columns::Hops;
 use columns::Place;
+use columns::ResourceColumns;
 use refusals::Outcome;
 use refusals::Refusal;
 use register::Actor;
-use register::Actors;
 use register::Claim;
 use register::Register;
-use register::Resources;
 
-// Tests 3 to 8, over the actors and the resources: `stands` says whether a claim has the id already, and `n` how many claims there are.
-fn world_outcome(a: Actors, o: Resources, stands: bool, n: usize, c: Claim) -> Outcome
-    ensures { λ r. ⌜ r ≡ outcomeOf (toldTests (worldOf (actorsOf a) (resourcesOf o)) stands n c) ⌝ }
+// Tests 3 to 8, over the columns of the first `h` actors and the first `m` resources: `stands` says whether a claim has the id already, and `n` how
+// many claims there are.
+fn world_outcome(
+    actors: ActorColumns,
+    h: usize,
+    resources: ResourceColumns,
+    m: usize,
+    stands: bool,
+    n: usize,
+    c: Claim,
+) -> Outcome
+    ensures { λ r. ⌜ r ≡ outcomeOf (toldTests (worldBy (actors .names) (actors .kinds) (actors .owners) h (resources .reports) (resources .keepers) m) stands n c) ⌝ }
 {
-    let actors = columns::actor_columns(a);
-    let resources = columns::resource_columns(o);
-    let ids = actors.ids;
-    let kinds = actors.kinds;
-    let owners = actors.owners;
-    let reports = resources.ids;
-    let keepers = resources.keepers;
-    if !claims::names_stand(&ids, a.count, &reports, o.count, c) {
+    if !claims::names_stand(&actors.names, h, &resources.reports, m, c) {
         return Outcome::Refused(Refusal::Unknown);
     }
     if stands {
@@ -44,13 +45,13 @@ fn world_outcome(a: Actors, o: Resources, stands: bool, n: usize, c: Claim) -> O
     if Register::CLAIMS <= n {
         return Outcome::Refused(Refusal::Full);
     }
-    if !claims::root_kept(&reports, &keepers, o.count, c) {
+    if !claims::root_kept(&resources.reports, &resources.keepers, m, c) {
         return Outcome::Refused(Refusal::NotKeeper);
     }
-    if !columns::is_beside(&ids, &kinds, a.count, c.grantor, Actor::MACHINE) {
+    if !columns::is_beside(&actors.names, &actors.kinds, h, c.grantor, Actor::MACHINE) {
         return Outcome::Accepted;
     }
-    if columns::is_beside(&ids, &owners, a.count, c.grantor, 0) {
+    if columns::is_beside(&actors.names, &actors.owners, h, c.grantor, 0) {
         return Outcome::Refused(Refusal::Ownerless);
     }
     if rights::bars_machine(c.rights) {
@@ -191,7 +192,9 @@ pub fn grant_outcome(r: Register, c: Claim, moment: u64) -> Outcome
     let ids = columns::column(&sheet, columns::IDS);
     let stands = columns::is_among(ids, k.count, c.id);
     let first = first_outcome(judged.sound, c, moment);
-    let world = world_outcome(a, o, stands, k.count, c);
+    let actors = judged.actors;
+    let resources = judged.resources;
+    let world = world_outcome(actors, a.count, resources, o.count, stands, k.count, c);
     let parent = parent_outcome(&sheet, &judged.ups, k.count, c, moment);
     then(first, then(world, parent))
 }

@@ -17,8 +17,7 @@ use Rattle.register.specs.declared.Register.{Register}
 use Rattle.rules.specs.Sound.{sound, claimFits, namesStand, rootKept, machineMay, drawnFrom, withinHops, overChain, drawn, fresh, acceptable, human}
 use Rattle.rules.specs.Laws.{acceptable-out, acceptable-in}
 use Rattle.refusals.specs.Refusals.{Test, outcomeOf, isAccepted}
-use Rattle.changes.specs.Changes.{worldIn, standing, sourceLive, parentTests, worldTests, grantTests, appended, granted, revokeTests, leftOf, holding, Withdrawal, revoke}
-use Rattle.changes.specs.Changes.{clearResource, clearExpired, names, clearResourceTests, clearExpiredTests, withdrawn}
+use Rattle.changes.specs.Changes.{worldIn, standing, sourceLive, parentTests, worldTests, grantTests, appended, granted, revokeTests, leftOf, holding, Withdrawal, revoke, clearResource, clearExpired, names, clearResourceTests, clearExpiredTests, withdrawn}
 use Rattle.history.specs.History.{Call, grant, step, took, withdraw}
 
 -- a call is accepted where it passes every test

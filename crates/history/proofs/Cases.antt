@@ -12,11 +12,9 @@ use Rattle.register.specs.Register.{claimsOf, noActor, noResource, noClaim, Sha
 use Rattle.register.specs.Chain.{chain, rootGranted, circling}
 use Rattle.register.specs.declared.Claim.{Claim}
 use Rattle.register.specs.declared.Register.{Register}
-use Rattle.rules.specs.Sound.{distinct, actorFits, resourceFits, claimFits, namesStand, rootKept, drawnFrom, machineMay, overChain, drawn, fresh, alone, over, acceptable}
-use Rattle.rules.specs.Sound.{soundClaims, soundActors, soundResources, withinLimits, sound}
+use Rattle.rules.specs.Sound.{distinct, actorFits, resourceFits, claimFits, namesStand, rootKept, drawnFrom, machineMay, overChain, drawn, fresh, alone, over, acceptable, soundClaims, soundActors, soundResources, withinLimits, sound}
 use Rattle.refusals.specs.Refusals.{outcomeOf, numberOf}
-use Rattle.changes.specs.Changes.{sourceLive, parentTests, worldTests, grantTests, granted, revokeTests, holding, Withdrawal, revoke, clearResource, clearExpired}
-use Rattle.changes.specs.Changes.{clearResourceTests, clearExpiredTests, withdrawn}
+use Rattle.changes.specs.Changes.{sourceLive, parentTests, worldTests, grantTests, granted, revokeTests, holding, Withdrawal, revoke, clearResource, clearExpired, clearResourceTests, clearExpiredTests, withdrawn}
 use Rattle.changes.specs.declared.Revoked.{Revoked}
 use Rattle.refusals.specs.declared.Outcome.{Outcome}
 use Rattle.refusals.specs.declared.Outcome.the-variants.{Accepted, Refused}

@@ -24,8 +24,7 @@ use Rattle.changes.specs.Changes.{worldIn, standing, holding, Withdrawal, names
 use Rattle.history.specs.History.{Call, grant, step, took, run, accepts, Entry, Book, claims, remains, started, wrote, kept, book, olds, grants, History, withdraw}
 use Rattle.history.proofs.Calls.{grant-out, grant-in, granted-register, refused-register, withdrawn-register}
 use Rattle.history.proofs.Holds.{Holds, holds-self, holds-appended, holds-holding, holds-same, holds-sound, step-sound, step-shaped}
-use Rattle.history.proofs.Books.{Fine, Kept, After, Timely, chain-claims, strike-claims, remains-grant, kept-grant, started-claims, remains-started, kept-started}
-use Rattle.history.proofs.Books.{remains-withdraw, kept-withdraw}
+use Rattle.history.proofs.Books.{Fine, Kept, After, Timely, chain-claims, strike-claims, remains-grant, kept-grant, started-claims, remains-started, kept-started, remains-withdraw, kept-withdraw}
 
 run-nil : (r : Register) → run r [] ≡ r
 unfolding run

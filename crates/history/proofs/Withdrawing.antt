@@ -16,10 +16,8 @@ use Rattle.register.specs.declared.Claim.{Claim}
 use Rattle.register.specs.declared.Register.{Register}
 use Rattle.rules.specs.Sound.{sound}
 use Rattle.rules.specs.Striking.{strike-none, strike-same, strike-strike}
-use Rattle.refusals.specs.Refusals.{isAccepted}
 use Rattle.changes.specs.Changes.{standing, leftOf, holding, Withdrawal, names, withdrawn}
 use Rattle.history.specs.History.{withdraw, took}
-use Rattle.refusals.specs.declared.Outcome.{Outcome}
 use Rattle.rules.specs.Struck.{strike}
 use Rattle.history.proofs.Holds.{claims-holding, standing-holding}
 use Rattle.history.proofs.Laws.{left-counts}

@@ -17,10 +17,8 @@ use Rattle.refusals.specs.declared.Refusal.the-variants.{OutOfRange, BadJson}
 use Rattle.json_tokens.specs.Tokens.{unblanked, quoted, closing, leading, tokensWith, tokens}
 use Rattle.json_tokens.specs.Spelling.{spelled, spelledAll}
 use Rattle.json_actions.specs.Names.{keyNames, kindNames, flagNames, placeOf}
-use Rattle.json_actions.specs.Members.{takeNumber, itemsWith, items, takeNumbers, takeSetting, isFullSet, takeSettings, isIdText, idLength, takeValue, takeMember}
-use Rattle.json_actions.specs.Members.{membersOf}
-use Rattle.json_actions.specs.Actions.{flagsBelow, usesIn, isFull, actionIn, unread, jsonRead, resourcesWith, membersFrom, commaed, numberTokens, valueTokens}
-use Rattle.json_actions.specs.Actions.{memberTokens, objectTokens, jsonText, memberValue}
+use Rattle.json_actions.specs.Members.{takeNumber, itemsWith, items, takeNumbers, takeSetting, isFullSet, takeSettings, isIdText, idLength, takeValue, takeMember, membersOf}
+use Rattle.json_actions.specs.Actions.{flagsBelow, usesIn, isFull, actionIn, unread, jsonRead, resourcesWith, membersFrom, commaed, numberTokens, valueTokens, memberTokens, objectTokens, jsonText, memberValue}
 use Rattle.json_actions.specs.Orders.{ordered}
 use Rattle.json_actions.specs.declared.JsonRead.{JsonRead}
 use Rattle.json_actions.proofs.Naming as naming

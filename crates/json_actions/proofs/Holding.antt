@@ -13,8 +13,7 @@ use Rattle.paths.specs.Containment.{same}
 use Rattle.register.specs.Limits.{idLimit}
 use Rattle.rights.specs.Rights.{isRight}
 use Rattle.actions.specs.Actions.{useLimit, flagCount}
-use Rattle.json_actions.specs.Names.{defaultDomain}
-use Rattle.json_actions.specs.Names.{idPlace, actorPlace, kindPlace, readPlace, writePlace, executePlace, flagsPlace, domainPlace, depthPlace}
+use Rattle.json_actions.specs.Names.{defaultDomain, idPlace, actorPlace, kindPlace, readPlace, writePlace, executePlace, flagsPlace, domainPlace, depthPlace}
 use Rattle.json_actions.specs.Members.{Setting, Value, letters, figure, figures, settings, isIdText, isFullSet}
 use Rattle.json_actions.specs.Fitting.{valueFits}
 use Rattle.json_actions.specs.Items.{keyCount}

@@ -14,9 +14,7 @@ use Rattle.decimals.specs.Decimals.{Parsed, got, large, bad, digits, parse}
 use Rattle.decimals.specs.Laws.{digits-parse}
 use Rattle.json_tokens.specs.Tokens.{Token, mark, text, noToken, comma, colon, trueMark, falseMark}
 use Rattle.json_actions.specs.Names.{flagNames, placeOf}
-use Rattle.json_actions.specs.Members.{Setting, Taken, taking, missed, past, made, ledBy, separated}
-use Rattle.json_actions.specs.Members.{itemsWith, items, anyItems, takeText, isExact, exactOf, takeNumber, takeWord, takeSet, takeSetting}
-use Rattle.json_actions.specs.Members.{named}
+use Rattle.json_actions.specs.Members.{Setting, Taken, taking, missed, past, made, ledBy, separated, itemsWith, items, anyItems, takeText, isExact, exactOf, takeNumber, takeWord, takeSet, takeSetting, named}
 use Rattle.json_actions.specs.Actions.{commaed, settingTokens}
 use Rattle.json_actions.specs.Items.{taken-cases, missed-took}
 use Rattle.json_actions.proofs.Naming.{placed-name}

@@ -16,12 +16,8 @@ use Rattle.rights.specs.Rights.{rightCount, isRight}
 use Rattle.actions.specs.Actions.{useLimit, flagCount}
 use Rattle.decimals.specs.Decimals.{digits}
 use Rattle.json_tokens.specs.Tokens.{Token, mark, text, colon, opensList, closesList, opensObject, closesObject, zeroMark}
-use Rattle.json_actions.specs.Names.{keyNames, kindNames, placeOf, defaultDomain}
-use Rattle.json_actions.specs.Names.{idPlace, actorPlace, kindPlace, flagsPlace, domainPlace, depthPlace}
-use Rattle.json_actions.specs.Members.{Setting, Value, letters, figure, figures, settings, Member, Taken, taking, missed, past, made}
-use Rattle.json_actions.specs.Members.{anyItems, takeText, takeNumber, takeNumbers, takeSetting}
-use Rattle.json_actions.specs.Members.{takeSettings, takeZero, takeValue}
-use Rattle.json_actions.specs.Members.{takeHeld, takeMember, sole, membersOf, isIdText, isFullSet}
+use Rattle.json_actions.specs.Names.{keyNames, kindNames, placeOf, defaultDomain, idPlace, actorPlace, kindPlace, flagsPlace, domainPlace, depthPlace}
+use Rattle.json_actions.specs.Members.{Setting, Value, letters, figure, figures, settings, Member, Taken, taking, missed, past, made, anyItems, takeText, takeNumber, takeNumbers, takeSetting, takeSettings, takeZero, takeValue, takeHeld, takeMember, sole, membersOf, isIdText, isFullSet}
 use Rattle.json_actions.specs.Actions.{commaed, settingTokens, numberTokens, valueTokens, memberTokens, objectTokens}
 use Rattle.json_actions.specs.Items.{missed-took}
 use Rattle.json_actions.specs.Fitting.{valueFits, MemberFits}

@@ -22,8 +22,7 @@ use Rattle.refusals.specs.declared.Outcome.the-variants.{Accepted}
 use Rattle.json_tokens.specs.Tokens.{tokens}
 use Rattle.json_tokens.specs.SpellingLaws.{tokens-spelled}
 use Rattle.json_actions.specs.Members.{Member, isIdText, isFullSet}
-use Rattle.json_actions.specs.Actions.{usesIn, isFull, actionIn, heldId, readWhole, jsonRead, resourcesWith, settingsFrom, membersFrom, objectTokens, jsonText}
-use Rattle.json_actions.specs.Actions.{jsonFits, memberValue}
+use Rattle.json_actions.specs.Actions.{usesIn, isFull, actionIn, heldId, readWhole, jsonRead, resourcesWith, settingsFrom, membersFrom, objectTokens, jsonText, jsonFits, memberValue}
 use Rattle.json_actions.specs.Fitting.{valueFits, MemberFits}
 use Rattle.json_actions.specs.Orders.{usesWith, ordered, orderedAt}
 use Rattle.json_actions.proofs.Taking.{members-taken}

@@ -17,11 +17,8 @@ use Rattle.decimals.specs.Decimals.{digits, parse, got}
 use Rattle.decimals.specs.Laws.{parse-digits}
 use Rattle.decimals.specs.Answers.{starts}
 use Rattle.json_tokens.specs.Tokens.{Token, mark, text, comma, colon, opensList, closesList, opensObject, closesObject, trueMark, falseMark}
-use Rattle.json_actions.specs.Names.{keyNames, flagNames, defaultDomain}
-use Rattle.json_actions.specs.Names.{idPlace, actorPlace, kindPlace, flagsPlace, domainPlace, depthPlace}
-use Rattle.json_actions.specs.Members.{Setting, Value, letters, figure, figures, settings, Member, Taken, taking}
-use Rattle.json_actions.specs.Members.{items, anyItems, takeNumber, takeNumbers, takeSetting, takeSettings, takeValue, takeMember, membersOf, isIdText}
-use Rattle.json_actions.specs.Members.{isFullSet}
+use Rattle.json_actions.specs.Names.{keyNames, flagNames, defaultDomain, idPlace, actorPlace, kindPlace, flagsPlace, domainPlace, depthPlace}
+use Rattle.json_actions.specs.Members.{Setting, Value, letters, figure, figures, settings, Member, Taken, taking, items, anyItems, takeNumber, takeNumbers, takeSetting, takeSettings, takeValue, takeMember, membersOf, isIdText, isFullSet}
 use Rattle.json_actions.specs.Actions.{commaed, settingTokens, numberTokens, valueTokens, memberTokens, objectTokens}
 use Rattle.json_actions.specs.Items.{Shrinks, items-step, number-shrinks, setting-shrinks, member-shrinks}
 use Rattle.json_actions.specs.Fitting.{valueFits, MemberFits}

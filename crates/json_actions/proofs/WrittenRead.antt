@@ -23,8 +23,7 @@ use Rattle.refusals.specs.declared.Refusal.the-variants.{OutOfRange, BadJson}
 use Rattle.json_tokens.specs.Tokens.{tokens}
 use Rattle.json_actions.specs.Names.{idPlace, actorPlace, kindPlace, readPlace, writePlace, executePlace, flagsPlace, domainPlace}
 use Rattle.json_actions.specs.Members.{Setting, Value, letters, figure, figures, settings, Member, membersOf, amongAll, isIdText, idLength, taking}
-use Rattle.json_actions.specs.Actions.{asLetters, asFigure, asFigures, asSettings, setAmong, flagsBelow, flagsOf, usedWith, usesIn, isFull, actionIn, heldId, readWhole}
-use Rattle.json_actions.specs.Actions.{readMembers, unread, jsonRead, objectTokens, jsonText, jsonFits, jsonHolds, memberValue}
+use Rattle.json_actions.specs.Actions.{asLetters, asFigure, asFigures, asSettings, setAmong, flagsBelow, flagsOf, usedWith, usesIn, isFull, actionIn, heldId, readWhole, readMembers, unread, jsonRead, objectTokens, jsonText, jsonFits, jsonHolds, memberValue}
 use Rattle.json_actions.specs.declared.JsonRead.{JsonRead}
 use Rattle.json_actions.specs.Items.{taken-cases}
 use Rattle.json_actions.specs.Fitting.{valueFits, MemberFits}

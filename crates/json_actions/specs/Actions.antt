@@ -21,8 +21,7 @@ use Rattle.texts.specs.declared.Written.{Written}
 use Rattle.texts.specs.Delivery.{delivered, unwritten}
 use Rattle.json_tokens.specs.Tokens.{Token, mark, text, tokens, opensObject, closesObject, opensList, closesList, colon, comma, zeroMark, trueMark, falseMark}
 use Rattle.json_tokens.specs.Spelling.{spelledAll}
-use Rattle.json_actions.specs.Names.{keyNames, kindNames, flagNames, defaultDomain, idPlace, actorPlace, kindPlace, readPlace, writePlace, executePlace, flagsPlace}
-use Rattle.json_actions.specs.Names.{domainPlace, depthPlace}
+use Rattle.json_actions.specs.Names.{keyNames, kindNames, flagNames, defaultDomain, idPlace, actorPlace, kindPlace, readPlace, writePlace, executePlace, flagsPlace, domainPlace, depthPlace}
 use Rattle.json_actions.specs.Members.{Setting, Value, letters, figure, figures, settings, Member, Taken, missed, membersOf, amongAll, isIdText, idLength, taking}
 use Rattle.json_actions.specs.declared.JsonRead.{JsonRead}
 

@@ -9,8 +9,7 @@ use Rattle.paths.specs.Containment.{same}
 use Rattle.register.specs.Limits.{idLimit}
 use Rattle.rights.specs.Rights.{isRight}
 use Rattle.actions.specs.Actions.{useLimit, flagCount}
-use Rattle.json_actions.specs.Names.{defaultDomain}
-use Rattle.json_actions.specs.Names.{idPlace, actorPlace, kindPlace, readPlace, writePlace, executePlace, flagsPlace, domainPlace, depthPlace}
+use Rattle.json_actions.specs.Names.{defaultDomain, idPlace, actorPlace, kindPlace, readPlace, writePlace, executePlace, flagsPlace, domainPlace, depthPlace}
 use Rattle.json_actions.specs.Members.{Value, letters, figure, figures, settings, Member, isIdText, isFullSet}
 
 -- a text is an id, or the domain `default`; a number is the actor's, a kind or the depth 0; up to 32 numbers are resources; the ten flags

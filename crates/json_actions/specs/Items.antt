@@ -8,11 +8,8 @@ use lib.ListN.{length}
 use lib.Dec.{eqb}
 use Rattle.lists.specs.Tests.{cases}
 use Rattle.json_tokens.specs.Tokens.{Token, mark, text, noToken, comma, colon, trueMark, falseMark, opensList, closesList, opensObject, closesObject, zeroMark}
-use Rattle.json_actions.specs.Names.{placeOf, keyNames, flagNames}
-use Rattle.json_actions.specs.Names.{idPlace, actorPlace, kindPlace, readPlace, writePlace, executePlace, flagsPlace, domainPlace, depthPlace}
-use Rattle.json_actions.specs.Members.{Taken, taking, missed, past, made, ledBy, separated, further, itemsWith, items, anyItems, named}
-use Rattle.json_actions.specs.Members.{Value, takeText, takeNumber, takeNumbers, takeWord, takeSet, takeSetting, takeSettings}
-use Rattle.json_actions.specs.Members.{takeZero, takeValue, takeHeld, takeMember}
+use Rattle.json_actions.specs.Names.{placeOf, keyNames, flagNames, idPlace, actorPlace, kindPlace, readPlace, writePlace, executePlace, flagsPlace, domainPlace, depthPlace}
+use Rattle.json_actions.specs.Members.{Taken, taking, missed, past, made, ledBy, separated, further, itemsWith, items, anyItems, named, Value, takeText, takeNumber, takeNumbers, takeWord, takeSet, takeSetting, takeSettings, takeZero, takeValue, takeHeld, takeMember}
 
 abbrev pub keyCount : ℕ
 keyCount = 9

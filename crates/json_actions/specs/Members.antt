@@ -13,8 +13,7 @@ use Rattle.rules.specs.Sound.{distinct}
 use Rattle.actions.specs.Actions.{useLimit, flagCount}
 use Rattle.decimals.specs.Decimals.{Parsed, got, large, bad, parse}
 use Rattle.json_tokens.specs.Tokens.{Token, mark, text, noToken, opensObject, closesObject, opensList, closesList, colon, comma, zeroMark, trueMark, falseMark, quote}
-use Rattle.json_actions.specs.Names.{keyNames, kindNames, flagNames, defaultDomain, placeOf}
-use Rattle.json_actions.specs.Names.{idPlace, actorPlace, kindPlace, readPlace, writePlace, executePlace, flagsPlace, domainPlace, depthPlace}
+use Rattle.json_actions.specs.Names.{keyNames, kindNames, flagNames, defaultDomain, placeOf, idPlace, actorPlace, kindPlace, readPlace, writePlace, executePlace, flagsPlace, domainPlace, depthPlace}
 
 -- a flag and whether it is set
 pub record Setting : Type 0 where

@@ -15,8 +15,7 @@ use Rattle.rules.specs.Distinct.{distinct-again}
 use Rattle.actions.specs.Actions.{flagCount}
 use Rattle.json_tokens.specs.Tokens.{Token, mark, text, noToken, colon, closesObject, opensObject, trueMark, falseMark, tokens}
 use Rattle.json_actions.specs.Names.{flagNames, placeOf}
-use Rattle.json_actions.specs.Members.{Setting, Taken, missed, ledBy, separated, items, anyItems, takeText, takeWord, takeSet, takeSetting, takeSettings, amongAll, isFullSet}
-use Rattle.json_actions.specs.Members.{taking}
+use Rattle.json_actions.specs.Members.{Setting, Taken, missed, ledBy, separated, items, anyItems, takeText, takeWord, takeSet, takeSetting, takeSettings, amongAll, isFullSet, taking}
 use Rattle.json_actions.specs.Items.{items-step, setting-shrinks, taken-cases, prefixed, prefixed-nil, prefixed-led}
 use Rattle.json_reading.specs.declared.SettingAt.{SettingAt}
 use Rattle.json_reading.specs.declared.SettingAt.the-variants.{Is, Not as NoSetting}

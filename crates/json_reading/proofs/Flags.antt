@@ -18,7 +18,7 @@ use Rattle.rules.specs.Sound.{distinct}
 use Rattle.rules.specs.Registers.{distinct-nil}
 use Rattle.rules.specs.Distinct.{distinct-last}
 use Rattle.actions.specs.Actions.{flagCount}
-use Rattle.json_tokens.specs.Tokens.{mark, tokens}
+use Rattle.json_tokens.specs.Tokens.{tokens}
 use Rattle.json_actions.specs.Members.{Setting, amongAll, isFullSet, taking}
 use Rattle.json_actions.specs.Actions.{setAmong, flagsBelow}
 use Rattle.json_reading.specs.declared.Settings.the-variants.{Are, Not}

@@ -20,8 +20,7 @@ use Rattle.json_actions.specs.Items.{taken-cases, missed-took, items-step, numb
 use Rattle.json_reading.specs.declared.Numbers.{Numbers}
 use Rattle.json_reading.specs.declared.Numbers.the-variants.{Are, Not}
 use Rattle.json_reading.specs.Answers.{Behind, Separation, more, noMore, broken, separation, isMarked, limited, NumbersSays}
-use Rattle.json_reading.proofs.Laws.{past-marked, past-unmarked, continued, separated-natural, items-missed, items-more, items-done, items-broken}
-use Rattle.json_reading.proofs.Laws.{any-items-none, any-items-some, number-noToken}
+use Rattle.json_reading.proofs.Laws.{past-marked, past-unmarked, continued, separated-natural, items-missed, items-more, items-done, items-broken, any-items-none, any-items-some, number-noToken}
 
 -- the place of a name, by the first of the names
 pub place-hit : (n : List ℕ) (names : List (List ℕ)) (x : List ℕ) → same x n ≡ true → placeOf (n ∷ names) x ≡ 0

@@ -14,10 +14,8 @@ use Rattle.paths.specs.Containment.{same}
 use Rattle.rights.specs.Rights.{rightCount}
 use Rattle.actions.specs.Actions.{useLimit}
 use Rattle.json_tokens.specs.Tokens.{Token, mark, text, noToken, colon, zeroMark, tokens}
-use Rattle.json_actions.specs.Names.{keyNames, kindNames, defaultDomain, placeOf, idPlace, actorPlace, kindPlace, readPlace, writePlace, executePlace, flagsPlace}
-use Rattle.json_actions.specs.Names.{domainPlace, depthPlace}
-use Rattle.json_actions.specs.Members.{Setting, Value, letters, figure, figures, settings, Taken, missed, made, named, takeText, takeNumber, takeNumbers, takeSettings}
-use Rattle.json_actions.specs.Members.{takeZero, takeValue, isIdByte, isIdText, idLength, taking}
+use Rattle.json_actions.specs.Names.{keyNames, kindNames, defaultDomain, placeOf, idPlace, actorPlace, kindPlace, readPlace, writePlace, executePlace, flagsPlace, domainPlace, depthPlace}
+use Rattle.json_actions.specs.Members.{Setting, Value, letters, figure, figures, settings, Taken, missed, made, named, takeText, takeNumber, takeNumbers, takeSettings, takeZero, takeValue, isIdByte, isIdText, idLength, taking}
 use Rattle.json_actions.specs.Actions.{asLetters, asFigure, asFigures, asSettings, flagsOf}
 use Rattle.json_reading.specs.declared.Held.{Held}
 use Rattle.json_reading.specs.Answers.{Behind, isMarked, keyOf, isTextKey, blockOf, listRoom, limited, heldWhole, HeldSays, HeldAnyway, Apart, HoldsValue}

@@ -3,8 +3,7 @@ use mathlib.Core.Path.{_≡_, refl}
 use mathlib.Core.List.{[], _∷_, flatten}
 use Rattle.lists.specs.Bytes.{bytes}
 use Rattle.paths.specs.Containment.{same}
-use Rattle.json_tokens.specs.Tokens.{mark, text, noToken, quote, opensObject, closesObject, colon, comma, zeroMark, trueMark, falseMark}
-use Rattle.json_tokens.specs.Tokens.{unblanked, quoted, closing, leading, tokensWith, tokens}
+use Rattle.json_tokens.specs.Tokens.{mark, text, noToken, quote, opensObject, closesObject, colon, comma, zeroMark, trueMark, falseMark, unblanked, quoted, closing, leading, tokensWith, tokens}
 use Rattle.json_tokens.specs.Spelling.{spelled, spelledAll, spaced}
 
 -- an object with every kind of blank in it: SP, `{`, TAB, `"a"`, LF, `:`, CR, `0`, `,`, `"b"`, `:`, `false`, SP, SP, `}`, LF

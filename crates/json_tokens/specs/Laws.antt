@@ -8,8 +8,7 @@ use lib.Dec.{eqb}
 use lib.ListN.{length, take, drop, length-drop}
 use Rattle.lists.specs.Tests.{cases}
 use Rattle.paths.specs.Containment.{same}
-use Rattle.json_tokens.specs.Tokens.{Token, mark, noToken, FirstToken, first, exhausted, isBlank, isMark, quote, trueWord, falseWord, trueMark, falseMark}
-use Rattle.json_tokens.specs.Tokens.{unblanked, quoted, closing, quoteClosed, leading, tokensWith, tokens}
+use Rattle.json_tokens.specs.Tokens.{Token, mark, noToken, FirstToken, first, exhausted, isBlank, isMark, quote, trueWord, falseWord, trueMark, falseMark, unblanked, quoted, closing, quoteClosed, leading, tokensWith, tokens}
 
 -- a first token taken apart, with its equation
 pub first-cases : {A : Type 0} (f : FirstToken) → ((k : Token) (rest : List ℕ) → f ≡ first k rest → A) → (f ≡ exhausted → A) → A
@@ -93,16 +92,3 @@ tokens-unblanked t u e =
     first-cases (leading (unblanked t))
     (λ k rest f. tokens-first t k rest f ∙ sym (tokens-first u k rest (sym (ap leading e) ∙ f)))
     (λ f. tokens-exhausted t f ∙ sym (tokens-exhausted u (sym (ap leading e) ∙ f)))
-
-tokens-with-length : (f : ℕ) (t : List ℕ) → length (tokensWith f t) ≤ length t
-unfolding tokensWith
-tokens-with-length zero t = omega arith
-tokens-with-length (suc f) t =
-    first-cases (leading (unblanked t))
-    (λ k rest e. rw e (omega (arith, tokens-with-length f rest, tokens-shorter t k rest e)))
-    (λ e. rw e (omega arith))
-
--- a text has no more tokens than bytes
-pub tokens-length : (t : List ℕ) → length (tokens t) ≤ length t
-unfolding tokens
-tokens-length t = tokens-with-length (suc (length t)) t

@@ -3,8 +3,7 @@ use mathlib.Core.Path.{_≡_, refl}
 use mathlib.Core.Bool.{true, false}
 use mathlib.Core.List.{[], _∷_}
 use Rattle.decimals.specs.Decimals.{digitsWith, digits, digitRun, after, value, canonical, parse}
-use Rattle.lines.specs.Lines.{line, beyond, fault, begins, ended, parseLimited, atLeast, parseDecimal, decimalLine}
-use Rattle.lines.specs.Lines.{parseKind, humanLine, machineLine, pathOn, parseScope}
+use Rattle.lines.specs.Lines.{line, beyond, fault, begins, ended, parseLimited, atLeast, parseDecimal, decimalLine, parseKind, humanLine, machineLine, pathOn, parseScope}
 use Rattle.lines.specs.Reading.{going, failed, number, count, kind, readForm, closed}
 use Rattle.lines.specs.Answers.{stateOf}
 

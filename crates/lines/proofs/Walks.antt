@@ -1,18 +1,17 @@
 -- The definitions of lines at a position of a text: what one byte more, or one answer more, makes of them. Assumes nothing.
-use Prim.Native.Nat.{ℕ, suc, _+_, _-_, _≤_, _<_}
+use Prim.Native.Nat.{ℕ, _+_, _-_, _≤_, _<_}
 use mathlib.Core.Path.{_≡_, refl, ap, _∙_}
-use mathlib.Core.List.{List, [], _∷_, _++_, append-assoc}
+use mathlib.Core.List.{List, [], _∷_, _++_}
 use mathlib.Core.Bool.{Bool, true, false, cond}
 use native.Mathlib.Omega.{arith}
 use lib.Dec.{eqb}
-use lib.ListN.{length, getD, set, drop, replicate, drop-of-length-le, length-append, length-drop}
+use lib.ListN.{length, getD, drop, replicate, drop-of-length-le, length-append, length-drop}
 use lib.Seq.{drop-drop}
 use borrow.Author.Tests.{eq-eqb, ne-eqb, le-leb, lt-leb, lt-ltb, le-ltb}
 use Rattle.register.specs.Limits.{humanKind, machineKind, pathLimit, pathByteLeast, pathByteGreatest}
 use Rattle.decimals.specs.Decimals.{Parsed, got, large, bad, parse}
 use Rattle.decimals.specs.Walk.{drop-byte}
-use Rattle.lines.specs.Lines.{lineFeed, Line, line, beyond, fault, begins, ended, parseLimited, atLeast, decimalLine}
-use Rattle.lines.specs.Lines.{humanLine, machineLine, parseKind, scopeKey, pathOn, parseScope}
+use Rattle.lines.specs.Lines.{lineFeed, Line, line, beyond, fault, begins, ended, parseLimited, atLeast, decimalLine, humanLine, machineLine, parseKind, scopeKey, pathOn, parseScope}
 use Rattle.lines.specs.Answers.{PathSays}
 use Rattle.lines.specs.Laws.{begins-split, limited-read, decimal-line-length}
 use Rattle.lines.specs.declared.PathRead.{PathRead}

@@ -15,9 +15,8 @@ use Rattle.register.specs.Limits.{humanKind, machineKind, pathLimit, pathByteLe
 use Rattle.decimals.specs.Decimals.{digits, Parsed, got, large, bad, parse}
 use Rattle.decimals.specs.Laws.{parse-digits, digits-parse}
 use Rattle.decimals.specs.Answers.{starts}
-use Rattle.lines.specs.Lines.{lineFeed, Line, line, beyond, fault, begins, ended, parseLimited, atLeast, parseDecimal, decimalLine}
-use Rattle.lines.specs.Lines.{humanLine, machineLine, parseKind, kindLine, scopeKey, pathOn, parseScope, scopeLine}
-use Rattle.lines.specs.Reading.{formRefusal, State, going, failed, decimal, taken, readForm, readScope, Form, kind}
+use Rattle.lines.specs.Lines.{lineFeed, Line, line, beyond, fault, begins, ended, parseLimited, atLeast, parseDecimal, decimalLine, humanLine, machineLine, parseKind, kindLine, scopeKey, pathOn, parseScope, scopeLine}
+use Rattle.lines.specs.Reading.{State, going, failed, decimal, taken, readForm, Form, kind}
 
 abbrev pub formFits : Form → ℕ → Bool
 formFits (decimal key least greatest above) n = ranged least greatest n
@@ -234,9 +233,3 @@ pub form-bound : (key : List ℕ) (least greatest above : ℕ) (st : State) → 
 form-bound key least greatest above (going t l) =
     taken-value (λ n. n ≤ greatest) 0 above l (parseDecimal key least greatest t) (omega arith) (λ n rest e. decimal-value key least greatest n rest t e)
 form-bound key least greatest above (failed why l) = omega arith
-
--- a path is at most as long as the limit
-pub scope-length : (st : State) → length (readScope st .value) ≤ pathLimit
-scope-length (going t l) =
-    taken-value (λ p. length p ≤ pathLimit) [] formRefusal l (parseScope t) (omega arith) (λ p rest e. scope-read p rest t e .2)
-scope-length (failed why l) = omega arith

@@ -78,11 +78,6 @@ module _ {C : Type 0} where
   each-behind F [] h = tt
   each-behind F (c ∷ L) h = (h, each-behind F L (h .1))
 
-  -- what holds of each over those behind it does not look at what stands in front
-  pub each-append-right : (F : List C → C → Type 0) (L M : List C) → Each F (L ++ M) → Each F M
-  each-append-right F [] M h = h
-  each-append-right F (c ∷ L) M h = each-append-right F L M (h .1)
-
   pub all-append : (Q : C → Type 0) (L M : List C) → All Q L → All Q M → All Q (L ++ M)
   all-append Q [] M h k = k
   all-append Q (c ∷ L) M h k = (h .0, all-append Q L M (h .1) k)

@@ -1,5 +1,5 @@
 -- The first places of a column are told to be distinct one by one: a number is sought among those before it. Assumes nothing.
-use mathlib.Core.Path.{_≡_, refl, sym, ap, _∙_}
+use mathlib.Core.Path.{_≡_, refl, sym, _∙_}
 use mathlib.Core.Bool.{Bool, not, _&&_}
 use mathlib.Core.List.{List}
 use Prim.Native.Nat.{ℕ, _+_, _≤_, _<_, min}
@@ -11,7 +11,6 @@ use lib.ListN.{length, take, getD}
 use lib.Seq.{take-suc, take-all}
 use Rattle.lists.specs.Tests.{cases}
 use Rattle.lists.specs.Lists.{any}
-use Rattle.register.specs.Limits.{claimLimit}
 use Rattle.rules.specs.Sound.{distinct}
 use Rattle.rules.specs.Distinct.{distinct-more}
 use Rattle.columns.specs.Columns.{latestPlace}

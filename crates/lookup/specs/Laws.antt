@@ -1,13 +1,12 @@
 -- Laws: What the places of many numbers say of each of them. Assumes nothing.
-use mathlib.Core.Path.{_≡_, ap, _∙_, sym, fun-ext}
+use mathlib.Core.Path.{_≡_, ap, _∙_, sym}
 use mathlib.Core.List.{List, _∷_, map}
 use Prim.Native.Nat.{ℕ, zero, suc, _+_, _-_, _≤_, _<_, min}
 use native.Mathlib.Nat.{zero-add}
 use native.Mathlib.Omega.{arith}
-use borrow.Author.Tests.{ltb-true, ltb-false, eqb-true, eqb-false}
-use lib.Dec.{eqb, ltb}
-use lib.ListN.{length, getD, replicate, take, length-map, length-append, length-replicate, length-take, getD-replicate, List·getD-map, List·getD-append, List·getD-eq-default}
-use lib.Seq.{getD-append-add, getD-take}
+use borrow.Author.Tests.{ltb-true, ltb-false}
+use lib.Dec.{ltb}
+use lib.ListN.{length, getD, replicate, take, length-map, length-append, length-replicate, getD-replicate, List·getD-map, List·getD-append, List·getD-eq-default}
 use Rattle.lists.specs.Tests.{cases}
 use Rattle.lists.specs.Counts.{counted-length}
 use Rattle.lists.specs.Lists.{counted}
@@ -16,7 +15,7 @@ use Rattle.register.specs.Register.{noClaim}
 use Rattle.register.specs.Chain.{latest, hopsOf}
 use Rattle.register.specs.declared.Claim.{Claim}
 use Rattle.columns.specs.Columns.{latestPlace, claimId, parentOf, chainPlaces, placesUp}
-use Rattle.columns.specs.Laws.{getD-inside, place-none, place-hit, place-miss, place-past, place-cases, place-found, chain-places-at, chain-places-nowhere, places-up-at, places-up-none, hops-natural}
+use Rattle.columns.specs.Laws.{getD-inside, place-cases, place-found, chain-places-at, chain-places-nowhere, places-up-at, places-up-none, hops-natural}
 use Rattle.lookup.specs.Finding.{placeNumber, tabled, asked, shared, placesOf, earlierPlaces, bothPlaces}
 
 -- a number that was counted
@@ -46,13 +45,6 @@ module _ (f : ℕ → ℕ) (top none : ℕ) where
       ∙ List·getD-map f (counted 0 top) i 0
       ∙ ap f (counted-number top 0 i 0 h ∙ zero-add i)
 
-  tabled-past : (i : ℕ) → top ≤ i → getD (tabled f top none) i none ≡ none
-  tabled-past i h =
-      let behind : i ≡ length (map f (counted 0 top)) + (i - top) = omega (arith, length-map (counted 0 top) f, counted-length 0 top) in
-      ap (λ k. getD (tabled f top none) k none) behind
-      ∙ getD-append-add (map f (counted 0 top)) (replicate (claimLimit - top) none) (i - top) none
-      ∙ behind-none (claimLimit - top) (i - top) none
-
 pub places-at : (column : List ℕ) (n : ℕ) (wanted : List ℕ) (m none i d : ℕ) → i < asked m wanted →
     getD (placesOf column n wanted m none) i d ≡ placeNumber none (latestPlace column (min n claimLimit) (getD wanted i 0))
 unfolding placesOf
@@ -62,51 +54,6 @@ pub earlier-at : (column wanted : List ℕ) (m none i d : ℕ) → i < asked m w
     getD (earlierPlaces column wanted m none) i d ≡ placeNumber none (latestPlace column i (getD wanted i 0))
 unfolding earlierPlaces
 earlier-at column wanted m none i d h = tabled-at (λ i. placeNumber none (latestPlace column i (getD wanted i 0))) (asked m wanted) none i d h
-
--- a place that is told is none, or one of those looked at
-pub places-told : {A : Type 0} (column : List ℕ) (n : ℕ) (wanted : List ℕ) (m none i : ℕ)
-    → (getD (placesOf column n wanted m none) i none ≡ none → A) → (getD (placesOf column n wanted m none) i none < min n claimLimit → A) → A
-unfolding placesOf
-places-told column n wanted m none i nowhere somewhere =
-    cases (ltb i (asked m wanted))
-    (λ t. let told = places-at column n wanted m none i none (ltb-true i (asked m wanted) t) in
-    place-cases (latestPlace column (min n claimLimit) (getD wanted i 0))
-    (λ j q. let here = told ∙ ap (placeNumber none) q in
-    somewhere (rw here (place-found column (getD wanted i 0) (min n claimLimit) j q .0)))
-    (λ q. nowhere (told ∙ ap (placeNumber none) q)))
-    (λ t. let past : asked m wanted ≤ i = ltb-false i (asked m wanted) t in
-    nowhere (tabled-past (λ j. placeNumber none (latestPlace column (min n claimLimit) (getD wanted j 0))) (asked m wanted) none i past))
-
--- past the places looked at it is all one what a column holds
-place-taken : (column : List ℕ) (x n k : ℕ) → k ≤ n → latestPlace column k x ≡ latestPlace (take n column) k x
-place-taken column x n zero h = place-none column x ∙ sym (place-none (take n column) x)
-place-taken column x n (suc k) h =
-    let same : getD (take n column) k 0 ≡ getD column k 0 = getD-take n column k 0 (omega arith) in
-    cases (ltb k (length column))
-    (λ t. let inside : k < length column = ltb-true k (length column) t in
-    let taken : k < length (take n column) = omega (arith, length-take n column) in
-    cases (eqb (getD column k 0) x)
-    (λ e. let here : getD column k 0 ≡ x = eqb-true (getD column k 0) x e in
-    place-hit column x k inside here ∙ sym (place-hit (take n column) x k taken (same ∙ here)))
-    (λ e. let other : (getD column k 0 ≡ x → ⊥) = eqb-false (getD column k 0) x e in
-    place-miss column x k inside other
-    ∙ place-taken column x n k (omega arith)
-    ∙ sym (place-miss (take n column) x k taken (λ q. other (sym same ∙ q)))))
-    (λ t. let past : length column ≤ k = ltb-false k (length column) t in
-    place-past column x k past
-    ∙ place-taken column x n k (omega arith)
-    ∙ sym (place-past (take n column) x k (omega (arith, length-take n column))))
-
-pub places-same : (column another : List ℕ) (n : ℕ) (wanted : List ℕ) (m none : ℕ) → take (min n claimLimit) column ≡ take (min n claimLimit) another
-    → placesOf column n wanted m none ≡ placesOf another n wanted m none
-unfolding placesOf
-places-same column another n wanted m none same =
-    let below = min n claimLimit in
-    ap (λ f. tabled f (asked m wanted) none)
-    (fun-ext (λ i. ap (placeNumber none)
-    (place-taken column (getD wanted i 0) below below (omega arith)
-    ∙ ap (λ l. latestPlace l below (getD wanted i 0)) same
-    ∙ sym (place-taken another (getD wanted i 0) below below (omega arith)))))
 
 -- where both lists have as many as are asked for, each is looked up as it is alone
 module _ (column wanted other : List ℕ) (m none : ℕ) (few : m ≤ length wanted) (fewer : m ≤ length other) where

@@ -9,8 +9,7 @@ use Rattle.lists.specs.Lists.{every}
 use Rattle.paths.specs.Containment.{slash, same, isEmpty, components, climbing, trimmed, contained, reached, reachBetween, isInside, lengthOf}
 use Rattle.paths.specs.Components.{components-natural}
 use Rattle.paths.specs.Trimming.{same-sound, same-complete, trimmed-twice}
-use Rattle.paths.specs.Laws.{contained-clean, contained-sound, contained-complete, contained-refl, contained-trans}
-use Rattle.paths.specs.Laws.{contained-not-trans, contained-antisym, contained-trimmed, trimmed-natural}
+use Rattle.paths.specs.Laws.{contained-clean, contained-sound, contained-complete, contained-refl, contained-trans, contained-not-trans, contained-antisym, contained-trimmed, trimmed-natural}
 use Rattle.paths.specs.Laws as laws
 use Rattle.paths.specs.Readings.{written, unslashed, Under}
 

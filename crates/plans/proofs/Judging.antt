@@ -24,11 +24,10 @@ use Rattle.actions.specs.declared.PlanVerdict.{PlanVerdict}
 use Rattle.verdicts.specs.Plans.{actionsOf, runs, haltOf, held, planned}
 use Rattle.verdicts.specs.Cancelling.{halt-runs, planned-runs}
 use Rattle.verdicts.specs.Sameness.{planned-same}
-use Rattle.soundness.specs.Laws.{register-standing}
 use Rattle.columns.specs.Sheet.{sheetOf}
 use Rattle.coverage.specs.Laid.{laid}
 use Rattle.gate.specs.Judged.{Lent, viewOf, lentOf, lentJudged}
-use Rattle.gate.specs.Sheets.{sheeted}
+use Rattle.gate.specs.Sheets.{sheeted, sheeted-same}
 use Rattle.gate.specs.declared.View.{View}
 use Rattle.plans.specs.Judgements.{judgedAs, judgementsBy}
 use Rattle.plans.proofs.Laws.{judgements-by-nil, judgements-by-cons, judgements-natural}
@@ -128,4 +127,4 @@ planned-lent r p shaped e viewed put of-bytes answered =
 
 -- a register whose claims are read from their sheet gets the same verdicts
 pub planned-sheeted : (r : Register) → length (r .claims .list) ≡ claimLimit → (p : Plan) → planned (sheeted r) p ≡ planned r p
-planned-sheeted r long p = planned-same (sheeted r) r (register-standing r long) p
+planned-sheeted r long p = planned-same (sheeted r) r (sheeted-same r long) p

@@ -41,7 +41,7 @@ module _ (names : List ℕ) (n i : ℕ) where
   unfolding haltBy
   halt-by-fail a actions why e = rw e
 
-pub halt-natural : (r : Register) (i : ℕ) (actions : List Action) → haltBy (viewOf r .actors .ids) (viewOf r .counts .actors) i actions ≡ firstHalt (sheeted r) i actions
+pub halt-natural : (r : Register) (i : ℕ) (actions : List Action) → haltBy (viewOf r .actors .names) (viewOf r .counts .actors) i actions ≡ firstHalt (sheeted r) i actions
 unfolding haltBy firstHalt
 halt-natural r i [] = refl
 halt-natural r i (a ∷ actions) = rw (tests-natural r a, halt-natural r (suc i) actions)

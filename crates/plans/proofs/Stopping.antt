@@ -77,9 +77,9 @@ module _ (r : Register) (p : Plan) where
 
 -- what is found by the view of the register stops the plan
 pub stop-found : (r : Register) (p : Plan) → sound (sheeted r) ≡ true → p .count ≤ actionLimit → {v : View} → v ≡ viewOf r → {stop : Stop}
-    → stop ≡ stopOf (haltBy (v .actors .ids) (v .counts .actors) 0 (actionsOf p)) → stop ≡ stopOf (haltOf (sheeted r) p)
+    → stop ≡ stopOf (haltBy (v .actors .names) (v .counts .actors) 0 (actionsOf p)) → stop ≡ stopOf (haltOf (sheeted r) p)
 stop-found r p h few viewed found =
-    found ∙ ap (λ w. stopOf (haltBy (w .actors .ids) (w .counts .actors) 0 (actionsOf p))) viewed
+    found ∙ ap (λ w. stopOf (haltBy (w .actors .names) (w .counts .actors) 0 (actionsOf p))) viewed
     ∙ ap stopOf (halt-natural r 0 (actionsOf p) ∙ sym (halt-actions (sheeted r) p h few))
 
 -- what the code holds tells what stops a plan

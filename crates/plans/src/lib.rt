@@ -14,6 +14,7 @@ use actions::Judged;
 use actions::Judgement;
 use actions::Plan;
 use actions::PlanVerdict;
+use gate::Counts;
 use gate::View;
 use refusals::Outcome;
 use refusals::Refusal;
@@ -128,8 +129,13 @@ pub fn plan(r: Register, p: Plan) -> PlanVerdict
     }
     let mut bytes = [0u8; coverage::BYTES];
     let lens = coverage::lay(&mut bytes, o);
-    let v = gate::view_of(actors, o, &sheet, n, lens, known);
-    let stop = first_stop(&v.actors.ids, v.counts.actors, p);
+    let counts = Counts {
+        actors: actors.count,
+        resources: o.count,
+        claims: n,
+    };
+    let v = gate::view_of(counts, &sheet, lens, known);
+    let stop = first_stop(&v.actors.names, v.counts.actors, p);
     let outcome = stop.outcome;
     match outcome {
         Outcome::Refused(why) => stopped(why, stop.position),

@@ -2,7 +2,7 @@
 use mathlib.Core.Path.{_≡_}
 use mathlib.Core.List.{List}
 use Prim.Native.Nat.{ℕ}
-use Rattle.lines.specs.Reading.{State, Read}
+use Rattle.lines.specs.Reading.{Read}
 use Rattle.lines.specs.declared.Cursor.{Cursor}
 use Rattle.lines.specs.Answers.{stateOf}
 

@@ -3,7 +3,7 @@ ghost use mathlib.Core.Path.{_≡_};
 ghost use Rattle.register.specs.Register.{emptyRegister};
 ghost use Rattle.lines.specs.Answers.{stateOf};
 ghost use Rattle.texts.specs.Registers.{readActor, readResource, readClaim, readActors, readResources, readClaims, heldActors, heldResources, heldClaims, registerRead};
-ghost use Rattle.texts.specs.Registers.{registerEnding};
+ghost use Rattle.texts.specs.Registers.{registerEnding, registerFrom};
 ghost use Rattle.reading.specs.Reads.{Reads};
 use lines::Cursor;
 use refusals::Outcome;
@@ -52,6 +52,12 @@ struct ResourcesRead {
 struct ClaimsRead {
     claims: Claims,
     cursor: Cursor,
+}
+
+// The register that a text's lines say, and where the reading then stands: at the end of the text, or where it failed.
+pub struct RegisterForm {
+    pub register: Register,
+    pub cursor: Cursor,
 }
 
 // The lines `actor`, `kind`, `owner`.
@@ -224,15 +230,16 @@ fn answer(s: &[u8], c: Cursor, register: Register) -> RegisterRead
     }
 }
 
-// Reads a text as a register.
-pub fn read_register(text: &[u8]) -> RegisterRead
-    ensures { λ r. ⌜ r ≡ registerRead (now (text .entry)) ⌝ }
+// Reads the lines of a register, whatever it says: it is not judged.
+pub fn read_form(text: &[u8]) -> RegisterForm
+    ensures register { λ r. ⌜ r .register ≡ registerFrom (now (text .entry)) .value ⌝ }
+    ensures state { λ r. ⌜ stateOf (now (text .entry)) (r .cursor) ≡ registerFrom (now (text .entry)) .state ⌝ }
 {
     let version = lines::read_number(text, lines::start(), b"register=", 1, 1);
     let first = read_actors(text, version.cursor);
     let second = read_resources(text, first.cursor);
     let third = read_claims(text, second.cursor);
-    let end = lines::finish(text, third.cursor);
+    let cursor = lines::finish(text, third.cursor);
     let actors = first.actors;
     let resources = second.resources;
     let claims = third.claims;
@@ -241,5 +248,15 @@ pub fn read_register(text: &[u8]) -> RegisterRead
         resources,
         claims,
     };
-    answer(text, end, register)
+    RegisterForm { register, cursor }
+}
+
+// Reads a text as a register.
+pub fn read_register(text: &[u8]) -> RegisterRead
+    ensures { λ r. ⌜ r ≡ registerRead (now (text .entry)) ⌝ }
+{
+    let form = read_form(text);
+    let register = form.register;
+    let cursor = form.cursor;
+    answer(text, cursor, register)
 }

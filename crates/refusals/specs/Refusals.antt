@@ -3,9 +3,7 @@ use mathlib.Core.Bool.{Bool, true, false, cond}
 use mathlib.Core.List.{List, [], _∷_}
 use Prim.Native.Nat.{ℕ}
 use Rattle.refusals.specs.declared.Refusal.{Refusal}
-use Rattle.refusals.specs.declared.Refusal.the-variants.{Unsound, OutOfRange, Unknown, IdStands, Full, NotKeeper, Ownerless, MachineBarred, ParentAbsent}
-use Rattle.refusals.specs.declared.Refusal.the-variants.{ParentNotHeld, ParentDead, NoDelegate, RightLacking, WeightAbove, TooManyHops, Circle, ClaimAbsent, NoGrantor}
-use Rattle.refusals.specs.declared.Refusal.the-variants.{BadForm, CountAbove, BufferShort, BadJson, BeyondJson}
+use Rattle.refusals.specs.declared.Refusal.the-variants.{Unsound, OutOfRange, Unknown, IdStands, Full, NotKeeper, Ownerless, MachineBarred, ParentAbsent, ParentNotHeld, ParentDead, NoDelegate, RightLacking, WeightAbove, TooManyHops, Circle, ClaimAbsent, NoGrantor, BadForm, CountAbove, BufferShort, BadJson, BeyondJson}
 use Rattle.refusals.specs.declared.Outcome.{Outcome}
 use Rattle.refusals.specs.declared.Outcome.the-variants.{Accepted, Refused}
 

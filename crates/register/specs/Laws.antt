@@ -2,8 +2,7 @@
 use mathlib.Core.Path.{_≡_, refl, ap, sym, _∙_}
 use mathlib.Core.Bool.{true, false, and-false}
 use mathlib.Core.List.{List, [], _∷_, map}
-use Prim.Native.Nat.{ℕ, _≤_, _<_}
-use native.Mathlib.Omega.{arith}
+use Prim.Native.Nat.{ℕ, _<_}
 use borrow.Author.Tests.{eqb-true, eq-eqb, ne-eqb, lt-ltb}
 use lib.Dec.{eqb, ltb}
 use lib.ListN.{length, length-replicate}
@@ -62,17 +61,10 @@ module _ {C : Type 0} (id up : C → ℕ) where
   chain-absent [] p h = chain-nil p
   chain-absent (c ∷ L) p h = chain-miss c L p (h .0) ∙ chain-absent L p (h .1)
 
-  pub absent-chain : (L : List C) (p : ℕ) → chain id up L p ≡ [] → All (λ c. numbered id up p c ≡ false) L
-  absent-chain = chain-ind (λ L p H. H ≡ [] → All (λ c. numbered id up p c ≡ false) L) (λ p h. tt) (λ c L p e ih h. cons-clash h) (λ c L p e ih h. (e, ih h))
-
   -- 0 is the number of none, so a root has no chain above it
   pub chain-zero : (L : List C) → chain id up L 0 ≡ []
   chain-zero [] = chain-nil 0
   chain-zero (c ∷ L) = chain-miss c L 0 refl ∙ chain-zero L
-
-  -- a chain is not longer than the list
-  pub chain-length : (L : List C) (p : ℕ) → length (chain id up L p) ≤ length L
-  chain-length = chain-ind (λ L p H. length H ≤ length L) (λ p. omega arith) (λ c L p e ih. omega arith) (λ c L p e ih. omega arith)
 
 -- things read through f
 module _ {E C : Type 0} (f : E → C) (id up : C → ℕ) where

@@ -9,19 +9,13 @@ use lib.Dec.{eqb}
 use lib.ListN.{length}
 use Rattle.lists.specs.Tests.{cases}
 use Rattle.lists.specs.Each.{list-cases, cons-clash}
-use Rattle.register.specs.Chain.{chain, above, hopsOf, chainOf, rootGranted}
+use Rattle.register.specs.Chain.{chain, above, hopsOf, chainOf}
 use Rattle.register.specs.Laws.{chain-hit, chain-miss, chain-ind, chain-zero, chain-id, all-chain, numbered-own, numbered-id, numbered-other}
 use Rattle.register.specs.declared.Claim.{Claim}
 use Rattle.rules.specs.Sound.{World, soundClaims}
 use Rattle.rules.specs.Laws.{acceptable-out, claim-fits-out, drawn-stands, fresh-out}
 use Rattle.rules.specs.Places.{latest-acceptable, earlier-sound, prefix-sound, place-acceptable}
 use Rattle.rules.specs.Roots.{Climbs, rootOf}
-
--- it is a root's grantor that (e) asks of
-pub root-granted-root : (c : Claim) (higher : List Claim) (h : ℕ) → rootGranted (λ d. d .grantor) (c ∷ higher) h ≡ eqb (rootOf c higher .grantor) h
-unfolding rootGranted
-root-granted-root c [] h = refl
-root-granted-root c (p ∷ higher) h = root-granted-root p higher h
 
 climbs-root : (c : Claim) (higher : List Claim) → Climbs (c .parent) higher → rootOf c higher .parent ≡ 0
 climbs-root c [] h = h

@@ -1,16 +1,16 @@
 -- Laws: What each judgement of soundness says, part by part: from the judgement to its parts (`-out`) and back (`-in`). Assumes nothing.
 use mathlib.Core.Path.{_≡_, refl, sym, _∙_}
-use mathlib.Core.Bool.{true, false, not, _&&_}
+use mathlib.Core.Bool.{true, false, not}
 use mathlib.Core.List.{List, [], _∷_}
 use Prim.Native.Nat.{ℕ, _≤_, _<_, _^_}
 use native.Mathlib.Omega.{arith}
-use borrow.Author.Tests.{eqb-true, eqb-false, leb-true, ltb-true, not-true, eq-eqb, ne-eqb, le-leb, lt-ltb}
+use borrow.Author.Tests.{eqb-true, eqb-false, leb-true, ltb-true, not-true, eq-eqb, ne-eqb, le-leb}
 use lib.Dec.{eqb, leb, ltb}
 use lib.ListN.{length}
-use Rattle.lists.specs.Tests.{cases, clash, and-left, and-right, and-both, or-other, or-second}
+use Rattle.lists.specs.Tests.{cases, clash, and-left, and-right, and-both, or-other}
 use Rattle.lists.specs.Lists.{any, All}
 use Rattle.lists.specs.Each.{all-imp, none-all, all-none, ands-out, list-cases, cons-clash}
-use Rattle.rights.specs.Rights.{rightCount, delegating, isRights, hasRight, hasRights, barsMachine}
+use Rattle.rights.specs.Rights.{rightCount, delegating, isRights, hasRight, hasRights}
 use Rattle.register.specs.Limits.{isId, ranged, hopLimit, idLimit, weightLimit, momentEnd}
 use Rattle.register.specs.Chain.{above, circling}
 use Rattle.register.specs.Laws.{chain-zero}
@@ -64,68 +64,10 @@ claim-fits-out c h =
       expiryBelow = ltb-true (c .expiry) momentEnd (told .1 .1 .1 .1 .1 .1 .1 .0);
     }
 
-pub claim-fits-in : (c : Claim) → Fits c → claimFits c ≡ true
-unfolding claimFits
-claim-fits-in c h = rw (
-  le-leb 1 (c .id) (h .idLeast),
-  le-leb (c .id) idLimit (h .idGreatest),
-  le-leb (c .parent) idLimit (h .parentGreatest),
-  le-leb 1 (c .grantor) (h .grantorLeast),
-  le-leb (c .grantor) idLimit (h .grantorGreatest),
-  le-leb 1 (c .holder) (h .holderLeast),
-  le-leb (c .holder) idLimit (h .holderGreatest),
-  le-leb 1 (c .resource) (h .resourceLeast),
-  le-leb (c .resource) idLimit (h .resourceGreatest),
-  lt-ltb 0 (c .rights) (h .rightsLeast),
-  lt-ltb (c .rights) (2 ^ rightCount) (h .rightsBelow),
-  le-leb (c .weight) weightLimit (h .weightGreatest),
-  lt-ltb (c .expiry) momentEnd (h .expiryBelow),
-)
-
--- the actors and the resource that a claim names stand
-pub record Stands (w : World) (c : Claim) : Type 0 where
-  pub grantorKnown : w .known (c .grantor) ≡ true
-  pub holderKnown : w .known (c .holder) ≡ true
-  pub resourceListed : w .listed (c .resource) ≡ true
-
-pub names-stand-out : (w : World) (c : Claim) → namesStand w c ≡ true → Stands w c
-unfolding namesStand
-names-stand-out w c h =
-    let told = ands-out (w .known (c .grantor) ∷ w .known (c .holder) ∷ w .listed (c .resource) ∷ []) h in
-    record { grantorKnown = told .0; holderKnown = told .1 .0; resourceListed = told .1 .1 .0 }
-
-pub names-stand-in : (w : World) (c : Claim) → Stands w c → namesStand w c ≡ true
-unfolding namesStand
-names-stand-in w c h = rw (h .grantorKnown, h .holderKnown, h .resourceListed)
-
 -- (a)
 pub root-kept-out : (w : World) (c : Claim) → rootKept w c ≡ true → c .parent ≡ 0 → w .keeps (c .grantor) (c .resource) ≡ true
 unfolding rootKept
 root-kept-out w c h root = or-other (not (eqb (c .parent) 0)) (w .keeps (c .grantor) (c .resource)) h (rw (eq-eqb (c .parent) 0 root))
-
-pub root-kept-in : (w : World) (c : Claim) → (c .parent ≡ 0 → w .keeps (c .grantor) (c .resource) ≡ true) → rootKept w c ≡ true
-unfolding rootKept
-root-kept-in w c kept =
-    cases (eqb (c .parent) 0) (λ e. or-second (not (eqb (c .parent) 0)) (w .keeps (c .grantor) (c .resource)) (kept (eqb-true (c .parent) 0 e)))
-    (λ e. rw e)
-
--- (c), of a claim that a machine grants
-pub record MachineGranted (w : World) (c : Claim) : Type 0 where
-  pub owned : w .ownerless (c .grantor) ≡ false
-  pub free : barsMachine (c .rights) ≡ false
-
-pub machine-may-out : (w : World) (c : Claim) → machineMay w c ≡ true → w .machine (c .grantor) ≡ true → MachineGranted w c
-unfolding machineMay
-machine-may-out w c h machine =
-    let told = or-other (not (w .machine (c .grantor))) (not (w .ownerless (c .grantor)) && not (barsMachine (c .rights))) h (rw machine) in
-    record {
-      owned = not-true (w .ownerless (c .grantor)) (and-left (not (w .ownerless (c .grantor))) (not (barsMachine (c .rights))) told);
-      free = not-true (barsMachine (c .rights)) (and-right (not (w .ownerless (c .grantor))) (not (barsMachine (c .rights))) told);
-    }
-
-pub machine-may-in : (w : World) (c : Claim) → (w .machine (c .grantor) ≡ true → MachineGranted w c) → machineMay w c ≡ true
-unfolding machineMay
-machine-may-in w c may = cases (w .machine (c .grantor)) (λ e. let granted = may e in rw (e, granted .owned, granted .free)) (λ e. rw e)
 
 pub drawn-from-out : (p c : Claim) → drawnFrom p c ≡ true → DrawnFrom p c
 unfolding drawnFrom
@@ -139,10 +81,6 @@ drawn-from-out p c h =
       contains = told .1 .1 .1 .0;
       weighs = leb-true (c .weight) (p .weight) (told .1 .1 .1 .1 .0);
     }
-
-pub drawn-from-in : (p c : Claim) → DrawnFrom p c → drawnFrom p c ≡ true
-unfolding drawnFrom
-drawn-from-in p c h = rw (eq-eqb (p .holder) (c .grantor) (h .held), eq-eqb (p .resource) (c .resource) (h .onSame), h .delegates, h .contains, le-leb (c .weight) (p .weight) (h .weighs))
 
 -- (b), (d) and (e), of a claim and the chain above it: its parent and what is higher
 pub record OverChain (p : Claim) (higher : List Claim) (c : Claim) : Type 0 where
@@ -160,10 +98,6 @@ over-chain-out p higher c h =
       hops = leb-true (length (p ∷ higher)) hopLimit (told .1 .0);
       uncircled = not-true (circling (λ d. d .grantor) (λ d. d .holder) (p ∷ higher) (c .holder)) (told .1 .1 .0);
     }
-
-pub over-chain-in : (p : Claim) (higher : List Claim) (c : Claim) → OverChain p higher c → overChain (p ∷ higher) c ≡ true
-unfolding overChain
-over-chain-in p higher c h = rw (drawn-from-in p c (h .drawnFromParent), le-leb (length (p ∷ higher)) hopLimit (h .hops), h .uncircled)
 
 -- over no chain nothing is drawn
 pub over-chain-nil : (c : Claim) → overChain [] c ≡ false
@@ -183,13 +117,6 @@ drawn-out earlier c h other =
     let told = or-other (eqb (c .parent) 0) (overChain (above earlier c) c) h (ne-eqb (c .parent) 0 other) in
     list-cases (above earlier c) (λ e. clash (overChain (above earlier c) c) told (rw e (over-chain-nil c)))
     (λ p higher e. record { parent = p; higher = higher; chained = e; overIt = over-chain-out p higher c (rw e at told) })
-
-pub drawn-in : (earlier : List Claim) (c : Claim) → ((c .parent ≡ 0 → ⊥) → Drawn earlier c) → drawn earlier c ≡ true
-unfolding drawn
-drawn-in earlier c is =
-    cases (eqb (c .parent) 0) (λ e. rw e)
-    (λ e. let d = is (eqb-false (c .parent) 0 e) in
-    or-second (eqb (c .parent) 0) (overChain (above earlier c) c) (rw (d .chained) (over-chain-in (d .parent) (d .higher) c (d .overIt))))
 
 -- it is the chain above that decides
 pub drawn-same : (K M : List Claim) (c : Claim) → above K c ≡ above M c → drawn K c ≡ drawn M c

@@ -3,11 +3,11 @@
 use mathlib.Core.Path.{_≡_, refl}
 use mathlib.Core.Bool.{Bool, true, not, _&&_, _||_}
 use mathlib.Core.List.{List, [], _∷_, map}
-use mathlib.Core.Logic.{_⊎_, inl, inr, ⊎-elim}
+use mathlib.Core.Logic.{_⊎_, inl, inr}
 use Prim.Native.Nat.{ℕ, _≤_}
-use borrow.Author.Tests.{eqb-true, eqb-false, leb-true, eq-eqb, ne-eqb, le-leb}
+use borrow.Author.Tests.{eqb-true, leb-true, ne-eqb, le-leb}
 use lib.Dec.{eqb, leb}
-use Rattle.lists.specs.Tests.{cases, and-left, and-right, and-both, or-other, or-second}
+use Rattle.lists.specs.Tests.{cases, and-left, and-right, and-both, or-other}
 use Rattle.lists.specs.Lists.{any, every}
 use Rattle.lists.specs.Each.{ands-out}
 use Rattle.register.specs.Limits.{isId, ranged, actorLimit, resourceLimit, claimLimit, pathLimit, idLimit, pathByteLeast, pathByteGreatest, humanKind, machineKind}
@@ -17,7 +17,7 @@ use Rattle.register.specs.declared.Actor.{Actor}
 use Rattle.register.specs.declared.Resource.{Resource}
 use Rattle.register.specs.declared.Register.{Register}
 use Rattle.rules.specs.Sound.{worldOf, human, distinct, actorFits, resourceFits, soundClaims, soundActors, soundResources, withinLimits, sound}
-use Rattle.rules.specs.Laws.{ranged-least, ranged-greatest, ranged-in}
+use Rattle.rules.specs.Laws.{ranged-least, ranged-greatest}
 
 -- an id is distinct from those behind it, and those are distinct
 pub distinct-nil : distinct [] ≡ true
@@ -55,16 +55,6 @@ actor-fits-out human a h =
       ownerHuman = λ some. and-right (eqb (a .kind) machineKind) (human (a .owner)) (owned some);
     }
 
-pub actor-fits-in : (human : ℕ → Bool) (a : Actor) → ActorFits human a → actorFits human a ≡ true
-unfolding actorFits
-actor-fits-in human a h =
-    let kinds : (eqb (a .kind) humanKind || eqb (a .kind) machineKind) ≡ true =
-    ⊎-elim (λ e. rw (eq-eqb (a .kind) humanKind e)) (λ e. or-second (eqb (a .kind) humanKind) (eqb (a .kind) machineKind) (eq-eqb (a .kind) machineKind e)) (h .kinds) in
-    let owned : (eqb (a .owner) 0 || (eqb (a .kind) machineKind && human (a .owner))) ≡ true =
-    cases (eqb (a .owner) 0) (λ e. rw e) (λ e. let some = eqb-false (a .owner) 0 e in
-    rw (e, eq-eqb (a .kind) machineKind (h .ownedMachine some), h .ownerHuman some)) in
-    rw (ranged-in 1 idLimit (a .id) (h .idLeast) (h .idGreatest), kinds, le-leb (a .owner) idLimit (h .ownerGreatest), owned)
-
 -- a resource's fields are as they should be
 pub record ResourceFits (human : ℕ → Bool) (o : Resource) : Type 0 where
   pub idLeast : 1 ≤ o .id
@@ -91,17 +81,6 @@ resource-fits-out human o h =
       lenGreatest = leb-true (o .len) pathLimit (told .1 .1 .1 .1 .0);
       bytes = told .1 .1 .1 .1 .1 .0;
     }
-
-pub resource-fits-in : (human : ℕ → Bool) (o : Resource) → ResourceFits human o → resourceFits human o ≡ true
-unfolding resourceFits
-resource-fits-in human o h = rw (
-  ranged-in 1 idLimit (o .id) (h .idLeast) (h .idGreatest),
-  le-leb (o .public) 1 (h .publicGreatest),
-  ranged-in 1 idLimit (o .keeper) (h .keeperLeast) (h .keeperGreatest),
-  h .keeperHuman,
-  le-leb (o .len) pathLimit (h .lenGreatest),
-  h .bytes,
-)
 
 -- the actors are as they should be, with distinct ids
 pub record SoundActors (actors : List Actor) : Type 0 where

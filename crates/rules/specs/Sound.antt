@@ -6,8 +6,7 @@ use lib.Dec.{eqb, leb, ltb}
 use lib.ListN.{length}
 use Rattle.lists.specs.Lists.{any, every, ands}
 use Rattle.rights.specs.Rights.{delegating, isRights, hasRight, hasRights, barsMachine}
-use Rattle.register.specs.Limits.{actorLimit, resourceLimit, claimLimit, hopLimit, pathLimit, idLimit, weightLimit, momentEnd, pathByteLeast, pathByteGreatest, humanKind}
-use Rattle.register.specs.Limits.{machineKind, ranged, isId}
+use Rattle.register.specs.Limits.{actorLimit, resourceLimit, claimLimit, hopLimit, pathLimit, idLimit, weightLimit, momentEnd, pathByteLeast, pathByteGreatest, humanKind, machineKind, ranged, isId}
 use Rattle.register.specs.Register.{actorsOf, resourcesOf, claimsOf, pathOf}
 use Rattle.register.specs.Chain.{latest, above, circling}
 use Rattle.register.specs.declared.Actor.{Actor}

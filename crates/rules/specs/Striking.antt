@@ -4,7 +4,7 @@ use mathlib.Core.Bool.{Bool, true, false, not, _||_, or-true, or-false}
 use mathlib.Core.List.{List, [], _∷_, reverse-reverse}
 use Prim.Native.Nat.{ℕ, _≤_, _<_}
 use lib.ListN.{length}
-use Rattle.lists.specs.Tests.{cases, or-left, or-right, or-middle}
+use Rattle.lists.specs.Tests.{cases, or-right, or-middle}
 use Rattle.lists.specs.Lists.{any, Each, All, filter}
 use Rattle.lists.specs.Each.{each-all, each-imp, each-both, all-imp, each-behind, any-same, any-either, all-none}
 use Rattle.lists.specs.Trims.{trim-nil, trim-hit, trim-miss, trim-ind, all-trim, trim-length, trim-none, trim-same, trim-trim, filter-not, filter-reverse}
@@ -28,11 +28,6 @@ module _ {C : Type 0} (id up : C → ℕ) where
   -- not more stand than before
   pub strike-length : (P : C → Bool) (L : List C) → length (strike id up P L) ≤ length L
   strike-length P L = trim-length (struck id up P) L
-
-  -- nothing that is left is named
-  pub strike-spared : (P : C → Bool) (L : List C) → All (λ c. P c ≡ false) (strike id up P L)
-  strike-spared P = trim-ind (struck id up P) (λ L K. All (λ c. P c ≡ false) K) tt (λ c L e ih. ih)
-      (λ c L e ih. (or-left (P c) (any P (chain id up L (up c))) e, ih))
 
   -- a chain on which nothing is named is the same afterwards
   pub chain-strike : (P : C → Bool) (L : List C) (p : ℕ) → any P (chain id up L p) ≡ false → chain id up (strike id up P L) p ≡ chain id up L p

@@ -89,13 +89,13 @@ module _ {first : Bool} {test : ℕ → Bool} {n : ℕ} where
 
 -- the grantors and the holders were looked up by one table
 module _ (actors : ActorColumns) (h : ℕ) (s : List ℕ) (n : ℕ) (short : n ≤ claimLimit) (long : length s ≡ sheetLimit) {named : Both}
-    (looked : named ≡ bothPlaces (actors .ids) h (columnOf 2 s) (columnOf 3 s) n claimLimit) where
-  pub ids-told : named .distinct ≡ distinct (take (min h claimLimit) (actors .ids))
+    (looked : named ≡ bothPlaces (actors .names) h (columnOf 2 s) (columnOf 3 s) n claimLimit) where
+  pub ids-told : named .distinct ≡ distinct (take (min h claimLimit) (actors .names))
   unfolding bothPlaces
   ids-told = ap (λ b. b .distinct) looked
 
   pub alone-told : (keepers spots : List ℕ)
-      → (distinct (take (min h claimLimit) (actors .ids))
+      → (distinct (take (min h claimLimit) (actors .names))
       && every (λ i. aloneAt (claimAt s i) (foundAt actors keepers (named .first) (named .second) spots i)) (counted 0 n))
       ≡ claimsAlone actors h keepers spots s n
   unfolding claimsAlone
@@ -103,8 +103,8 @@ module _ (actors : ActorColumns) (h : ℕ) (s : List ℕ) (n : ℕ) (short : n �
       let few : n ≤ length (columnOf 2 s) = omega (arith, short, column-length s 2 long (omega arith)) in
       let fewer : n ≤ length (columnOf 3 s) = omega (arith, short, column-length s 3 long (omega arith)) in
       rw (
-        ap (λ b. b .first) looked ∙ first-places (actors .ids) (columnOf 2 s) (columnOf 3 s) n claimLimit few fewer h,
-        ap (λ b. b .second) looked ∙ second-places (actors .ids) (columnOf 2 s) (columnOf 3 s) n claimLimit few fewer h,
+        ap (λ b. b .first) looked ∙ first-places (actors .names) (columnOf 2 s) (columnOf 3 s) n claimLimit few fewer h,
+        ap (λ b. b .second) looked ∙ second-places (actors .names) (columnOf 2 s) (columnOf 3 s) n claimLimit few fewer h,
       )
 
 -- the place that was looked up of the claim at a place by a field of it

@@ -4,18 +4,21 @@ use mathlib.Core.Bool.{Bool, true, false, _&&_}
 use mathlib.Core.List.{List, [], _∷_, map}
 use Prim.Native.Nat.{ℕ, _≤_, _<_, min}
 use native.Mathlib.Omega.{arith}
-use borrow.Author.Tests.{eq-eqb, eqb-true, ne-eqb, le-leb, lt-leb, leb-true}
+use borrow.Author.Tests.{eq-eqb, eqb-true, le-leb, leb-true}
 use lib.Dec.{eqb, leb}
-use lib.ListN.{length, take, replicate}
+use lib.ListN.{length, take, getD, length-map, List·getD-map}
 use Rattle.lists.specs.Tests.{cases, clash, and-left, and-right}
 use Rattle.lists.specs.Lists.{every, ands}
 use Rattle.lists.specs.Each.{every-reverse}
 use Rattle.register.specs.Limits.{actorLimit, resourceLimit, claimLimit}
-use Rattle.register.specs.Register.{actorsOf, resourcesOf}
+use Rattle.register.specs.Register.{actorsOf, resourcesOf, noActor, noResource}
 use Rattle.register.specs.Chain.{latest}
+use Rattle.register.specs.declared.Actor.{Actor}
+use Rattle.register.specs.declared.Resource.{Resource}
 use Rattle.register.specs.declared.Actors.{Actors}
 use Rattle.register.specs.declared.Resources.{Resources}
-use Rattle.columns.specs.Columns.{actorId, actorKind, ownerOf, resourceId, keeperOf, claimId, actorColumns, resourceColumns}
+use Rattle.columns.specs.Columns.{actorId, actorKind, ownerOf, resourceId, keeperOf, claimId, actorsTo, resourcesTo, actorColumns, resourceColumns}
+use Rattle.columns.specs.Laws.{up-to-length, up-to-first, up-to-at}
 use Rattle.columns.specs.declared.ActorColumns.{ActorColumns}
 use Rattle.columns.specs.declared.ResourceColumns.{ResourceColumns}
 use Rattle.columns.specs.Sheet.{sheetLimit, columnOf, claimsIn}
@@ -25,9 +28,9 @@ use Rattle.lookup.specs.declared.Found.{Found}
 use Rattle.rules.specs.Sound.{distinct, human, worldOf, actorFits, resourceFits, alone, soundActors, soundResources, withinLimits, sound}
 use Rattle.rules.specs.Registers.{sound-out, within-limits-in}
 use Rattle.claims.specs.Over.{standOver}
-use Rattle.soundness.specs.World.{actorsFit, humanIds, resourcesFit}
+use Rattle.soundness.specs.World.{actorsFit, humanIds, beyond, resourcesFit}
 use Rattle.soundness.proofs.WorldLaws.{actors-natural, resources-natural}
-use Rattle.soundness.specs.Judged.{registerBy, judgedBy, claimsAlone}
+use Rattle.soundness.specs.Judged.{registerBy, soFar, findingsIn, judgedBy, claimsAlone}
 use Rattle.soundness.specs.declared.Findings.{Findings}
 use Rattle.soundness.proofs.Climbing.{stand-distinct}
 use Rattle.soundness.proofs.Judging.{sound-apart, take-map, claims-alone-natural}
@@ -45,17 +48,18 @@ regrouped true true true true false = refl
 regrouped true true true false e = refl
 
 module _ (a : Actors) (o : Resources) (s : List ℕ) (n : ℕ) where
-  -- the ids of the claims and of the resources, as they were told to be distinct
-  abbrev apart : Bool
-  apart = distinct (take (asked n (columnOf 1 s)) (columnOf 0 s)) && distinct (take (min (o .count) claimLimit) (map resourceId (o .list)))
+  -- those that stand, with zeros behind them
+  abbrev people : List Actor
+  people = actorsTo a .list
 
-  abbrev within : Bool
-  within = (leb n claimLimit && leb (a .count) actorLimit) && leb (o .count) resourceLimit
+  abbrev things : List Resource
+  things = resourcesTo o .list
 
-  abbrev begins : Bool
-  begins = (within && apart) && eqb (length s) sheetLimit
+  -- the tests that are asked first
+  abbrev starts : Bool
+  starts = soFar (a .count) (map resourceId things) (o .count) s n
 
-  -- what these tests say
+  -- what they say
   pub record Begun : Type 0 where
     pub short : n ≤ claimLimit
     pub few : a .count ≤ actorLimit
@@ -67,22 +71,24 @@ module _ (a : Actors) (o : Resources) (s : List ℕ) (n : ℕ) where
   all-asked : n ≤ claimLimit → length s ≡ sheetLimit → asked n (columnOf 1 s) ≡ n
   all-asked short long = omega (arith, short, column-length s 1 long (omega arith))
 
-  resource-ids : o .count ≤ resourceLimit → take (min (o .count) claimLimit) (map resourceId (o .list)) ≡ map resourceId (resourcesOf o)
+  resource-ids : o .count ≤ resourceLimit → take (min (o .count) claimLimit) (map resourceId things) ≡ map resourceId (resourcesOf o)
   resource-ids scant =
       let all : min (o .count) claimLimit ≡ o .count = omega (arith, scant) in
-      rw all (take-map resourceId (o .count) (o .list))
+      rw all (take-map resourceId (o .count) things ∙ ap (map resourceId) (up-to-first noResource (o .count) (o .list)))
 
-  pub begun : begins ≡ true → Begun
+  pub begun : starts ≡ true → Begun
   begun h =
-      let before = and-left (within && apart) (eqb (length s) sheetLimit) h in
-      let long = eqb-true (length s) sheetLimit (and-right (within && apart) (eqb (length s) sheetLimit) h) in
-      let counts = and-left within apart before in
-      let ids = and-right within apart before in
-      let two = and-left (leb n claimLimit && leb (a .count) actorLimit) (leb (o .count) resourceLimit) counts in
-      let short = leb-true n claimLimit (and-left (leb n claimLimit) (leb (a .count) actorLimit) two) in
-      let scant = leb-true (o .count) resourceLimit (and-right (leb n claimLimit && leb (a .count) actorLimit) (leb (o .count) resourceLimit) counts) in
+      let counted = leb n claimLimit && leb (a .count) actorLimit in
+      let within = counted && leb (o .count) resourceLimit in
       let claims = distinct (take (asked n (columnOf 1 s)) (columnOf 0 s)) in
-      let resources = distinct (take (min (o .count) claimLimit) (map resourceId (o .list))) in
+      let resources = distinct (take (min (o .count) claimLimit) (map resourceId things)) in
+      let before = and-left (within && (claims && resources)) (eqb (length s) sheetLimit) h in
+      let long = eqb-true (length s) sheetLimit (and-right (within && (claims && resources)) (eqb (length s) sheetLimit) h) in
+      let counts = and-left within (claims && resources) before in
+      let ids = and-right within (claims && resources) before in
+      let two = and-left counted (leb (o .count) resourceLimit) counts in
+      let short = leb-true n claimLimit (and-left (leb n claimLimit) (leb (a .count) actorLimit) two) in
+      let scant = leb-true (o .count) resourceLimit (and-right counted (leb (o .count) resourceLimit) counts) in
       record {
         short = short;
         few = leb-true (a .count) actorLimit (and-right (leb n claimLimit) (leb (a .count) actorLimit) two);
@@ -93,7 +99,7 @@ module _ (a : Actors) (o : Resources) (s : List ℕ) (n : ℕ) where
       }
 
   -- they pass where the register is sound
-  sound-begins : length s ≡ sheetLimit → sound (registerBy a o s n) ≡ true → begins ≡ true
+  pub sound-begins : length s ≡ sheetLimit → sound (registerBy a o s n) ≡ true → starts ≡ true
   sound-begins long h =
       let told = sound-out (registerBy a o s n) h in
       let w = worldOf (actorsOf a) (resourcesOf o) in
@@ -115,10 +121,10 @@ module _ (a : Actors) (o : Resources) (s : List ℕ) (n : ℕ) where
       )
       (eq-eqb (length s) sheetLimit long)
 
-  pub not-begun : begins ≡ false → false ≡ eqb (length s) sheetLimit && sound (registerBy a o s n)
+  not-begun : starts ≡ false → false ≡ eqb (length s) sheetLimit && sound (registerBy a o s n)
   not-begun h =
       cases (eqb (length s) sheetLimit && sound (registerBy a o s n))
-      (λ t. clash begins
+      (λ t. clash (starts)
       (sound-begins (eqb-true (length s) sheetLimit (and-left (eqb (length s) sheetLimit) (sound (registerBy a o s n)) t))
       (and-right (eqb (length s) sheetLimit) (sound (registerBy a o s n)) t)) h)
       (λ t. sym t)
@@ -126,70 +132,95 @@ module _ (a : Actors) (o : Resources) (s : List ℕ) (n : ℕ) where
   -- where they pass, what is left decides
   abbrev left : Bool
   left =
-      ((actorsFit (map actorId (a .list)) (map actorKind (a .list)) (map ownerOf (a .list)) (a .count)
-      && resourcesFit (humanIds (map actorId (a .list)) (map actorKind (a .list)) (a .count)) (a .count) (map keeperOf (o .list)) o)
+      ((actorsFit (map actorId people) (map actorKind people) (map ownerOf people) (a .count)
+      && resourcesFit (humanIds (map actorId people) (map actorKind people) (a .count)) (a .count) (map keeperOf things) o)
       && standOver (latest (take n (claimsIn s))))
-      && claimsAlone (actorColumns (a .list)) (a .count) (map keeperOf (o .list))
-      (placesOf (map resourceId (o .list)) (o .count) (columnOf 4 s) n claimLimit) s n
+      && claimsAlone (actorColumns people) (a .count) (map keeperOf things)
+      (placesOf (map resourceId things) (o .count) (columnOf 4 s) n claimLimit) s n
 
-  pub begun-decides : length (a .list) ≡ actorLimit → length (o .list) ≡ resourceLimit → Begun → left ≡ (eqb (length s) sheetLimit && sound (registerBy a o s n))
-  unfolding sound soundActors soundResources
-  begun-decides many full b =
-      let w = worldOf (actorsOf a) (resourcesOf o) in
-      let within : withinLimits (registerBy a o s n) ≡ true =
-      within-limits-in (registerBy a o s n) (record { actorCount = b .few; resourceCount = b .scant; claimCount = b .short }) in
-      rw (
-        actors-natural (a .list) (a .count),
-        resources-natural (a .list) (a .count) many (b .few) o full (b .scant),
-        claims-alone-natural a o s n (omega (arith, b .few)) (omega (arith, b .scant)) (b .short) (b .long) (b .distant),
-        eq-eqb (length s) sheetLimit (b .long),
-        within,
-        b .distant,
-        sound-apart w (latest (take n (claimsIn s))),
-        every-reverse (alone w) (take n (claimsIn s)),
-      )
-      (regrouped
-      (every (actorFits (human (actorsOf a))) (actorsOf a))
-      (every (resourceFits (human (actorsOf a))) (resourcesOf o))
-      (standOver (latest (take n (claimsIn s))))
-      (distinct (map actorId (actorsOf a)))
-      (every (alone w) (take n (claimsIn s))))
+  module _ (many : length (a .list) ≡ actorLimit) (full : length (o .list) ≡ resourceLimit) (b : Begun) where
+    -- the keepers' column has the keepers of those that stand
+    keepers-long : length (map keeperOf things) ≡ resourceLimit
+    keepers-long = length-map things keeperOf ∙ up-to-length noResource (o .count) (o .list) ∙ full
 
-  -- as it is asked of the columns that were taken out
-  pub left-told : {people : ActorColumns} {things : ResourceColumns} {humans : List ℕ} {x y z w : Bool} (spots : List ℕ)
-      → people ≡ actorColumns (a .list) → things ≡ resourceColumns (o .list)
-      → humans ≡ humanIds (people .ids) (people .kinds) (a .count)
-      → spots ≡ placesOf (map resourceId (o .list)) (o .count) (columnOf 4 s) n claimLimit
-      → x ≡ actorsFit (people .ids) (people .kinds) (people .owners) (a .count)
-      → y ≡ resourcesFit humans (a .count) (things .keepers) o
-      → z ≡ standOver (latest (take n (claimsIn s)))
-      → w ≡ claimsAlone people (a .count) (things .keepers) spots s n
-      → ((x && y) && z) && w ≡ left
-  left-told spots p t h e x y z w = rw (x, y, z, w, h, p, t, e)
+    keepers-at : (i : ℕ) → i < o .count → getD (map keeperOf things) i 0 ≡ keeperOf (getD (o .list) i beyond)
+    keepers-at i inside = List·getD-map keeperOf things i beyond ∙ ap keeperOf (up-to-at noResource (o .count) (o .list) i beyond inside)
 
-  -- what was found on the way
-  module _ {earlier reported : Found} (e : earlier ≡ earlierFound (columnOf 0 s) (columnOf 1 s) n claimLimit)
-      (p : reported ≡ placesFound (map resourceId (o .list)) (o .count) (columnOf 4 s) n claimLimit) where
-    pub ups-told : earlier .places ≡ earlierPlaces (columnOf 0 s) (columnOf 1 s) n claimLimit
-    unfolding earlierFound
-    ups-told = ap (λ f. f .places) e
+    apart-ids : distinct (map resourceId (resourcesOf (resourcesTo o))) ≡ true
+    apart-ids = ap (λ l. distinct (map resourceId l)) (up-to-first noResource (o .count) (o .list)) ∙ b .distant
 
-    pub spots-told : reported .places ≡ placesOf (map resourceId (o .list)) (o .count) (columnOf 4 s) n claimLimit
-    unfolding placesFound
-    spots-told = ap (λ f. f .places) p
+    pub begun-decides : left ≡ (eqb (length s) sheetLimit && sound (registerBy a o s n))
+    unfolding sound soundActors soundResources
+    begun-decides =
+        let w = worldOf (actorsOf a) (resourcesOf o) in
+        let within : withinLimits (registerBy a o s n) ≡ true =
+        within-limits-in (registerBy a o s n) (record { actorCount = b .few; resourceCount = b .scant; claimCount = b .short }) in
+        rw (
+          actors-natural people (a .count),
+          resources-natural people (a .count) (up-to-length noActor (a .count) (a .list) ∙ many) (b .few) o full (b .scant) (map keeperOf things) keepers-long keepers-at,
+          claims-alone-natural (actorsTo a) (resourcesTo o) s n (omega (arith, b .few)) (omega (arith, b .scant)) (b .short) (b .long) apart-ids,
+          up-to-first noActor (a .count) (a .list),
+          up-to-first noResource (o .count) (o .list),
+          eq-eqb (length s) sheetLimit (b .long),
+          within,
+          b .distant,
+          sound-apart w (latest (take n (claimsIn s))),
+          every-reverse (alone w) (take n (claimsIn s)),
+        )
+        (regrouped
+        (every (actorFits (human (actorsOf a))) (actorsOf a))
+        (every (resourceFits (human (actorsOf a))) (resourcesOf o))
+        (standOver (latest (take n (claimsIn s))))
+        (distinct (map actorId (actorsOf a)))
+        (every (alone w) (take n (claimsIn s))))
 
-    pub begins-told : (within && (earlier .distinct && reported .distinct)) && eqb (length s) sheetLimit ≡ begins
-    unfolding earlierFound placesFound
-    begins-told = rw (e, p)
+  -- what was looked up decides where something is against it; else what is asked then does
+  module _ {folk : ActorColumns} {goods : ResourceColumns} (of-folk : folk ≡ actorColumns people) (of-goods : goods ≡ resourceColumns things) {known : Findings}
+      (looked : known ≡ findingsIn folk goods (o .count) s n (soFar (a .count) (goods .reports) (o .count) s n)) where
+    abbrev found : Bool → Findings
+    found = findingsIn (actorColumns people) (resourceColumns things) (o .count) s n
 
-    pub judged-told : {answer : Bool} → answer ≡ (eqb (length s) sheetLimit && sound (registerBy a o s n))
-        → _≡_ {A = Findings} (record { sound = answer; ups = earlier .places; spots = reported .places }) (judgedBy a o s n)
-    judged-told t = rw (ups-told, spots-told, t)
+    seen : known ≡ found starts
+    seen = looked ∙ rw (of-folk, of-goods)
 
-  -- what is no sheet has no columns, and nothing is found in it
-  pub none-judged : length s < sheetLimit
-      → _≡_ {A = Findings} (record { sound = false; ups = replicate claimLimit claimLimit; spots = replicate claimLimit claimLimit }) (judgedBy a o s n)
-  unfolding earlierPlaces placesOf columnOf
-  none-judged less =
-      let none : asked n [] ≡ 0 = omega arith in
-      rw (lt-leb sheetLimit (length s) less, none, ne-eqb (length s) sheetLimit (λ same. omega (arith, less, same)))
+    pub refused-told : known .sound ≡ false → known ≡ judgedBy a o s n
+    refused-told h =
+        let none : starts ≡ false = sym (ap (λ k. k .sound) seen) ∙ h in
+        seen ∙ ap found (none ∙ not-begun none)
+
+    pub begun-told : known .sound ≡ true → Begun
+    begun-told h = begun (sym (ap (λ k. k .sound) seen) ∙ h)
+
+    pub ups-told : known .ups ≡ earlierPlaces (columnOf 0 s) (columnOf 1 s) n claimLimit
+    ups-told = ap (λ k. k .ups) looked
+
+    pub judged-told : length (a .list) ≡ actorLimit → length (o .list) ≡ resourceLimit → known .sound ≡ true
+        → {humans : List ℕ} {x y z w : Bool}
+        → humans ≡ humanIds (folk .names) (folk .kinds) (a .count)
+        → x ≡ actorsFit (folk .names) (folk .kinds) (folk .owners) (a .count)
+        → y ≡ resourcesFit humans (a .count) (goods .keepers) o
+        → z ≡ standOver (latest (take n (claimsIn s)))
+        → w ≡ claimsAlone folk (a .count) (goods .keepers) (known .spots) s n
+        → _≡_ {A = Findings} (record {
+          sound = ((x && y) && z) && w;
+          ups = known .ups;
+          spots = known .spots;
+          actors = known .actors;
+          resources = known .resources;
+        }) (judgedBy a o s n)
+    judged-told many full h of-humans of-x of-y of-z of-w =
+        rw (of-x, of-y, of-z, of-w, of-humans, seen, of-folk, of-goods) (ap found (begun-decides many full (begun-told h)))
+
+-- what was looked up, put together
+module _ (actors : ActorColumns) (h : ℕ) (resources : ResourceColumns) (m : ℕ) (s : List ℕ) (n : ℕ) where
+  pub looked-told : {ids parents claimed : List ℕ} {earlier reported : Found} → ids ≡ columnOf 0 s → parents ≡ columnOf 1 s → claimed ≡ columnOf 4 s
+      → earlier ≡ earlierFound ids parents n claimLimit → reported ≡ placesFound (resources .reports) m claimed n claimLimit
+      → _≡_ {A = Findings} (record {
+        sound = (((leb n claimLimit && leb h actorLimit) && leb m resourceLimit) && (earlier .distinct && reported .distinct)) && eqb (length s) sheetLimit;
+        ups = earlier .places;
+        spots = reported .places;
+        actors = actors;
+        resources = resources;
+      }) (findingsIn actors resources m s n (soFar h (resources .reports) m s n))
+  unfolding earlierFound placesFound
+  looked-told of-ids of-parents of-claimed of-earlier of-reported = rw (of-earlier, of-reported, of-ids, of-parents, of-claimed)

@@ -6,7 +6,7 @@ use Prim.Native.Nat.{ℕ, _-_, _≤_, _<_, min}
 use native.Mathlib.Omega.{arith}
 use borrow.Author.Tests.{lt-ltb, ne-eqb}
 use lib.Dec.{eqb, ltb, leb}
-use lib.ListN.{length, take, getD, replicate, length-map, length-take, length-append, length-replicate, List·getD-map}
+use lib.ListN.{length, take, getD, replicate, length-map, length-take, length-append, length-replicate}
 use lib.Seq.{getD-take, take-append-seam}
 use Rattle.lists.specs.Tests.{cases, clash, iff-same, eqb-turned}
 use Rattle.lists.specs.Lists.{any, every, counted}
@@ -117,17 +117,16 @@ module _ (l : List Actor) (n : ℕ) (long : length l ≡ actorLimit) (few : n �
   unfolding resourceFits
   resource-keeperless f o e = rw (e, and-false (leb (o .public) 1)) (and-false (isId (o .id)))
 
-  module _ (o : Resources) (full : length (o .list) ≡ resourceLimit) (scant : o .count ≤ resourceLimit) where
+  -- by a column of the keepers of the resources that stand
+  module _ (o : Resources) (full : length (o .list) ≡ resourceLimit) (scant : o .count ≤ resourceLimit) (keepers : List ℕ) (many : length keepers ≡ resourceLimit)
+      (same : (i : ℕ) → i < o .count → getD keepers i 0 ≡ keeperOf (getD (o .list) i beyond)) where
     abbrev keeping : List ℕ
-    keeping = placesOf humans n (map keeperOf (o .list)) (o .count) claimLimit
+    keeping = placesOf humans n keepers (o .count) claimLimit
 
     keeper-told : (i : ℕ) → i < o .count → (keeperOf (getD (o .list) i beyond) ≡ 0 → ⊥)
         → ltb (getD keeping i 0) claimLimit ≡ human (take n l) (keeperOf (getD (o .list) i beyond))
     keeper-told i inside some =
-        rw (
-          places-at humans n (map keeperOf (o .list)) (o .count) claimLimit i 0 (omega (arith, inside, scant, full, length-map (o .list) keeperOf)),
-          List·getD-map keeperOf (o .list) i beyond,
-        )
+        rw (places-at humans n keepers (o .count) claimLimit i 0 (omega (arith, inside, scant, many)), same i inside)
         (human-found (keeperOf (getD (o .list) i beyond)) some)
 
     kept-natural : (i : ℕ) → i < o .count → fitsAt (o .list) keeping i ≡ resourceFits (human (take n l)) (getD (o .list) i beyond)
@@ -138,7 +137,7 @@ module _ (l : List Actor) (n : ℕ) (long : length l ≡ actorLimit) (few : n �
         (λ e. resource-fits-same told (human (take n l)) x (keeper-told i inside (λ none. clash (isId (x .keeper)) e (rw none))))
         (λ e. resource-keeperless told x e ∙ sym (resource-keeperless (human (take n l)) x e))
 
-    pub resources-natural : resourcesFit humans n (map keeperOf (o .list)) o ≡ every (resourceFits (human (take n l))) (resourcesOf o)
+    pub resources-natural : resourcesFit humans n keepers o ≡ every (resourceFits (human (take n l))) (resourcesOf o)
     unfolding resourcesFit
     resources-natural =
         let all : min (o .count) resourceLimit ≡ o .count = omega (arith, scant) in

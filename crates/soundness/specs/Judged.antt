@@ -1,19 +1,20 @@
 -- Working: The judgement of a register whose claims stand in a sheet. It is shaped for the code; what it is in 01's words is proved in Laws
 -- (`register-same`).
 use mathlib.Core.Bool.{Bool, _&&_}
-use mathlib.Core.List.{List, map}
+use mathlib.Core.List.{List}
 use Prim.Native.Nat.{ℕ, min}
-use lib.Dec.{eqb}
+use lib.Dec.{eqb, leb}
 use lib.ListN.{length, take, getD}
 use Rattle.lists.specs.Lists.{every, counted}
-use Rattle.register.specs.Limits.{claimLimit}
+use Rattle.register.specs.Limits.{actorLimit, resourceLimit, claimLimit}
 use Rattle.register.specs.declared.Actors.{Actors}
 use Rattle.register.specs.declared.Resources.{Resources}
 use Rattle.register.specs.declared.Register.{Register}
-use Rattle.columns.specs.Columns.{resourceId}
+use Rattle.columns.specs.Columns.{actorsTo, resourcesTo, actorColumns, resourceColumns}
 use Rattle.columns.specs.Sheet.{sheetLimit, columnOf, claimAt, claimsIn}
 use Rattle.columns.specs.declared.ActorColumns.{ActorColumns}
-use Rattle.lookup.specs.Finding.{placesOf, earlierPlaces}
+use Rattle.columns.specs.declared.ResourceColumns.{ResourceColumns}
+use Rattle.lookup.specs.Finding.{asked, placesOf, earlierPlaces}
 use Rattle.rules.specs.Sound.{distinct, sound}
 use Rattle.claims.specs.Alone.{Found, aloneAt}
 use Rattle.soundness.specs.declared.Findings.{Findings}
@@ -22,13 +23,29 @@ use Rattle.soundness.specs.declared.Findings.{Findings}
 abbrev pub registerBy : Actors → Resources → List ℕ → ℕ → Register
 registerBy a o s n = record { actors = a; resources = o; claims = record { list = claimsIn s; count = n } }
 
--- whether it is sound, with the place of each claim's parent before it and that of its resource, the claims' limit for none
-abbrev pub judgedBy : Actors → Resources → List ℕ → ℕ → Findings
-judgedBy a o s n = record {
-  sound = eqb (length s) sheetLimit && sound (registerBy a o s n);
+-- whether nothing is against soundness so far, by the counts and the ids of the resources: the counts are within their limits, the ids of the claims
+-- and of the resources distinct, and the sheet is one
+abbrev pub soFar : ℕ → List ℕ → ℕ → List ℕ → ℕ → Bool
+soFar h reports m s n =
+    (((leb n claimLimit && leb h actorLimit) && leb m resourceLimit)
+    && (distinct (take (asked n (columnOf 1 s)) (columnOf 0 s)) && distinct (take (min m claimLimit) reports)))
+    && eqb (length s) sheetLimit
+
+-- what is found by the columns of actors and resources, with whether it is sound: the place of each claim's parent before it and that of its resource, the
+-- claims' limit for none, and these columns
+abbrev pub findingsIn : ActorColumns → ResourceColumns → ℕ → List ℕ → ℕ → Bool → Findings
+findingsIn actors resources m s n whole = record {
+  sound = whole;
   ups = earlierPlaces (columnOf 0 s) (columnOf 1 s) n claimLimit;
-  spots = placesOf (map resourceId (o .list)) (o .count) (columnOf 4 s) n claimLimit;
+  spots = placesOf (resources .reports) m (columnOf 4 s) n claimLimit;
+  actors = actors;
+  resources = resources;
 }
+
+-- what is judged of the register of actors and resources, by the columns of those that stand
+abbrev pub judgedBy : Actors → Resources → List ℕ → ℕ → Findings
+judgedBy a o s n =
+    findingsIn (actorColumns (actorsTo a .list)) (resourceColumns (resourcesTo o .list)) (o .count) s n (eqb (length s) sheetLimit && sound (registerBy a o s n))
 
 -- what was looked up of the claim at a place: the places of its grantor, its holder and its resource, and what stands there
 abbrev pub foundAt : ActorColumns → List ℕ → List ℕ → List ℕ → List ℕ → ℕ → Found
@@ -45,7 +62,7 @@ foundAt actors keepers granting holding spots i = record {
 -- holder looked up among those
 unfoldable pub claimsAlone : ActorColumns → ℕ → List ℕ → List ℕ → List ℕ → ℕ → Bool
 claimsAlone actors h keepers spots s n =
-    let granting = placesOf (actors .ids) h (columnOf 2 s) n claimLimit in
-    let holding = placesOf (actors .ids) h (columnOf 3 s) n claimLimit in
-    distinct (take (min h claimLimit) (actors .ids))
+    let granting = placesOf (actors .names) h (columnOf 2 s) n claimLimit in
+    let holding = placesOf (actors .names) h (columnOf 3 s) n claimLimit in
+    distinct (take (min h claimLimit) (actors .names))
     && every (λ i. aloneAt (claimAt s i) (foundAt actors keepers granting holding spots i)) (counted 0 n)

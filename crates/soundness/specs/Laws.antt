@@ -7,6 +7,7 @@ use lib.ListN.{length}
 use Rattle.register.specs.Limits.{claimLimit}
 use Rattle.register.specs.Register.{Same}
 use Rattle.register.specs.declared.Register.{Register}
+use Rattle.columns.specs.Columns.{actorsTo, resourcesTo, actorColumns, resourceColumns}
 use Rattle.columns.specs.Sheet.{sheetLimit, sheetOf, columnOf}
 use Rattle.columns.specs.SheetLaws.{sheet-long, sheet-claims}
 use Rattle.lookup.specs.Finding.{earlierPlaces}
@@ -40,3 +41,10 @@ module _ (r : Register) (places : length (r .claims .list) ≡ claimLimit) where
 
     pub judged-ups : j .ups ≡ earlierPlaces (columnOf 0 (sheetOf (r .claims))) (columnOf 1 (sheetOf (r .claims))) (r .claims .count) claimLimit
     judged-ups = ap (λ k. k .ups) told ∙ ap (λ l. judgedBy (r .actors) (r .resources) l (r .claims .count) .ups) filled
+
+    -- and the columns of the actors and the resources
+    pub judged-actors : j .actors ≡ actorColumns (actorsTo (r .actors) .list)
+    judged-actors = ap (λ k. k .actors) told
+
+    pub judged-resources : j .resources ≡ resourceColumns (resourcesTo (r .resources) .list)
+    judged-resources = ap (λ k. k .resources) told

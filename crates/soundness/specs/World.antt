@@ -16,7 +16,7 @@ use Rattle.rules.specs.Sound.{actorFits, resourceFits}
 
 -- whether x is a human's number, by the first n of the columns of ids and kinds
 abbrev pub humanIn : List ℕ → List ℕ → ℕ → ℕ → Bool
-humanIn ids kinds n x = beside (take n ids) (take n kinds) x humanKind
+humanIn names kinds n x = beside (take n names) (take n kinds) x humanKind
 
 -- the actors that the columns of ids, kinds and owners are those of
 unfoldable pub actorsIn : List ℕ → List ℕ → List ℕ → List Actor

@@ -11,11 +11,12 @@ ghost use Rattle.columns.specs.Sheet.{sheetLimit, columnOf, claimsIn};
 ghost use Rattle.lookup.specs.Finding.{earlierPlaces};
 ghost use Rattle.rules.specs.Sound.{distinct, sound, actorFits, resourceFits};
 ghost use Rattle.claims.specs.Over.{standOver};
-ghost use Rattle.soundness.specs.Judged.{judgedBy, claimsAlone};
+ghost use Rattle.soundness.specs.Judged.{soFar, findingsIn, judgedBy, claimsAlone};
 ghost use Rattle.lists.specs.Lists.{every};
 ghost use Rattle.register.specs.Register.{pathOf};
 ghost use Rattle.soundness.specs.World.{humanIn, actorsFit, humanId, humanIds, resourcesFit};
 use columns::ActorColumns;
+use columns::ResourceColumns;
 use register::Actor;
 use register::Actors;
 use register::Register;
@@ -25,12 +26,14 @@ use register::Resources;
 // The place that says nowhere: it is past them all.
 const NOWHERE: u16 = Register::CLAIMS as u16;
 
-// What was found of a register: whether it is sound, the place of each claim's parent before it, and the place of the resource that each
-// claim is to.
+// What was found of a register: whether it is sound, the place of each claim's parent before it, the place of the resource that each claim is
+// to, and the columns of the actors and the resources.
 pub struct Findings {
     pub sound: bool,
     pub ups: [u16; Register::CLAIMS],
     pub spots: [u16; Register::CLAIMS],
+    pub actors: ActorColumns,
+    pub resources: ResourceColumns,
 }
 
 // Whether each claim is as it should be over those before it, where their ids are distinct. The places of the parents are lent; the hops
@@ -80,7 +83,7 @@ fn claims_alone<'a>(
 {
     let grantors = columns::column(sheet, columns::GRANTORS);
     let holders = columns::column(sheet, columns::HOLDERS);
-    let named = lookup::both_places(&actors.ids, h, grantors, holders, n, NOWHERE);
+    let named = lookup::both_places(&actors.names, h, grantors, holders, n, NOWHERE);
     let mut stand = named.distinct;
     let mut i: usize = 0;
     while i < n {
@@ -97,43 +100,53 @@ fn claims_alone<'a>(
     stand
 }
 
+// What is looked up by the columns of the first `h` actors and the first `m` resources and the first `n` claims of a sheet. It is said to be sound
+// where nothing is against it so far: a sheet is lent, the counts are within their limits, and the ids of the claims and of the resources are distinct.
+fn looked_up(
+    actors: ActorColumns,
+    h: usize,
+    resources: ResourceColumns,
+    m: usize,
+    sheet: &[u32],
+    n: usize,
+) -> Findings
+    ensures { λ r. ⌜ r ≡ findingsIn actors resources m (now (sheet .entry)) n (soFar h (resources .reports) m (now (sheet .entry)) n) ⌝ }
+{
+    let ids = columns::column(sheet, columns::IDS);
+    let parents = columns::column(sheet, columns::PARENTS);
+    let claimed = columns::column(sheet, columns::CLAIMED);
+    let earlier = lookup::earlier_places(ids, parents, n, NOWHERE);
+    let reported = lookup::places_of(&resources.reports, m, claimed, n, NOWHERE);
+    let within = (n <= Register::CLAIMS) & (h <= Register::ACTORS) & (m <= Register::RESOURCES);
+    let apart = earlier.distinct & reported.distinct;
+    let ups = earlier.places;
+    let spots = reported.places;
+    Findings {
+        sound: within & apart & (sheet.len() == columns::SHEET),
+        ups,
+        spots,
+        actors,
+        resources,
+    }
+}
+
 // Judges the register of the actors, the resources and the first `n` claims of a sheet. What is no sheet is not sound.
 pub fn judged(a: Actors, o: Resources, sheet: &[u32], n: usize) -> Findings
     ensures { λ r. ⌜ r ≡ judgedBy a o (now (sheet .entry)) n ⌝ }
 {
-    if sheet.len() < columns::SHEET {
-        return Findings {
-            sound: false,
-            ups: [NOWHERE; Register::CLAIMS],
-            spots: [NOWHERE; Register::CLAIMS],
-        };
-    }
-    let ids = columns::column(sheet, columns::IDS);
-    let parents = columns::column(sheet, columns::PARENTS);
-    let claimed = columns::column(sheet, columns::CLAIMED);
-    let resources = columns::resource_columns(o);
-    let earlier = lookup::earlier_places(ids, parents, n, NOWHERE);
-    let reported = lookup::places_of(&resources.ids, o.count, claimed, n, NOWHERE);
-    let ups = earlier.places;
-    let spots = reported.places;
-    let within = (n <= Register::CLAIMS)
-        & (a.count <= Register::ACTORS)
-        & (o.count <= Register::RESOURCES);
-    let apart = earlier.distinct & reported.distinct;
-    if !(within & apart & (sheet.len() == columns::SHEET)) {
-        return Findings {
-            sound: false,
-            ups,
-            spots,
-        };
-    }
     let actors = columns::actor_columns(a);
-    let humans = human_ids(&actors.ids, &actors.kinds, a.count);
-    let sound = actors_fit(&actors.ids, &actors.kinds, &actors.owners, a.count)
-        & resources_fit(&humans, a.count, &resources.keepers, o)
-        & claims_over(&ups, sheet, n)
-        & claims_alone(actors, a.count, &resources.keepers, &spots, sheet, n);
-    Findings { sound, ups, spots }
+    let resources = columns::resource_columns(o);
+    let humans = human_ids(&actors.names, &actors.kinds, a.count);
+    let fit = actors_fit(&actors.names, &actors.kinds, &actors.owners, a.count)
+        & resources_fit(&humans, a.count, &resources.keepers, o);
+    let mut known = looked_up(actors, a.count, resources, o.count, sheet, n);
+    if !known.sound {
+        return known;
+    }
+    known.sound = fit
+        & claims_over(&known.ups, sheet, n)
+        & claims_alone(actors, a.count, &resources.keepers, &known.spots, sheet, n);
+    known
 }
 
 // Whether the register is sound.
@@ -150,8 +163,8 @@ pub fn is_sound(r: Register) -> bool
 }
 
 // Whether an actor's fields are as they should be among the first `n` actors.
-pub fn actor_fits<'a>(ids: &'a [u32], kinds: &'a [u32], n: usize, a: Actor) -> bool
-    ensures { λ r. ⌜ r ≡ actorFits (humanIn (now (ids .entry)) (now (kinds .entry)) n) a ⌝ }
+fn actor_fits<'a>(names: &'a [u32], kinds: &'a [u32], n: usize, a: Actor) -> bool
+    ensures { λ r. ⌜ r ≡ actorFits (humanIn (now (names .entry)) (now (kinds .entry)) n) a ⌝ }
 {
     if !register::is_id(a.id) {
         return false;
@@ -168,23 +181,23 @@ pub fn actor_fits<'a>(ids: &'a [u32], kinds: &'a [u32], n: usize, a: Actor) -> b
     if a.kind != Actor::MACHINE {
         return false;
     }
-    columns::is_beside(ids, kinds, n, a.owner, Actor::HUMAN)
+    columns::is_beside(names, kinds, n, a.owner, Actor::HUMAN)
 }
 
 // Whether each of the first `n` actors is as it should be by itself, by their columns.
-pub fn actors_fit<'a>(ids: &'a [u32], kinds: &'a [u32], owners: &'a [u32], n: usize) -> bool
-    ensures { λ r. ⌜ r ≡ actorsFit (now (ids .entry)) (now (kinds .entry)) (now (owners .entry)) n ⌝ }
+fn actors_fit<'a>(names: &'a [u32], kinds: &'a [u32], owners: &'a [u32], n: usize) -> bool
+    ensures { λ r. ⌜ r ≡ actorsFit (now (names .entry)) (now (kinds .entry)) (now (owners .entry)) n ⌝ }
 {
-    let long = lists::least(ids.len(), lists::least(kinds.len(), owners.len()));
+    let long = lists::least(names.len(), lists::least(kinds.len(), owners.len()));
     let top = lists::least(n, long);
     let mut i: usize = 0;
     while i < top {
         let a = Actor {
-            id: ids[i],
+            id: names[i],
             kind: kinds[i],
             owner: owners[i],
         };
-        if !actor_fits(ids, kinds, n, a) {
+        if !actor_fits(names, kinds, n, a) {
             return false;
         }
         i += 1;
@@ -194,7 +207,7 @@ pub fn actors_fit<'a>(ids: &'a [u32], kinds: &'a [u32], owners: &'a [u32], n: us
 
 // Whether each byte of a resource's path is one that a path may have. Every byte is looked at, without a way out of the loop: so they are
 // compared many at a time.
-pub fn path_fits(o: Resource) -> bool
+fn path_fits(o: Resource) -> bool
     ensures { λ r. ⌜ r ≡ every (ranged pathByteLeast pathByteGreatest) (pathOf o) ⌝ }
 {
     let top = lists::least(o.len, Register::PATH);
@@ -219,22 +232,22 @@ fn human_id(id: u32, kind: u32) -> u32
 }
 
 // The ids of the humans among the first `n` actors, each at its place; 0 at the place of any other, and past them.
-pub fn human_ids<'a>(ids: &'a [u32], kinds: &'a [u32], n: usize) -> [u32; Register::ACTORS]
-    ensures { λ r. ⌜ r ≡ humanIds (now (ids .entry)) (now (kinds .entry)) n ⌝ }
+fn human_ids<'a>(names: &'a [u32], kinds: &'a [u32], n: usize) -> [u32; Register::ACTORS]
+    ensures { λ r. ⌜ r ≡ humanIds (now (names .entry)) (now (kinds .entry)) n ⌝ }
 {
-    let long = lists::least(ids.len(), kinds.len());
+    let long = lists::least(names.len(), kinds.len());
     let top = lists::least(n, lists::least(Register::ACTORS, long));
     let mut humans = [0; Register::ACTORS];
     let mut i: usize = 0;
     while i < top {
-        humans[i] = human_id(ids[i], kinds[i]);
+        humans[i] = human_id(names[i], kinds[i]);
         i += 1;
     }
     humans
 }
 
 // Whether a resource's fields are as they should be, where it is told whether its keeper is a human.
-pub fn resource_fits(kept: bool, o: Resource) -> bool
+fn resource_fits(kept: bool, o: Resource) -> bool
     ensures { λ r. ⌜ r ≡ resourceFits (λ x. kept) o ⌝ }
 {
     if !register::is_id(o.id) {
@@ -257,7 +270,7 @@ pub fn resource_fits(kept: bool, o: Resource) -> bool
 
 // Whether each resource is as it should be by itself: the keepers, whose column is lent, are looked up at once among the first `h` of
 // the humans' ids.
-pub fn resources_fit<'a>(humans: &'a [u32], h: usize, keepers: &'a [u32], o: Resources) -> bool
+fn resources_fit<'a>(humans: &'a [u32], h: usize, keepers: &'a [u32], o: Resources) -> bool
     ensures { λ r. ⌜ r ≡ resourcesFit (now (humans .entry)) h (now (keepers .entry)) o ⌝ }
 {
     let top = lists::least(o.count, Register::RESOURCES);

@@ -24,8 +24,7 @@ use Rattle.refusals.specs.declared.Refusal.{Refusal}
 use Rattle.lines.specs.Reading.{State, going, Read, closed}
 use Rattle.texts.specs.Keys.{usesKey, governsKey}
 use Rattle.texts.specs.Records.{values, passed, linesText, sectionText}
-use Rattle.texts.specs.Actions.{headForms, headNumbers, useForms, useNumbers, useText, governForm, governText, noAction, actionFrom, ShapedAction, readUses}
-use Rattle.texts.specs.Actions.{readGoverns, actionOf, actionText, actionRead, actionEnding}
+use Rattle.texts.specs.Actions.{headForms, headNumbers, useForms, useNumbers, useText, governForm, governText, noAction, actionFrom, ShapedAction, readUses, readGoverns, actionOf, actionText, actionRead, actionEnding}
 use Rattle.texts.specs.Fitting.{lines-fit-none, lines-fit-more, lines-fit-first, lines-fit-others, take-few, linesFit}
 use Rattle.texts.specs.declared.ActionRead.{ActionRead}
 use Rattle.texts.proofs.Things.{Codec, Pair, pair}

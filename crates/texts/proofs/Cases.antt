@@ -15,8 +15,7 @@ use Rattle.register.specs.declared.Resource.{Resource}
 use Rattle.register.specs.declared.Claim.{Claim}
 use Rattle.register.specs.declared.Register.{Register}
 use Rattle.rights.specs.Rights.{hasRight, hasRights, barsMachine}
-use Rattle.rules.specs.Sound.{distinct, actorFits, resourceFits, claimFits, namesStand, rootKept, drawnFrom, machineMay, overChain, drawn, fresh, alone, over, acceptable}
-use Rattle.rules.specs.Sound.{soundClaims, soundActors, soundResources, withinLimits, sound}
+use Rattle.rules.specs.Sound.{distinct, actorFits, resourceFits, claimFits, namesStand, rootKept, drawnFrom, machineMay, overChain, drawn, fresh, alone, over, acceptable, soundClaims, soundActors, soundResources, withinLimits, sound}
 use Rattle.actions.specs.declared.Usage.{Usage}
 use Rattle.actions.specs.declared.Action.{Action}
 use Rattle.refusals.specs.declared.Refusal.{Refusal}

@@ -19,8 +19,7 @@ use Rattle.lines.specs.Lines.{Line, line, fault, parseScope, beyond}
 use Rattle.lines.specs.Reading.{State, going, failed, Read, Form, count, taken, readForm, parseForm, aboveRefusal, readScope, closed, formRefusal, countRefusal}
 use Rattle.texts.specs.Keys.{actorsKey, resourcesKey, claimsKey, usesKey, governsKey}
 use Rattle.texts.specs.Records.{passed, many, section}
-use Rattle.texts.specs.Registers.{actorForms, resourceForms, claimForms, readActor, readResource, readClaim, readActors, readResources, readClaims, versionForm}
-use Rattle.texts.specs.Registers.{registerFrom, textRefusal, registerRead, registerEnding}
+use Rattle.texts.specs.Registers.{actorForms, resourceForms, claimForms, readActor, readResource, readClaim, readActors, readResources, readClaims, versionForm, registerFrom, textRefusal, registerRead, registerEnding}
 use Rattle.texts.specs.Actions.{headForms, useForms, governForm, readUse, readGovern, readUses, readGoverns, actionOf, actionRead, actionEnding}
 use Rattle.texts.proofs.Answering.{judged}
 

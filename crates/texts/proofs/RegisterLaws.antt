@@ -27,8 +27,7 @@ use Rattle.refusals.specs.declared.Refusal.{Refusal}
 use Rattle.lines.specs.Reading.{State, going, Read, closed}
 use Rattle.texts.specs.Keys.{actorsKey, resourcesKey, claimsKey}
 use Rattle.texts.specs.Records.{texts, sectionText}
-use Rattle.texts.specs.Registers.{actorForms, actorNumbers, resourceText, claimForms, claimNumbers, heldActors, heldResources, heldClaims, readActors, readResources}
-use Rattle.texts.specs.Registers.{readClaims, versionForm, registerFrom, registerText, registerRead, registerEnding}
+use Rattle.texts.specs.Registers.{actorForms, actorNumbers, resourceText, claimForms, claimNumbers, heldActors, heldResources, heldClaims, readActors, readResources, readClaims, versionForm, registerFrom, registerText, registerRead, registerEnding}
 use Rattle.texts.specs.declared.RegisterRead.{RegisterRead}
 use Rattle.texts.specs.Fitting.{ResourceLines, RegisterLines, register-lines-fit, linesFit}
 use Rattle.texts.proofs.Things.{Codec, Pair, pair}

@@ -27,8 +27,7 @@ use Rattle.lines.specs.Reading.{Form, decimal, kind, count, formLine}
 use Rattle.lines.specs.Laws.{decimal-line-length, formFits}
 use Rattle.texts.specs.Records.{linesText, texts, sectionText}
 use Rattle.texts.specs.Keys.{actorsKey, resourcesKey, claimsKey}
-use Rattle.texts.specs.Registers.{actorForms, actorNumbers, actorText, resourceForms, resourceNumbers, resourceText, claimForms, claimNumbers, claimText}
-use Rattle.texts.specs.Registers.{versionForm, registerText, textLimit}
+use Rattle.texts.specs.Registers.{actorForms, actorNumbers, actorText, resourceForms, resourceNumbers, resourceText, claimForms, claimNumbers, claimText, versionForm, registerText, textLimit}
 use Rattle.texts.specs.Fitting.{ResourceLines, register-lines-fit, linesFit}
 
 -- a greater number has no fewer digits

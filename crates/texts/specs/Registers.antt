@@ -20,8 +20,7 @@ use Rattle.refusals.specs.declared.Refusal.{Refusal}
 use Rattle.refusals.specs.declared.Refusal.the-variants.{Unsound, BadForm, CountAbove}
 use Rattle.lines.specs.Lines.{scopeLine, heldPath}
 use Rattle.lines.specs.Reading.{State, going, failed, Read, Form, number, kind, readForm, formLine, readScope, closed, countRefusal}
-use Rattle.texts.specs.Keys.{registerKey, actorsKey, actorKey, ownerKey, resourcesKey, resourceKey, publicKey, keeperKey, claimsKey, claimKey, parentKey, grantorKey}
-use Rattle.texts.specs.Keys.{holderKey, rightsKey, weightKey, expiryKey}
+use Rattle.texts.specs.Keys.{registerKey, actorsKey, actorKey, ownerKey, resourcesKey, resourceKey, publicKey, keeperKey, claimsKey, claimKey, parentKey, grantorKey, holderKey, rightsKey, weightKey, expiryKey}
 use Rattle.texts.specs.Records.{values, passed, linesText, section, sectionText}
 use Rattle.texts.specs.declared.RegisterRead.{RegisterRead}
 

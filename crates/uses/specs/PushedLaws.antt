@@ -1,21 +1,18 @@
 -- Laws: What putting violations to the end of a held list is over lists, and how many violations flags and governed entries give. Assumes nothing.
 use mathlib.Core.Path.{_≡_, refl, sym, ap, _∙_}
-use mathlib.Core.Bool.{Bool, not}
 use mathlib.Core.List.{List, [], _∷_, _++_, map, map-append, append-assoc, append-nil}
-use Prim.Native.Nat.{ℕ, suc, _+_, _-_, _/_, _%_, _^_, _≤_, _<_}
+use Prim.Native.Nat.{ℕ, suc, _+_, _-_, _≤_, _<_}
 use native.Mathlib.Omega.{arith}
 use borrow.Author.Tests.{lt-ltb}
-use lib.Dec.{eqb}
 use lib.ListN.{length, set, replicate, length-map, length-append}
 use lib.Seq.{set-at}
-use Rattle.lists.specs.Trims.{trim-length}
-use Rattle.lists.specs.Lists.{counted, filter}
-use Rattle.actions.specs.Actions.{violationLimit, flagCount}
+use Rattle.lists.specs.Lists.{counted}
+use Rattle.actions.specs.Actions.{violationLimit}
 use Rattle.actions.specs.declared.Violated.{Violated}
 use Rattle.actions.specs.declared.Violation.{Violation}
 use Rattle.actions.specs.declared.Violation.the-variants.{FlagSet, MachineGoverns}
 use Rattle.actions.specs.declared.Violations.{Violations}
-use Rattle.verdicts.specs.Gate.{flagsSet, governed, listed}
+use Rattle.verdicts.specs.Gate.{governed, listed}
 use Rattle.uses.specs.Pushed.{pushed, pushedAll}
 
 -- a held list is its places and its count
@@ -52,20 +49,8 @@ unfolding pushedAll
 pushed-all-append vs [] m = refl
 pushed-all-append vs (v ∷ l) m = pushed-all-append (pushed vs v) l m
 
--- there is at most one violation for each flag
-pub flags-set-length : (flags : ℕ) → length (flagsSet flags) ≤ flagCount
-unfolding flagsSet
-flags-set-length flags =
-    let raised : (ℕ → Bool) = λ i. eqb (flags / 2 ^ i % 2) 1 in
-    omega (arith, length-map (filter raised (counted 0 flagCount)) FlagSet, trim-length (λ M i. not (raised i)) (counted 0 flagCount))
-
 -- governed entries give violations by their positions, one for each
 pub governed-counted : (n : ℕ) (entries : List ℕ) → governed n entries ≡ map (λ i. MachineGoverns i) (counted n (length entries))
 unfolding governed
 governed-counted n [] = refl
 governed-counted n (g ∷ entries) = ap (λ vs. MachineGoverns n ∷ vs) (governed-counted (suc n) entries)
-
-pub pushed-length : (n : ℕ) (entries : List ℕ) → length (governed n entries) ≡ length entries
-unfolding governed
-pushed-length n [] = refl
-pushed-length n (g ∷ entries) = ap suc (pushed-length (suc n) entries)

@@ -34,8 +34,7 @@ use Rattle.coverage.specs.Laws.{nearest-any}
 use Rattle.uses.specs.Uses.{openTo, hopsFrom, coveredBy, reliedOn, useFaults, useHops, coveringOn, stepsTold}
 use Rattle.coverage.specs.Gathering.{coverPlaces}
 use Rattle.uses.specs.Sights.{ownerAt, ownerIn, ownedIn, upsOf, sightOf, spotFor}
-use Rattle.uses.specs.Relying.{claimStanding, claimPlaces, places-within, relied-natural, place-natural, covers-natural, onlyAt, reachFor, nearestPlace, nearest-covers}
-use Rattle.uses.specs.Relying.{nearest-natural}
+use Rattle.uses.specs.Relying.{claimStanding, claimPlaces, places-within, relied-natural, place-natural, covers-natural, onlyAt, reachFor, nearestPlace, nearest-covers, nearest-natural}
 
 -- ---- the claim relied on: its hops
 module _ (r : Register) (shaped : Shaped r) (h : sound r ≡ true) where

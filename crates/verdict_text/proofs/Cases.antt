@@ -6,12 +6,10 @@ use Rattle.lists.specs.Lists.{trim}
 use Rattle.paths.specs.Containment.{same, components, climbing, trimmed, starting, contained}
 use Rattle.rights.specs.Rights.{hasRight, hasRights, barsMachine}
 use Rattle.register.specs.Chain.{chain, rootGranted, circling}
-use Rattle.rules.specs.Sound.{distinct, actorFits, resourceFits, claimFits, namesStand, rootKept, drawnFrom, machineMay, overChain, drawn, fresh, alone, over, acceptable}
-use Rattle.rules.specs.Sound.{soundClaims, soundActors, soundResources, withinLimits, sound}
+use Rattle.rules.specs.Sound.{distinct, actorFits, resourceFits, claimFits, namesStand, rootKept, drawnFrom, machineMay, overChain, drawn, fresh, alone, over, acceptable, soundClaims, soundActors, soundResources, withinLimits, sound}
 use Rattle.refusals.specs.Refusals.{outcomeOf}
 use Rattle.actions.specs.Actions.{actionFits}
-use Rattle.verdicts.specs.Gate.{publicRead, contains, covering, covers, isOwnerless, ownerLacks, firstOf, flagsSet, governed, useViolation, useViolations, violationsOf}
-use Rattle.verdicts.specs.Gate.{actionTests, gateTests, gated}
+use Rattle.verdicts.specs.Gate.{publicRead, contains, covering, covers, isOwnerless, ownerLacks, firstOf, flagsSet, governed, useViolation, useViolations, violationsOf, actionTests, gateTests, gated}
 use Rattle.decimals.specs.Decimals.{digits, digitsWith, after, value, canonical, parse, digitRun}
 use Rattle.lines.specs.Lines.{begins, ended, parseLimited, atLeast, decimalLine, parseKind, pathOn, parseScope}
 use Rattle.texts.specs.Records.{values, passed, many, texts}

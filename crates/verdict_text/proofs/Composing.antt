@@ -1,25 +1,27 @@
 -- What is printed, by what the code found: the two readings and the gate's verdict. Assumes nothing.
 use Prim.Native.Nat.{ℕ, _≤_}
 use mathlib.Core.Path.{_≡_, sym, ap, _∙_}
+use mathlib.Core.Bool.{true, false}
 use mathlib.Core.List.{List}
 use lib.ListN.{length}
 use Rattle.register.specs.declared.Register.{Register}
 use Rattle.refusals.specs.declared.Outcome.{Outcome}
 use Rattle.refusals.specs.declared.Outcome.the-variants.{Accepted, Refused}
 use Rattle.refusals.specs.declared.Refusal.{Refusal}
+use Rattle.refusals.specs.declared.Refusal.the-variants.{Unsound}
+use Rattle.rules.specs.Sound.{sound}
 use Rattle.actions.specs.Actions.{violationLimit}
 use Rattle.actions.specs.declared.Action.{Action}
 use Rattle.actions.specs.declared.Verdict.{Verdict}
 use Rattle.verdicts.specs.Gate.{gated}
 use Rattle.lines.specs.Reading.{State, going, failed, closed}
-use Rattle.texts.specs.Registers.{registerRead}
+use Rattle.texts.specs.Registers.{textRefusal, registerEnding, registerFrom, registerRead}
 use Rattle.texts.specs.Actions.{actionRead}
 use Rattle.texts.specs.declared.RegisterRead.{RegisterRead}
 use Rattle.texts.specs.declared.ActionRead.{ActionRead}
 use Rattle.json_actions.specs.Actions.{jsonRead}
 use Rattle.json_actions.specs.declared.JsonRead.{JsonRead}
-use Rattle.verdict_text.specs.Printed.{stoppedText, verdictText, actionLines, registerLines, printed, printedLimit}
-use Rattle.verdict_text.specs.Printed.{jsonLines, clockRefusal, clockRead, clockLines, registerJson, jsonPrinted}
+use Rattle.verdict_text.specs.Printed.{stoppedText, verdictText, actionLines, registerLines, printed, printedLimit, jsonLines, clockRefusal, clockRead, clockLines, registerJson, jsonPrinted}
 use Rattle.verdict_text.proofs.Lengths.{gated-fitting}
 
 -- the gate's verdict fits
@@ -39,6 +41,26 @@ module _ (r : Register) (t : List ℕ) {read : ActionRead} (same : read ≡ acti
   refused-lines why e =
       ap (λ (o : ActionRead). actionLines r (o .outcome) o) (sym same)
       ∙ ap (λ (o : Outcome). actionLines r o read) e
+
+-- the answer of a reading, by the register that the lines say and where the reading ended
+module _ (t : List ℕ) {r : Register} {st : State} (of-register : r ≡ registerFrom t .value) (of-state : st ≡ registerFrom t .state) where
+  ended : registerEnding r st ≡ registerRead t
+  unfolding registerRead
+  ended = rw (of-register, of-state)
+
+  pub failed-answer : {why l : ℕ} → st ≡ failed why l → registerRead t .outcome ≡ Refused (textRefusal why)
+  failed-answer e = ap (λ (a : RegisterRead). a .outcome) (sym ended ∙ ap (registerEnding r) e)
+
+  module _ {u : List ℕ} {l : ℕ} (goes : st ≡ going u l) where
+    pub unsound-answer : sound r ≡ false → registerRead t .outcome ≡ Refused Unsound
+    unsound-answer h =
+        let told : registerEnding r (going u l) .outcome ≡ Refused Unsound = rw h in
+        ap (λ (a : RegisterRead). a .outcome) (sym ended ∙ ap (registerEnding r) goes) ∙ told
+
+    pub sound-answer : sound r ≡ true → record { register = r; outcome = Accepted; line = 0 } ≡ registerRead t
+    sound-answer h =
+        let told : registerEnding r (going u l) ≡ record { register = r; outcome = Accepted; line = 0 } = rw h in
+        sym (sym ended ∙ ap (registerEnding r) goes ∙ told)
 
 -- a register that is read, and one that is refused
 module _ (t action : List ℕ) {read : RegisterRead} (same : read ≡ registerRead t) where

@@ -44,9 +44,7 @@ use Rattle.texts.specs.Actions.{actionRead}
 use Rattle.texts.specs.Lengths.{texts-length}
 use Rattle.texts.specs.declared.RegisterRead.{RegisterRead}
 use Rattle.texts.specs.declared.ActionRead.{ActionRead}
-use Rattle.verdict_text.specs.Printed.{permittedLine, refusedLine, stoppedLine, violationsKey, violationKey, atKey, refusalKey, violationsIn, pairText, listText}
-use Rattle.verdict_text.specs.Printed.{stoppedText, verdictLines, verdictText, actionLines, registerLines, printed, printedLimit, jsonLines, clockRefusal, clockRead}
-use Rattle.verdict_text.specs.Printed.{clockLines, registerJson, jsonPrinted}
+use Rattle.verdict_text.specs.Printed.{permittedLine, refusedLine, stoppedLine, violationsKey, violationKey, atKey, refusalKey, violationsIn, pairText, listText, stoppedText, verdictLines, verdictText, actionLines, registerLines, printed, printedLimit, jsonLines, clockRefusal, clockRead, clockLines, registerJson, jsonPrinted}
 
 -- a violation names a number of 16 bits
 abbrev pub Small : Violation → Type 0

@@ -11,6 +11,7 @@ ghost use Rattle.texts.specs.Delivery.{delivered};
 ghost use Rattle.lines.specs.Reading.{closed};
 ghost use Rattle.json_actions.specs.Actions.{jsonRead};
 ghost use Rattle.verdict_text.specs.Printed.{pairText, listText, stoppedText, verdictText, actionLines, printed, printedLimit};
+ghost use Rattle.verdict_text.specs.Opened.{Opened};
 ghost use Rattle.verdict_text.specs.Printed.{jsonLines, clockRead, clockLines, jsonPrinted};
 use actions::Decision;
 use actions::Verdict;
@@ -20,6 +21,7 @@ use lines::COUNT_REFUSAL;
 use refusals::Outcome;
 use refusals::Refusal;
 use register::Register;
+use soundness::Findings;
 use texts::Written;
 
 // No verdict's text is longer.
@@ -90,9 +92,16 @@ fn put_verdict(buf: &mut [u8], v: Verdict) -> usize
     }
 }
 
-// Puts what is printed of a register that was read and an action's text into the buffer, and answers the position behind it.
-fn compose_action(buf: &mut [u8], register: Register, action: &[u8]) -> usize
-    requires { ⌜ printedLimit ≤ length (now buf) ⌝ }
+// Puts what is printed of a register, by a sheet of its claims and what was found of it, and an action's text into the buffer, and answers the
+// position behind it.
+fn compose_action(
+    buf: &mut [u8],
+    register: Register,
+    sheet: &[u32],
+    known: Findings,
+    action: &[u8],
+) -> usize
+    requires { ⌜ (printedLimit ≤ length (now buf)) × Opened register (now sheet) known ⌝ }
     ensures behind { λ r. ⌜ r ≡ length (actionLines register (actionRead (now (action .entry)) .outcome) (actionRead (now (action .entry)))) ⌝ }
     ensures written { λ _. ⌜ now (buf .exit) ≡ splice 0 (actionLines register (actionRead (now (action .entry)) .outcome) (actionRead (now (action .entry)))) (now (buf .entry)) ⌝ }
 {
@@ -101,7 +110,7 @@ fn compose_action(buf: &mut [u8], register: Register, action: &[u8]) -> usize
     match outcome {
         Outcome::Accepted => {
             let asked = read.action;
-            put_verdict(buf, gate::gate(register, asked))
+            put_verdict(buf, gate::gate_by(register, sheet, known, asked))
         }
         Outcome::Refused(why) => put_stopped(buf, why),
     }
@@ -113,15 +122,22 @@ fn compose(buf: &mut [u8], register: &[u8], action: &[u8]) -> usize
     ensures behind { λ r. ⌜ r ≡ length (printed (now (register .entry)) (now (action .entry))) ⌝ }
     ensures written { λ _. ⌜ now (buf .exit) ≡ splice 0 (printed (now (register .entry)) (now (action .entry))) (now (buf .entry)) ⌝ }
 {
-    let read = reading::read_register(register);
-    let outcome = read.outcome;
-    match outcome {
-        Outcome::Accepted => {
-            let state = read.register;
-            compose_action(buf, state, action)
-        }
-        Outcome::Refused(why) => put_stopped(buf, why),
+    let form = reading::read_form(register);
+    let cursor = form.cursor;
+    if !lines::goes_on(register, cursor) {
+        return put_stopped(buf, texts::refusal_of(cursor.refusal));
     }
+    let state = form.register;
+    let actors = state.actors;
+    let resources = state.resources;
+    let claims = state.claims;
+    let mut sheet = [0u32; columns::SHEET];
+    columns::put_claims(&mut sheet, claims);
+    let known = soundness::judged(actors, resources, &sheet, claims.count);
+    if !known.sound {
+        return put_stopped(buf, Refusal::Unsound);
+    }
+    compose_action(buf, state, &sheet, known, action)
 }
 
 // The lines that the program prints of the two texts.
@@ -135,10 +151,17 @@ pub fn verdict_text(register: &[u8], action: &[u8], buf: &mut [u8]) -> Written
     writing::deliver(buf, &text[..length])
 }
 
-// Puts what is printed of a register that was read and a JSON action's text, read at a moment, into the buffer, and answers the position
-// behind it.
-fn compose_json(buf: &mut [u8], register: Register, moment: u64, action: &[u8]) -> usize
-    requires { ⌜ printedLimit ≤ length (now buf) ⌝ }
+// Puts what is printed of a register, by a sheet of its claims and what was found of it, and a JSON action's text, read at a moment, into the
+// buffer, and answers the position behind it.
+fn compose_json(
+    buf: &mut [u8],
+    register: Register,
+    sheet: &[u32],
+    known: Findings,
+    moment: u64,
+    action: &[u8],
+) -> usize
+    requires { ⌜ (printedLimit ≤ length (now buf)) × Opened register (now sheet) known ⌝ }
     ensures behind { λ r. ⌜ r ≡ length (jsonLines register (jsonRead (now (action .entry)) moment .outcome) (jsonRead (now (action .entry)) moment .action)) ⌝ }
     ensures written { λ _. ⌜ now (buf .exit) ≡ splice 0 (jsonLines register (jsonRead (now (action .entry)) moment .outcome) (jsonRead (now (action .entry)) moment .action)) (now (buf .entry)) ⌝ }
 {
@@ -147,22 +170,30 @@ fn compose_json(buf: &mut [u8], register: Register, moment: u64, action: &[u8]) 
     match outcome {
         Outcome::Accepted => {
             let asked = posed.action;
-            put_verdict(buf, gate::gate(register, asked))
+            put_verdict(buf, gate::gate_by(register, sheet, known, asked))
         }
         Outcome::Refused(why) => put_stopped(buf, why),
     }
 }
 
-// Puts what is printed of a register that was read, a clock's text and a JSON action's into the buffer, and answers the position behind it.
-fn compose_clock(buf: &mut [u8], register: Register, clock: &[u8], action: &[u8]) -> usize
-    requires { ⌜ printedLimit ≤ length (now buf) ⌝ }
+// Puts what is printed of a register, by a sheet of its claims and what was found of it, a clock's text and a JSON action's into the buffer, and
+// answers the position behind it.
+fn compose_clock(
+    buf: &mut [u8],
+    register: Register,
+    sheet: &[u32],
+    known: Findings,
+    clock: &[u8],
+    action: &[u8],
+) -> usize
+    requires { ⌜ (printedLimit ≤ length (now buf)) × Opened register (now sheet) known ⌝ }
     ensures behind { λ r. ⌜ r ≡ length (clockLines register (closed (clockRead (now (clock .entry)) .state)) (clockRead (now (clock .entry)) .value) (now (action .entry))) ⌝ }
     ensures written { λ _. ⌜ now (buf .exit) ≡ splice 0 (clockLines register (closed (clockRead (now (clock .entry)) .state)) (clockRead (now (clock .entry)) .value) (now (action .entry))) (now (buf .entry)) ⌝ }
 {
     let field = lines::read_count(clock, lines::start(), b"now=", LAST_MOMENT);
     let end = lines::finish(clock, field.cursor);
     if lines::goes_on(clock, end) {
-        return compose_json(buf, register, field.value, action);
+        return compose_json(buf, register, sheet, known, field.value, action);
     }
     if end.refusal == COUNT_REFUSAL {
         return put_stopped(buf, Refusal::OutOfRange);
@@ -176,15 +207,22 @@ fn compose_texts(buf: &mut [u8], register: &[u8], clock: &[u8], action: &[u8]) -
     ensures behind { λ r. ⌜ r ≡ length (jsonPrinted (now (register .entry)) (now (clock .entry)) (now (action .entry))) ⌝ }
     ensures written { λ _. ⌜ now (buf .exit) ≡ splice 0 (jsonPrinted (now (register .entry)) (now (clock .entry)) (now (action .entry))) (now (buf .entry)) ⌝ }
 {
-    let stated = reading::read_register(register);
-    let outcome = stated.outcome;
-    match outcome {
-        Outcome::Accepted => {
-            let state = stated.register;
-            compose_clock(buf, state, clock, action)
-        }
-        Outcome::Refused(why) => put_stopped(buf, why),
+    let form = reading::read_form(register);
+    let cursor = form.cursor;
+    if !lines::goes_on(register, cursor) {
+        return put_stopped(buf, texts::refusal_of(cursor.refusal));
     }
+    let state = form.register;
+    let actors = state.actors;
+    let resources = state.resources;
+    let claims = state.claims;
+    let mut sheet = [0u32; columns::SHEET];
+    columns::put_claims(&mut sheet, claims);
+    let known = soundness::judged(actors, resources, &sheet, claims.count);
+    if !known.sound {
+        return put_stopped(buf, Refusal::Unsound);
+    }
+    compose_clock(buf, state, &sheet, known, clock, action)
 }
 
 // The lines that the program for JSON actions prints of the three texts.

@@ -61,10 +61,6 @@ pub flag-refuses : (r : Register) (a : Action) → Passed r a → (i : ℕ) → 
 flag-refuses r a passed i below set =
     refused-in r a passed (λ none. set (flags-none-out (a .flags) (violations-none-out r a none .flagless) i below))
 
-pub flags-refuse : (r : Register) (a : Action) → Passed r a → (a .flags ≡ 0 → ⊥) → gated r a .decision ≡ Refused
-flags-refuse r a passed set =
-    refused-in r a passed (λ none. set (flags-none-zero (a .flags) (action-fits-out a (passed .fits) .flagsFew) (violations-none-out r a none .flagless)))
-
 -- no flag is no violation
 pub flags-zero : flagsSet 0 ≡ []
 unfolding flagsSet

@@ -10,26 +10,15 @@ use Rattle.register.specs.declared.Register.{Register}
 use Rattle.rules.specs.Sound.{isMachine}
 use Rattle.actions.specs.Actions.{governsOf}
 use Rattle.actions.specs.declared.Action.{Action}
-use Rattle.actions.specs.declared.Decision.the-variants.{Permitted, Refused}
+use Rattle.actions.specs.declared.Decision.the-variants.{Permitted}
 use Rattle.verdicts.specs.Gate.{isOwnerless, gated}
-use Rattle.verdicts.specs.Laws.{permitted-out, refused-in, violations-none-out}
-use Rattle.verdicts.specs.Authority.{Passed}
-
--- a machine without an owner that is not stopped is refused, so it is never permitted
-pub ownerless-refused : (r : Register) (a : Action) → Passed r a → isOwnerless r (a .actor) ≡ true → gated r a .decision ≡ Refused
-ownerless-refused r a passed e =
-    refused-in r a passed (λ none. clash (isOwnerless r (a .actor)) e (violations-none-out r a none .owned))
+use Rattle.verdicts.specs.Laws.{permitted-out}
 
 pub permitted-owned : (r : Register) (a : Action) → gated r a .decision ≡ Permitted → isOwnerless r (a .actor) ≡ false
 permitted-owned r a h = permitted-out r a h .clean .owned
 
 pub ownerless-never : (r : Register) (a : Action) → isOwnerless r (a .actor) ≡ true → gated r a .decision ≡ Permitted → ⊥
 ownerless-never r a e h = clash (isOwnerless r (a .actor)) e (permitted-owned r a h)
-
--- a machine that governs and is not stopped is refused, so it is never permitted
-pub governing-refused : (r : Register) (a : Action) → Passed r a → isMachine (actorsOf (r .actors)) (a .actor) ≡ true → 0 < length (governsOf a) → gated r a .decision ≡ Refused
-governing-refused r a passed e some =
-    refused-in r a passed (λ none. omega (arith, ap length (violations-none-out r a none .ungoverning e)))
 
 pub governing-never : (r : Register) (a : Action) → isMachine (actorsOf (r .actors)) (a .actor) ≡ true → 0 < length (governsOf a) → gated r a .decision ≡ Permitted → ⊥
 governing-never r a e some h = omega (arith, ap length (permitted-out r a h .clean .ungoverning e))

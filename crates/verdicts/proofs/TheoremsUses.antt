@@ -21,8 +21,7 @@ use Rattle.actions.specs.declared.Action.{Action}
 use Rattle.actions.specs.declared.Plan.{Plan}
 use Rattle.actions.specs.declared.Violation.{Violation}
 use Rattle.actions.specs.declared.Violation.the-variants.{NotCovered}
-use Rattle.verdicts.specs.Gate.{covering, covers, useViolation, violationsOf, hopsFor, hopCounts, gated}
-use Rattle.verdicts.specs.Gate.{reachOf}
+use Rattle.verdicts.specs.Gate.{covering, covers, useViolation, violationsOf, hopsFor, hopCounts, gated, reachOf}
 use Rattle.verdicts.specs.Plans.{planned, SamePlan}
 use Rattle.verdicts.specs.Coverage as coverage
 use Rattle.verdicts.specs.Kinds as kinds

@@ -26,8 +26,7 @@ use Rattle.actions.specs.declared.Decision.the-variants.{Permitted}
 use Rattle.verdicts.specs.Gate.{publicRead, contains, covering, covers, isOwnerless, ownerLacks, gated}
 use Rattle.verdicts.specs.Places.{any-place, all-place, none-place}
 use Rattle.verdicts.specs.Laws.{UseClean, permitted-out, use-violations-out}
-use Rattle.verdicts.specs.Trace.{root-resource, root-rights, root-weight, place-climbing, place-higher, place-attenuating, place-hops-most}
-use Rattle.verdicts.specs.Trace.{place-rooted, place-keeper}
+use Rattle.verdicts.specs.Trace.{root-resource, root-rights, root-weight, place-climbing, place-higher, place-attenuating, place-hops-most, place-rooted, place-keeper}
 use Rattle.verdicts.specs.Coverage.{covering-out, covers-cases}
 use Rattle.verdicts.specs.Authority.{IsIn, higherThan, Traced, PublicRead, Rests, Owned, Authority}
 

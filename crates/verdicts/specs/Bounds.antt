@@ -1,11 +1,11 @@
 -- Laws: How many violations and hop counts an answer has at most. Assumes nothing.
-use mathlib.Core.Path.{_≡_, refl, ap, _∙_}
+use mathlib.Core.Path.{_≡_, refl, ap}
 use mathlib.Core.Bool.{Bool, true, false, not, cond}
-use mathlib.Core.List.{List, [], _∷_, _++_, map}
+use mathlib.Core.List.{List, [], _∷_, _++_}
 use Prim.Native.Nat.{ℕ, suc, _-_, _≤_, _/_, _%_, _^_}
 use native.Mathlib.Omega.{arith}
 use lib.Dec.{eqb}
-use lib.ListN.{length, replicate, length-append, length-take, length-map, length-replicate}
+use lib.ListN.{length, length-append, length-take, length-map}
 use Rattle.lists.specs.Tests.{cases}
 use Rattle.lists.specs.Lists.{any, counted, filter}
 use Rattle.lists.specs.Trims.{trim-length}
@@ -13,14 +13,12 @@ use Rattle.register.specs.Limits.{hopLimit}
 use Rattle.register.specs.Register.{claimsOf, actorsOf}
 use Rattle.register.specs.declared.Register.{Register}
 use Rattle.rules.specs.Sound.{sound, isMachine}
-use Rattle.actions.specs.Actions.{useLimit, violationLimit, flagCount, usesOf, governsOf, actionFits}
+use Rattle.actions.specs.Actions.{violationLimit, flagCount, usesOf, governsOf, actionFits}
 use Rattle.actions.specs.declared.Usage.{Usage}
 use Rattle.actions.specs.declared.Action.{Action}
 use Rattle.actions.specs.declared.Violation.{Violation}
-use Rattle.actions.specs.declared.Violated.{Violated}
 use Rattle.actions.specs.declared.Violation.the-variants.{FlagSet, NoOwner, NotCovered, OwnerNotCovering}
-use Rattle.verdicts.specs.Gate.{covering, covers, isOwnerless, ownerLacks, flagsSet, governed, useViolation, useViolations, violationsOf, hopsFor, hopCounts, listed}
-use Rattle.verdicts.specs.Gate.{padded, reachOf}
+use Rattle.verdicts.specs.Gate.{covering, covers, isOwnerless, ownerLacks, flagsSet, governed, useViolation, useViolations, violationsOf, hopsFor, hopCounts, reachOf}
 use Rattle.verdicts.specs.Nearest.{nearest-none}
 use Rattle.verdicts.specs.Laws.{action-fits-out, use-violations-nil, use-violations-cons}
 use Rattle.verdicts.specs.Coverage.{nearest}
@@ -79,13 +77,6 @@ violations-most r a h =
     four-most flags owners governing uses f o g u =
         omega (arith, length-append flags (owners ++ (governing ++ uses)), length-append owners (governing ++ uses), length-append governing uses)
 
--- so the answer holds them all, at their places, and is always as long
-pub listed-length : (vs : List Violation) → length vs ≤ violationLimit → length (listed vs .list) ≡ violationLimit
-listed-length vs h =
-    let entry : Violation → Violated = λ v. record { what = v } in
-    length-append (map entry vs) (replicate (violationLimit - length vs) (entry (FlagSet 0)))
-    ∙ omega (arith, length-map vs entry, length-replicate (violationLimit - length vs) (entry (FlagSet 0)))
-
 -- there are as many hop counts as uses, each at most 16 in a sound register
 pub hop-counts-length : (r : Register) (a : Action) → length (hopCounts r a) ≡ length (usesOf a)
 hop-counts-length r a = length-map (usesOf a) (λ u. hopsFor r (a .now) (a .actor) u)
@@ -97,6 +88,3 @@ hops-most r h moment x u =
     (λ e. let found = nearest r moment x u e in
     omega (arith, found .2, place-hops-most r h (found .0) (found .1 .place)))
     (λ e. rw (nearest-none (covering r moment x u) (λ c. reachOf r (c .resource) (u .resource)) (claimsOf (r .claims)) e) (omega arith))
-
-pub padded-length : (hs : List ℕ) → length hs ≤ useLimit → length (padded hs) ≡ useLimit
-padded-length hs h = length-append hs (replicate (useLimit - length hs) 0) ∙ omega (arith, length-replicate {A = ℕ} (useLimit - length hs) 0)

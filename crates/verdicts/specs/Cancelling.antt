@@ -73,10 +73,6 @@ halt-clash : {A : Type 0} {why : Refusal} {n : ℕ} → halts why n ≡ runs →
 halt-clash e = let never : _≡_ {A = ℕ} 0 1 = cc in absurd (omega arith)
 
 module _ (r : Register) where
-  pub first-halt-nil : (n : ℕ) → firstHalt r n [] ≡ runs
-  unfolding firstHalt
-  first-halt-nil n = refl
-
   pub first-halt-pass : (n : ℕ) (a : Action) (actions : List Action) → outcomeOf (actionTests r a) ≡ Accepted
       → firstHalt r n (a ∷ actions) ≡ firstHalt r (suc n) actions
   unfolding firstHalt
@@ -212,7 +208,3 @@ empty-count r p h =
     halt-cases (haltOf r p)
     (λ e. ap (λ v. v .count) (planned-runs r p e) ∙ judgements-length r false (actionsOf p) ∙ rw h)
     (λ why n e. ap (λ v. v .count) (planned-stopped r p why n e))
-
--- a plan that runs has as many verdicts as actions
-pub runs-count : (r : Register) (p : Plan) → haltOf r p ≡ runs → planned r p .count ≡ length (actionsOf p)
-runs-count r p e = ap (λ v. v .count) (planned-runs r p e) ∙ judgements-length r false (actionsOf p)

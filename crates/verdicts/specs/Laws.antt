@@ -2,13 +2,11 @@
 -- nothing.
 use mathlib.Core.Path.{_≡_, refl, ap, sym, _∙_}
 use mathlib.Core.Bool.{Bool, true, false, _&&_, cond}
-use mathlib.Core.List.{List, [], _∷_, _++_, append-assoc}
+use mathlib.Core.List.{List, [], _∷_, _++_}
 use Prim.Native.Nat.{ℕ, suc, _+_, _≤_, _<_, _^_}
-use native.Mathlib.Nat.{add-zero}
 use native.Mathlib.Omega.{arith}
 use borrow.Author.Tests.{leb-true, ltb-true}
 use lib.Dec.{eqb, leb, ltb}
-use lib.ListN.{length}
 use Rattle.lists.specs.Tests.{cases}
 use Rattle.lists.specs.Lists.{any, every, All}
 use Rattle.lists.specs.Each.{ands-out, list-cases, cons-clash}
@@ -27,8 +25,7 @@ use Rattle.actions.specs.declared.Action.{Action}
 use Rattle.actions.specs.declared.Violation.{Violation}
 use Rattle.actions.specs.declared.Violation.the-variants.{NoOwner, MachineGoverns, NotCovered, OwnerNotCovering}
 use Rattle.actions.specs.declared.Decision.the-variants.{Permitted, Refused, Stopped}
-use Rattle.verdicts.specs.Gate.{covers, isOwnerless, ownerLacks, flagsSet, governed, useViolation, useViolations, violationsOf, hopCounts, actionTests, gateTests}
-use Rattle.verdicts.specs.Gate.{listed, padded, decided, verdictOn, gated}
+use Rattle.verdicts.specs.Gate.{covers, isOwnerless, ownerLacks, flagsSet, governed, useViolation, useViolations, violationsOf, hopCounts, actionTests, gateTests, listed, padded, decided, verdictOn, gated}
 use Rattle.verdicts.specs.Authority.{Passed}
 
 -- a stopped gate call gives no violations and no hop counts
@@ -73,10 +70,6 @@ pub action-tests-out : (r : Register) (a : Action) → outcomeOf (actionTests r 
 unfolding actionTests
 action-tests-out r a h = let told = accepted-out (actionTests r a) h in record { fits = told .0; known = told .1 .0 }
 
-pub action-tests-in : (r : Register) (a : Action) → Fit r a → outcomeOf (actionTests r a) ≡ Accepted
-unfolding actionTests
-action-tests-in r a h = accepted-in (actionTests r a) (h .fits, (h .known, tt))
-
 pub gate-tests-out : (r : Register) (a : Action) → outcomeOf (gateTests r a) ≡ Accepted → Passed r a
 unfolding gateTests actionTests
 gate-tests-out r a h = let told = accepted-out (gateTests r a) h in record { soundly = told .0; fits = told .1 .0; known = told .1 .1 .0 }
@@ -113,12 +106,6 @@ governed-nil n = refl
 pub governed-cons : (n g : ℕ) (entries : List ℕ) → governed n (g ∷ entries) ≡ MachineGoverns n ∷ governed (suc n) entries
 unfolding governed
 governed-cons n g entries = refl
-
-pub governed-append : (n : ℕ) (entries more : List ℕ) → governed n (entries ++ more) ≡ governed n entries ++ governed (n + length entries) more
-governed-append n [] more = rw (governed-nil n, add-zero n)
-governed-append n (g ∷ entries) more =
-    let counted : suc n + length entries ≡ n + length (g ∷ entries) = omega arith in
-    rw (governed-cons n g (entries ++ more), governed-append (suc n) entries more, governed-cons n g entries, counted)
 
 governed-none : (n : ℕ) (entries : List ℕ) → governed n entries ≡ [] → entries ≡ []
 unfolding governed
@@ -174,14 +161,6 @@ pub use-violations-cons : (r : Register) (moment x n : ℕ) (u : Usage) (us : Li
     → useViolations r moment x n (u ∷ us) ≡ useViolation r moment x n u ++ useViolations r moment x (suc n) us
 unfolding useViolations
 use-violations-cons r moment x n u us = refl
-
-pub use-violations-append : (r : Register) (moment x n : ℕ) (us vs : List Usage)
-    → useViolations r moment x n (us ++ vs) ≡ useViolations r moment x n us ++ useViolations r moment x (n + length us) vs
-use-violations-append r moment x n [] vs = rw (use-violations-nil r moment x n, add-zero n)
-use-violations-append r moment x n (u ∷ us) vs =
-    let counted : suc n + length us ≡ n + length (u ∷ us) = omega arith in
-    rw (use-violations-cons r moment x n u (us ++ vs), use-violations-append r moment x (suc n) us vs, use-violations-cons r moment x n u us, counted)
-    (sym (append-assoc (useViolation r moment x n u) (useViolations r moment x (suc n) us) (useViolations r moment x (n + length (u ∷ us)) vs)))
 
 pub use-violations-out : (r : Register) (moment x n : ℕ) (us : List Usage) → useViolations r moment x n us ≡ [] → All (λ u. UseClean r moment x u) us
 use-violations-out r moment x n [] h = tt

@@ -24,8 +24,7 @@ use Rattle.actions.specs.Actions.{usesOf}
 use Rattle.actions.specs.declared.Usage.{Usage}
 use Rattle.actions.specs.declared.Action.{Action}
 use Rattle.actions.specs.declared.Plan.{Plan}
-use Rattle.verdicts.specs.Gate.{publicRead, contains, covering, covers, isOwnerless, ownerLacks, relied, useViolation, useViolations, violationsOf, hopsIn, hopsFor}
-use Rattle.verdicts.specs.Gate.{hopCounts, actionTests, gateTests, verdictOn, gated, firstOf, nearestOf, pathIn, pathBy, reachOf}
+use Rattle.verdicts.specs.Gate.{publicRead, contains, covering, covers, isOwnerless, ownerLacks, relied, useViolation, useViolations, violationsOf, hopsIn, hopsFor, hopCounts, actionTests, gateTests, verdictOn, gated, firstOf, nearestOf, pathIn, pathBy, reachOf}
 use Rattle.verdicts.specs.Plans.{actionsOf, judgements, Halt, runs, halts, haltOn, firstHalt, haltOf, held, planVerdict, planned}
 
 -- resources as they stand decide

@@ -1,7 +1,7 @@
 -- The tests of a revocation asked of the sheet of a register. Assumes nothing.
-use mathlib.Core.Path.{_≡_, refl, sym, ap, _∙_}
-use mathlib.Core.Bool.{Bool, true, false}
-use mathlib.Core.List.{List, map}
+use mathlib.Core.Path.{_≡_, sym, ap, _∙_}
+use mathlib.Core.Bool.{Bool, true}
+use mathlib.Core.List.{List}
 use Prim.Native.Nat.{ℕ}
 use lib.Dec.{eqb}
 use lib.ListN.{length, take, getD}
@@ -10,11 +10,9 @@ use Rattle.lists.specs.Lists.{any}
 use Rattle.lists.specs.Each.{each-all, any-same, any-map, any-reverse}
 use Rattle.register.specs.Limits.{claimLimit}
 use Rattle.register.specs.Register.{claimsOf}
-use Rattle.register.specs.Chain.{latest, chain}
-use Rattle.register.specs.declared.Claim.{Claim}
+use Rattle.register.specs.Chain.{chain}
 use Rattle.register.specs.declared.Register.{Register}
-use Rattle.columns.specs.Columns.{claimId, parentOf, actorId, latestPlace, actorColumns}
-use Rattle.columns.specs.declared.ActorColumns.{ActorColumns}
+use Rattle.columns.specs.Columns.{claimId, latestPlace}
 use Rattle.columns.specs.Laws.{among-natural}
 use Rattle.columns.specs.Sheet.{sheetOf, columnOf, claimAt, claimsIn}
 use Rattle.columns.specs.SheetLaws.{sheet-long, sheet-claims, column-natural-ids}
@@ -61,17 +59,16 @@ revoke-asked r who x wholly knows stood granted =
     (λ f. outcome-fail _ _ (wholly ∙ f) ∙ sym (outcome-fail _ _ f))
 
 -- the answers of the columns of a sheet, put together
-pub revoke-told : (r : Register) (long : length (r .claims .list) ≡ claimLimit) (who x : ℕ) {s ups ids grantors : List ℕ} {people : ActorColumns} {whole known stands grants : Bool}
+pub revoke-told : (r : Register) (long : length (r .claims .list) ≡ claimLimit) (who x : ℕ) {s ups ids grantors : List ℕ} {whole known stands grants : Bool}
     → s ≡ sheetOf (r .claims) → ups ≡ earlierPlaces (columnOf 0 (sheetOf (r .claims))) (columnOf 1 (sheetOf (r .claims))) (r .claims .count) claimLimit
-    → whole ≡ sound r → people ≡ actorColumns (r .actors .list) → known ≡ any (eqb who) (take (r .actors .count) (people .ids))
+    → whole ≡ sound r → known ≡ worldIn r .known who
     → ids ≡ columnOf 0 s → stands ≡ any (eqb x) (take (r .claims .count) ids) → grantors ≡ columnOf 2 s
     → grants ≡ any (λ j. eqb (getD grantors j 0) who) (upFrom ups (latestPlace ids (r .claims .count) x))
     → outcomeOf (askedTests whole known Unknown stands ClaimAbsent grants) ≡ outcomeOf (revokeTests r who x)
-revoke-told r long who x {s} {ups} {ids} {grantors} filled upped wholly peopled knows numbers stood granters granted =
+revoke-told r long who x {s} {ups} {ids} {grantors} filled upped wholly knows numbers stood granters granted =
     let n : ℕ = r .claims .count in
     let ids-of : ids ≡ columnOf 0 (sheetOf (r .claims)) = numbers ∙ ap (columnOf 0) filled in
-    revoke-asked r who x wholly
-    (knows ∙ rw peopled (among-natural actorId who (r .actors .count) (r .actors .list)))
+    revoke-asked r who x wholly knows
     (stood ∙ ap (λ l. any (eqb x) (take n l)) ids-of ∙ stands-asked r long x)
     (λ t. granted
     ∙ ap (λ g. any (λ j. eqb (getD g j 0) who) (upFrom ups (latestPlace ids n x))) (granters ∙ ap (columnOf 2) filled)

@@ -2,20 +2,19 @@
 -- withdrawal leaves. Assumes nothing.
 use mathlib.Core.Path.{_≡_, refl, ap, sym, _∙_, fun-ext}
 use mathlib.Core.Bool.{Bool, true, false, _||_}
-use mathlib.Core.List.{List, [], _∷_, _++_, map}
+use mathlib.Core.List.{List, map}
 use Prim.Native.Nat.{ℕ, zero, suc, _-_, _≤_, _<_, min}
 use native.Mathlib.Nat.{zero-add}
 use native.Mathlib.Omega.{arith}
 use lib.ListN.{length, take, getD, replicate, length-take, length-map, length-reverse, List·getD-map, List·getD-append}
-use Rattle.lists.specs.Lists.{any, Each, All, counted}
+use Rattle.lists.specs.Lists.{any, Each, counted}
 use Rattle.lists.specs.Counts.{counted-length}
-use Rattle.lists.specs.Each.{any-map, all-imp}
-use Rattle.lists.specs.Trims.{trim-same, trim-map, all-trim, trim-length}
+use Rattle.lists.specs.Each.{any-map}
+use Rattle.lists.specs.Trims.{trim-same, trim-map, trim-length}
 use Rattle.register.specs.Limits.{claimLimit}
 use Rattle.register.specs.Register.{claimsOf, noClaim}
 use Rattle.register.specs.Chain.{latest, above}
 use Rattle.register.specs.declared.Claim.{Claim}
-use Rattle.register.specs.declared.Claims.{Claims}
 use Rattle.register.specs.declared.Register.{Register}
 use Rattle.rules.specs.Sound.{sound}
 use Rattle.rules.specs.Struck.{struck, strike}
@@ -25,7 +24,7 @@ use Rattle.columns.specs.Sheet.{sheetOf, sheetLimit, columnOf, claimAt, claimsI
 use Rattle.columns.specs.SheetLaws.{sheet-long, sheet-claims, claims-in-length, claims-in-at}
 use Rattle.lookup.specs.Finding.{earlierPlaces}
 use Rattle.lookup.specs.Laws.{counted-number}
-use Rattle.lookup.specs.Walks.{above-natural, sheet-few, sheet-at, sheet-numbered}
+use Rattle.lookup.specs.Walks.{above-natural, sheet-few, sheet-numbered}
 use Rattle.refusals.specs.Refusals.{outcomeOf}
 use Rattle.changes.specs.Changes.{Withdrawal, revoke, clearResource, clearExpired, names, leftOf, revokeTests, clearResourceTests, clearExpiredTests, withdrawTests, withdrawn}
 use Rattle.refusals.specs.Laws.{outcome-cases, outcome-accepted}
@@ -77,32 +76,22 @@ module _ (P : Claim → Bool) (s : List ℕ) (long : length s ≡ sheetLimit) (n
       ∙ sym (trim-map (claimAt s) (struck claimId parentOf P) (λ M j. struck claimId parentOf P (map (claimAt s) M) (claimAt s j)) (λ M e. refl) (places n))
       ∙ ap (strike claimId parentOf P) (places-claims n few)
 
--- each place below n is below m
-places-below : (m n : ℕ) → n ≤ m → All (λ j. j < m) (places n)
-unfolding places
-places-below m zero h = tt
-places-below m (suc n) h = (omega arith, places-below m n (omega arith))
-
 places-length : (n : ℕ) → length (places n) ≡ n
 unfolding places
 places-length zero = refl
 places-length (suc n) = ap suc (places-length n)
 
--- not more are left than stood
-pub spared-length : (k : Claims) (gone : List Bool) → length (spared k gone) ≤ length (claimsOf k)
-spared-length k gone =
-    let n = length (claimsOf k) in
+-- not more are left than were looked at
+pub spared-length : (s : List ℕ) (n : ℕ) (gone : List Bool) → length (spared s n gone) ≤ min n claimLimit
+spared-length s n gone =
+    let top = min n claimLimit in
     omega (
       arith,
-      length-reverse (map (λ j. getD (k .list) j noClaim) (staying gone n)),
-      length-map (staying gone n) (λ j. getD (k .list) j noClaim),
-      trim-length (λ M j. getD gone j false) (places n),
-      places-length n,
+      length-reverse (map (claimAt s) (staying gone top)),
+      length-map (staying gone top) (claimAt s),
+      trim-length (λ M j. getD gone j false) (places top),
+      places-length top,
     )
-
-map-same : {A B : Type 0} (f g : A → B) (L : List A) → All (λ j. f j ≡ g j) L → map f L ≡ map g L
-map-same f g [] h = refl
-map-same f g (j ∷ L) h = rw (h .0, map-same f g L (h .1))
 
 -- a register that is sound: what goes by its sheet, and by the places of the parents in it, is what a test names with all that is drawn from it
 module _ (r : Register) (long : length (r .claims .list) ≡ claimLimit) (whole : sound r ≡ true) (P : Claim → Bool) where
@@ -112,14 +101,11 @@ module _ (r : Register) (long : length (r .claims .list) ≡ claimLimit) (whole 
   abbrev n : ℕ
   n = r .claims .count
 
-  pub spared-natural : spared (r .claims) (goneBy (λ j. P (claimAt s j)) (earlierPlaces (columnOf 0 s) (columnOf 1 s) n claimLimit) n) ≡ leftOf P r
+  pub spared-natural : spared s n (goneBy (λ j. P (claimAt s j)) (earlierPlaces (columnOf 0 s) (columnOf 1 s) n claimLimit) n) ≡ leftOf P r
   spared-natural =
       let gone : List Bool = goneBy (λ j. P (claimAt s j)) (earlierPlaces (columnOf 0 s) (columnOf 1 s) n claimLimit) n in
-      let count : length (claimsOf (r .claims)) ≡ n = omega (arith, sheet-few r long whole, long, length-take n (r .claims .list)) in
-      ap (λ m. latest (map (λ j. getD (r .claims .list) j noClaim) (staying gone m))) count
-      ∙ ap latest (sym (map-same (claimAt s) (λ j. getD (r .claims .list) j noClaim) (staying gone n)
-      (all-trim (λ M j. getD gone j false) (λ j. claimAt s j ≡ getD (r .claims .list) j noClaim) (places n)
-      (all-imp (λ j. j < n) (λ j. claimAt s j ≡ getD (r .claims .list) j noClaim) (sheet-at r long whole) (places n) (places-below n n (omega arith))))))
+      let all : min n claimLimit ≡ n = omega (arith, sheet-few r long whole) in
+      ap (λ m. latest (map (claimAt s) (staying gone m))) all
       ∙ ap latest (staying-natural P s (sheet-long (r .claims)) n (sheet-few r long whole) (sheet-numbered r long whole)
       ∙ ap (λ l. strike claimId parentOf P (latest l)) (sheet-claims (r .claims) long))
 
@@ -132,22 +118,24 @@ withdraw-judged r (clearExpired who moment) h = outcome-accepted _ _ h
 
 -- what is struck of what a withdrawal names, with its outcome, is what the withdrawal leaves
 pub struck-natural : (r : Register) → length (r .claims .list) ≡ claimLimit → (w : Withdrawal)
-    → struckClaims (r .claims) (goneBy (λ j. names w (claimAt (sheetOf (r .claims)) j))
+    → struckClaims (r .claims) (sheetOf (r .claims)) (goneBy (λ j. names w (claimAt (sheetOf (r .claims)) j))
     (earlierPlaces (columnOf 0 (sheetOf (r .claims))) (columnOf 1 (sheetOf (r .claims))) (r .claims .count) claimLimit) (r .claims .count))
     (outcomeOf (withdrawTests r w))
     ≡ struckOf (withdrawn r w)
 unfolding struckClaims withdrawn
 struck-natural r long w = outcome-cases (outcomeOf (withdrawTests r w))
-    (λ accepted. rw (accepted, spared-natural r long (withdraw-judged r w accepted) (names w), length-reverse (claimsOf (r .claims))))
+    (λ accepted. let stood : min (r .claims .count) claimLimit ≡ length (claimsOf (r .claims)) = omega (arith, long, length-take (r .claims .count) (r .claims .list)) in
+    rw (accepted, spared-natural r long (withdraw-judged r w accepted) (names w), stood, length-reverse (claimsOf (r .claims))))
     (λ why refused. rw refused)
 
 -- so it is where each part is told
-pub struck-told : (r : Register) → length (r .claims .list) ≡ claimLimit → (w : Withdrawal) {ups : List ℕ} {gone : List Bool} {told : Outcome} {y : Struck}
-    → ups ≡ earlierPlaces (columnOf 0 (sheetOf (r .claims))) (columnOf 1 (sheetOf (r .claims))) (r .claims .count) claimLimit
+pub struck-told : (r : Register) → length (r .claims .list) ≡ claimLimit → (w : Withdrawal) {s ups : List ℕ} {gone : List Bool} {told : Outcome} {y : Struck}
+    → s ≡ sheetOf (r .claims) → ups ≡ earlierPlaces (columnOf 0 (sheetOf (r .claims))) (columnOf 1 (sheetOf (r .claims))) (r .claims .count) claimLimit
     → gone ≡ goneBy (λ j. names w (claimAt (sheetOf (r .claims)) j)) ups (r .claims .count) → told ≡ outcomeOf (withdrawTests r w)
-    → y ≡ struckClaims (r .claims) gone told → y ≡ struckOf (withdrawn r w)
-struck-told r long w {ups} {gone} {told} upped named decided e =
+    → y ≡ struckClaims (r .claims) s gone told → y ≡ struckOf (withdrawn r w)
+struck-told r long w {s} {ups} {gone} {told} filled upped named decided e =
     e
-    ∙ ap (λ g. struckClaims (r .claims) g told) (named ∙ ap (λ l. goneBy (λ j. names w (claimAt (sheetOf (r .claims)) j)) l (r .claims .count)) upped)
-    ∙ ap (struckClaims (r .claims) _) decided
+    ∙ ap (λ l. struckClaims (r .claims) l gone told) filled
+    ∙ ap (λ g. struckClaims (r .claims) (sheetOf (r .claims)) g told) (named ∙ ap (λ l. goneBy (λ j. names w (claimAt (sheetOf (r .claims)) j)) l (r .claims .count)) upped)
+    ∙ ap (struckClaims (r .claims) (sheetOf (r .claims)) _) decided
     ∙ struck-natural r long w

@@ -3,13 +3,14 @@
 use mathlib.Core.Bool.{Bool, false, cond}
 use mathlib.Core.List.{List, _∷_, [], _++_, map}
 use Prim.Native.Nat.{ℕ, _-_, min}
-use lib.ListN.{length, drop, getD, replicate}
+use lib.ListN.{length, getD, replicate}
 use Rattle.lists.specs.Lists.{any, counted, trim}
 use Rattle.register.specs.Limits.{claimLimit}
-use Rattle.register.specs.Register.{claimsOf, noClaim}
+use Rattle.register.specs.Register.{noClaim}
 use Rattle.register.specs.Chain.{latest}
 use Rattle.register.specs.declared.Claim.{Claim}
 use Rattle.register.specs.declared.Claims.{Claims}
+use Rattle.columns.specs.Sheet.{claimAt}
 use Rattle.columns.specs.Columns.{places, placesUp}
 use Rattle.refusals.specs.Refusals.{Test, isAccepted}
 use Rattle.refusals.specs.declared.Outcome.{Outcome}
@@ -39,29 +40,25 @@ goneBy P ups n = map (goesAt P ups) (counted 0 (min n claimLimit)) ++ replicate 
 abbrev pub staying : List Bool → ℕ → List ℕ
 staying gone n = trim (λ L j. getD gone j false) (places n)
 
--- the claims that are left, in their order
-abbrev pub spared : Claims → List Bool → List Claim
-spared k gone = latest (map (λ j. getD (k .list) j noClaim) (staying gone (length (claimsOf k))))
+-- of the first n claims of a sheet those that are left, in their order
+abbrev pub spared : List ℕ → ℕ → List Bool → List Claim
+spared s n gone = latest (map (claimAt s) (staying gone (min n claimLimit)))
 
--- they are moved to the front of the list, and what stands behind them is as it was
-unfoldable pub packedClaims : Claims → List Bool → Claims
-packedClaims k gone = record {
-  list = spared k gone ++ drop (length (spared k gone)) (k .list);
-  count = length (spared k gone);
+-- they stand at the front of the list, with the zero claim in every place behind them
+unfoldable pub packedClaims : List ℕ → ℕ → List Bool → Claims
+packedClaims s n gone = record {
+  list = spared s n gone ++ replicate (claimLimit - length (spared s n gone)) noClaim;
+  count = length (spared s n gone);
 }
 
--- the claims that stand, and the zero claim in every place behind them
-unfoldable pub endedClaims : Claims → Claims
-endedClaims k = record { list = claimsOf k ++ replicate (claimLimit - length (claimsOf k)) noClaim; count = k .count }
-
 -- with an outcome: accepted, those that go are gone; refused, the claims are as they came
-unfoldable pub struckClaims : Claims → List Bool → Outcome → Struck
-struckClaims k gone o = record {
+unfoldable pub struckClaims : Claims → List ℕ → List Bool → Outcome → Struck
+struckClaims k s gone o = record {
   claims = cond (isAccepted o) (record {
-    list = spared k gone ++ replicate (claimLimit - length (spared k gone)) noClaim;
-    count = length (spared k gone);
+    list = spared s (k .count) gone ++ replicate (claimLimit - length (spared s (k .count) gone)) noClaim;
+    count = length (spared s (k .count) gone);
   }) k;
-  removed = cond (isAccepted o) (length (claimsOf k) - length (spared k gone)) 0;
+  removed = cond (isAccepted o) (min (k .count) claimLimit - length (spared s (k .count) gone)) 0;
   outcome = o;
 }
 

@@ -10,7 +10,7 @@ ghost use lib.ListN.{getD};
 ghost use Rattle.lists.specs.Lists.{any};
 ghost use Rattle.refusals.specs.Refusals.{outcomeOf};
 ghost use Rattle.changes.specs.Changes.{revoke, withdrawn, clearResource, clearExpired};
-ghost use Rattle.withdrawing.specs.Struck.{struckClaims, askedTests, goneBy, packedClaims, endedClaims, struckOf};
+ghost use Rattle.withdrawing.specs.Struck.{struckClaims, askedTests, goneBy, packedClaims, struckOf};
 ghost use mathlib.Core.List.{_∷_};
 ghost use Rattle.register.specs.Chain.{expired};
 ghost use Rattle.columns.specs.Columns.{latestPlace, placesUp};
@@ -33,7 +33,7 @@ pub struct Struck {
 
 // The outcome of a withdrawal's tests, where it is told whether each is passed: the first asks for a sound register, the last for one who
 // may withdraw.
-pub fn outcome(
+fn outcome(
     whole: bool,
     known: bool,
     unknown: Refusal,
@@ -93,7 +93,7 @@ fn grants_on<'a>(
 }
 
 // Whether the claim at a place is marked: past the end of the marks none is.
-pub fn is_marked(marks: &[bool], at: usize) -> bool
+fn is_marked(marks: &[bool], at: usize) -> bool
     ensures { λ r. ⌜ r ≡ getD (now (marks .entry)) at false ⌝ }
 {
     if at < marks.len() { marks[at] } else { false }
@@ -101,12 +101,7 @@ pub fn is_marked(marks: &[bool], at: usize) -> bool
 
 // Of the first `n` claims, those go that have `x` in the column, and those that are drawn from one that goes: a parent stands earlier, so
 // whether it goes is known.
-pub fn gone_with<'a>(
-    ups: &'a [u16],
-    column: &'a [u32],
-    n: usize,
-    x: u32,
-) -> [bool; Register::CLAIMS]
+fn gone_with<'a>(ups: &'a [u16], column: &'a [u32], n: usize, x: u32) -> [bool; Register::CLAIMS]
     ensures { λ y. ⌜ y ≡ goneBy (λ j. eqb (getD (now (column .entry)) j 0) x) (now (ups .entry)) n ⌝ }
 {
     let top = lists::least(n, Register::CLAIMS);
@@ -128,7 +123,7 @@ fn is_expired(c: Claim, moment: u64) -> bool
 }
 
 // Of the first `n` claims of a sheet, those go that have expired at the moment, and those that are drawn from one that goes.
-pub fn gone_expired<'a>(
+fn gone_expired<'a>(
     ups: &'a [u16],
     sheet: &'a [u32],
     n: usize,
@@ -148,20 +143,20 @@ pub fn gone_expired<'a>(
     gone
 }
 
-// Moves the claims that stay to the front of the list, in their order; what stands behind them is left as it was.
-fn packed(k: Claims, gone: &[bool]) -> Claims
-    ensures { λ r. ⌜ r ≡ packedClaims k (now (gone .entry)) ⌝ }
+// Of the first `n` claims of a sheet those that stay, in their order, and the zero claim in every place behind them.
+fn packed(sheet: &[u32], n: usize, gone: &[bool]) -> Claims
+    ensures { λ r. ⌜ r ≡ packedClaims (now (sheet .entry)) n (now (gone .entry)) ⌝ }
 {
-    let mut list = k.list;
+    let none = Claim::none();
+    let mut list = [none; Register::CLAIMS];
     let mut kept: usize = 0;
     let mut i: usize = 0;
-    let top = lists::least(k.count, Register::CLAIMS);
+    let top = lists::least(n, Register::CLAIMS);
     while i < top {
         if is_marked(gone, i) {
             i += 1;
         } else {
-            let c = list[i];
-            list[kept] = c;
+            list[kept] = columns::claim_at(sheet, i);
             kept += 1;
             i += 1;
         }
@@ -169,35 +164,17 @@ fn packed(k: Claims, gone: &[bool]) -> Claims
     Claims { list, count: kept }
 }
 
-// Puts the zero claim into every place behind the claims that stand.
-fn ended(k: Claims) -> Claims
-    ensures { λ r. ⌜ r ≡ endedClaims k ⌝ }
-{
-    let none = Claim::none();
-    let mut list = k.list;
-    let mut i = k.count;
-    while i < Register::CLAIMS {
-        list[i] = none;
-        i += 1;
-    }
-    Claims {
-        list,
-        count: k.count,
-    }
-}
-
-// Strikes the claims that go, where the outcome lets them.
-pub fn strike(k: Claims, gone: &[bool], outcome: Outcome) -> Struck
-    ensures { λ r. ⌜ r ≡ struckClaims k (now (gone .entry)) outcome ⌝ }
+// Strikes the claims that go, which a sheet has too, where the outcome lets them.
+fn strike(k: Claims, sheet: &[u32], gone: &[bool], outcome: Outcome) -> Struck
+    ensures { λ r. ⌜ r ≡ struckClaims k (now (sheet .entry)) (now (gone .entry)) outcome ⌝ }
 {
     match outcome {
         Outcome::Accepted => {
             let top = lists::least(k.count, Register::CLAIMS);
-            let left = packed(k, gone);
-            let claims = ended(left);
+            let claims = packed(sheet, k.count, gone);
             Struck {
                 claims,
-                removed: top - left.count,
+                removed: top - claims.count,
                 outcome: Outcome::Accepted,
             }
         }
@@ -219,8 +196,7 @@ pub fn revoke(r: Register, who: u32, x: u32) -> Struck
     let mut sheet = [0u32; columns::SHEET];
     columns::put_claims(&mut sheet, k);
     let judged = soundness::judged(a, o, &sheet, k.count);
-    let actors = columns::actor_columns(a);
-    let known = columns::is_among(&actors.ids, a.count, who);
+    let known = columns::is_among(&judged.actors.names, a.count, who);
     let ids = columns::column(&sheet, columns::IDS);
     let stands = columns::is_among(ids, k.count, x);
     let grantors = columns::column(&sheet, columns::GRANTORS);
@@ -234,7 +210,7 @@ pub fn revoke(r: Register, who: u32, x: u32) -> Struck
         Refusal::ClaimAbsent,
         grants,
     );
-    strike(k, &gone, told)
+    strike(k, &sheet, &gone, told)
 }
 
 // Clears a resource on behalf of its keeper: every claim on it goes.
@@ -247,13 +223,11 @@ pub fn clear_resource(r: Register, caller: u32, resource: u32) -> Struck
     let mut sheet = [0u32; columns::SHEET];
     columns::put_claims(&mut sheet, k);
     let judged = soundness::judged(a, o, &sheet, k.count);
-    let actors = columns::actor_columns(a);
-    let known = columns::is_among(&actors.ids, a.count, caller);
-    let resources = columns::resource_columns(o);
-    let listed = columns::is_among(&resources.ids, o.count, resource);
+    let known = columns::is_among(&judged.actors.names, a.count, caller);
+    let listed = columns::is_among(&judged.resources.reports, o.count, resource);
     let keeps = columns::is_beside(
-        &resources.ids,
-        &resources.keepers,
+        &judged.resources.reports,
+        &judged.resources.keepers,
         o.count,
         resource,
         caller,
@@ -268,7 +242,7 @@ pub fn clear_resource(r: Register, caller: u32, resource: u32) -> Struck
         Refusal::Unknown,
         keeps,
     );
-    strike(k, &gone, told)
+    strike(k, &sheet, &gone, told)
 }
 
 // Clears old claims on behalf of a human: every claim that has expired at the moment goes, with all that is drawn from it.
@@ -281,9 +255,14 @@ pub fn clear_expired(r: Register, caller: u32, moment: u64) -> Struck
     let mut sheet = [0u32; columns::SHEET];
     columns::put_claims(&mut sheet, k);
     let judged = soundness::judged(a, o, &sheet, k.count);
-    let actors = columns::actor_columns(a);
-    let known = columns::is_among(&actors.ids, a.count, caller);
-    let human = columns::is_beside(&actors.ids, &actors.kinds, a.count, caller, Actor::HUMAN);
+    let known = columns::is_among(&judged.actors.names, a.count, caller);
+    let human = columns::is_beside(
+        &judged.actors.names,
+        &judged.actors.kinds,
+        a.count,
+        caller,
+        Actor::HUMAN,
+    );
     let timely = moment < register::MOMENT_END;
     let gone = gone_expired(&judged.ups, &sheet, k.count, moment);
     let told = outcome(
@@ -294,5 +273,5 @@ pub fn clear_expired(r: Register, caller: u32, moment: u64) -> Struck
         Refusal::Unknown,
         human,
     );
-    strike(k, &gone, told)
+    strike(k, &sheet, &gone, told)
 }

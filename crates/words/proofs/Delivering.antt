@@ -9,8 +9,7 @@ use Rattle.texts.specs.Delivery.{delivered}
 use Rattle.texts.specs.declared.Written.{Written}
 use Rattle.json_actions.specs.Names.{kindNames, flagNames}
 use Rattle.words.specs.Tables.{tableOf, textAt, table-natural}
-use Rattle.words.specs.Words.{refusalTexts, refusalText, unknownRefusal, violationTexts, violationText, unknownViolation}
-use Rattle.words.specs.Words.{rightName, unknownRight, flagName, unknownFlag}
+use Rattle.words.specs.Words.{refusalTexts, refusalText, unknownRefusal, violationTexts, violationText, unknownViolation, rightName, unknownRight, flagName, unknownFlag}
 
 pub delivering : {w : Written} {t u new : List ℕ} (old : List ℕ) → t ≡ u → w ≡ delivered t old → new ≡ put 0 t old
     → (w ≡ delivered u old) × (new ≡ put 0 u old)

@@ -1,6 +1,6 @@
 -- The walk through a table: what was passed of the text at hand, and the places still to go, give the text that is sought. Assumes nothing.
 use Prim.Native.Nat.{ℕ, suc, _+_, _-_, _≤_, _<_}
-use mathlib.Core.Path.{_≡_, refl, sym, ap, _∙_}
+use mathlib.Core.Path.{_≡_, sym, ap, _∙_}
 use mathlib.Core.List.{List, [], _∷_, _++_}
 use native.Mathlib.Omega.{arith}
 use native.Mathlib.Numerals.{add-one}
@@ -14,9 +14,6 @@ pub record Seeking (table : List ℕ) (place left from i : ℕ) : Type 0 where
   pub begun : from ≤ i
   pub inside : i ≤ length table
   pub sought : textAt left (take (i - from) (drop from table)) (drop i table) ≡ textAt place [] table
-
-pub seeking-start : (table : List ℕ) (place : ℕ) → Seeking table place place 0 0
-seeking-start table place = record { begun = omega arith; inside = omega arith; sought = refl }
 
 module _ {table : List ℕ} {place left from i : ℕ} where
   -- a byte of the text at hand is passed

@@ -14,15 +14,12 @@ use Rattle.lists.specs.Tests.{clash}
 use Rattle.paths.specs.Containment.{same}
 use Rattle.refusals.specs.Refusals.{numberOf}
 use Rattle.refusals.specs.declared.Refusal.{Refusal}
-use Rattle.refusals.specs.declared.Refusal.the-variants.{Unsound, OutOfRange, Unknown, IdStands, Full, NotKeeper, Ownerless, MachineBarred, ParentAbsent}
-use Rattle.refusals.specs.declared.Refusal.the-variants.{ParentNotHeld, ParentDead, NoDelegate, RightLacking, WeightAbove, TooManyHops, Circle, ClaimAbsent, NoGrantor}
-use Rattle.refusals.specs.declared.Refusal.the-variants.{BadForm, CountAbove, BufferShort, BadJson, BeyondJson}
+use Rattle.refusals.specs.declared.Refusal.the-variants.{Unsound, OutOfRange, Unknown, IdStands, Full, NotKeeper, Ownerless, MachineBarred, ParentAbsent, ParentNotHeld, ParentDead, NoDelegate, RightLacking, WeightAbove, TooManyHops, Circle, ClaimAbsent, NoGrantor, BadForm, CountAbove, BufferShort, BadJson, BeyondJson}
 use Rattle.actions.specs.Actions.{kindOf}
 use Rattle.actions.specs.declared.Violation.{Violation}
 use Rattle.actions.specs.declared.Violation.the-variants.{FlagSet, NoOwner, MachineGoverns, NotCovered, OwnerNotCovering}
 use Rattle.json_actions.specs.Names.{kindNames, flagNames}
-use Rattle.words.specs.Words.{refusalTexts, refusalText, unknownRefusal, violationTexts, violationText, unknownViolation}
-use Rattle.words.specs.Words.{rightName, unknownRight, flagName, unknownFlag, wordLimit}
+use Rattle.words.specs.Words.{refusalTexts, refusalText, unknownRefusal, violationTexts, violationText, unknownViolation, rightName, unknownRight, flagName, unknownFlag, wordLimit}
 
 -- every text of a table, and the one for all other numbers, is within the limit, and so is the text of each number
 within : (ts : List (List ℕ)) (unknown : List ℕ) (n : ℕ) → every (λ t. leb (length t) wordLimit) ts ≡ true → length unknown ≤ wordLimit

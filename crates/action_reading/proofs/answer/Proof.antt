@@ -6,15 +6,6 @@ use Rattle.reading.specs.Runs.{stands-failed, stands-going}
 use Rattle.action_reading.proofs.answer.Statement.{statement}
 use Rattle.action_reading.proofs.answer.Tie as tie
 
-goes-on-requires : tie.Need-goes-on-requires
-goes-on-requires c κs = search needs
-
-no-action-requires : tie.Need-no-action-requires
-no-action-requires c κs = search needs
-
-refusal-of-requires : tie.Need-refusal-of-requires
-refusal-of-requires c κs = search needs
-
 returns : tie.Need-returns
 returns c =
     let args = c .before .before .before .before .before .args in
@@ -28,4 +19,4 @@ returns-2 c =
     rw (stands-going (args .s .now) (args .c) on)
 
 pub answer-spec : {M : Type 1} → statement M
-answer-spec = tie.close (tie.spec goes-on-requires no-action-requires refusal-of-requires returns returns-2)
+answer-spec = tie.close (tie.spec (λ c κs. search needs) (λ c κs. search needs) (λ c κs. search needs) returns returns-2)

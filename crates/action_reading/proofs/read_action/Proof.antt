@@ -18,42 +18,6 @@ use borrow.Author.Needs.{needs}
 use Rattle.action_reading.proofs.read_action.Statement.{statement}
 use Rattle.action_reading.proofs.read_action.Tie as tie
 
-start-requires : tie.Need-start-requires
-start-requires c κs = search needs
-
-slice-aggregate-read-number : tie.Need-slice-aggregate-read-number
-slice-aggregate-read-number c = search needs
-
-sub-read-number : tie.Need-sub-read-number
-sub-read-number c = search needs
-
-read-number-requires : tie.Need-read-number-requires
-read-number-requires c κs = search needs
-
-slice-aggregate-read-number-2 : tie.Need-slice-aggregate-read-number-2
-slice-aggregate-read-number-2 c = search needs
-
-cast-read-number : tie.Need-cast-read-number
-cast-read-number c = search needs
-
-read-number-requires-2 : tie.Need-read-number-requires-2
-read-number-requires-2 c κs = search needs
-
-slice-aggregate-read-number-3 : tie.Need-slice-aggregate-read-number-3
-slice-aggregate-read-number-3 c = search needs
-
-read-number-requires-3 : tie.Need-read-number-requires-3
-read-number-requires-3 c κs = search needs
-
-read-uses-requires : tie.Need-read-uses-requires
-read-uses-requires c κs = search needs
-
-read-governs-requires : tie.Need-read-governs-requires
-read-governs-requires c κs = search needs
-
-finish-requires : tie.Need-finish-requires
-finish-requires c κs = search needs
-
 cast-t22 : tie.Need-cast-t22
 cast-t22 c =
     let s = c .before .before .before .before .before .before .before .before .before .before .before .before .before .before .args .text .now in
@@ -67,9 +31,6 @@ cast-t23 c =
     let actor = c .before .before .before .before .before .before .before .before .before .read-number2 in
     let flags = c .before .before .before .before .before .before .before .read-number3 in
     omega (arith, field-bound s flagsKey 0 (2 ^ flagCount - 1) formRefusal (stateOf s (actor .result .cursor)) (flags .result) (flags .ensures))
-
-answer-requires : tie.Need-answer-requires
-answer-requires c κs = search needs
 
 -- the parts, each from where the one before it ended
 joined : (t : List ℕ) (moment actor flags used governed : ℕ) (head usesEnd governsEnd end : State) (uses : List Usage) (governs : List ℕ) (answer : ActionRead) →
@@ -108,19 +69,19 @@ pub read-action-spec : {M : Type 1} → statement M
 read-action-spec =
     tie.close
     (tie.spec
-    start-requires
-    slice-aggregate-read-number
-    sub-read-number
-    read-number-requires
-    slice-aggregate-read-number-2
-    cast-read-number
-    read-number-requires-2
-    slice-aggregate-read-number-3
-    read-number-requires-3
-    read-uses-requires
-    read-governs-requires
-    finish-requires
+    (λ c κs. search needs)
+    (λ c. search needs)
+    (λ c. search needs)
+    (λ c κs. search needs)
+    (λ c. search needs)
+    (λ c. search needs)
+    (λ c κs. search needs)
+    (λ c. search needs)
+    (λ c κs. search needs)
+    (λ c κs. search needs)
+    (λ c κs. search needs)
+    (λ c κs. search needs)
     cast-t22
     cast-t23
-    answer-requires
+    (λ c κs. search needs)
     returns)

@@ -26,23 +26,8 @@ count-bound c =
     let args = c .before .before .before .args in
     field-bound (args .s .now) governsKey 0 governLimit countRefusal (stateOf (args .s .now) (args .c)) (c .read-count .result) (c .read-count .ensures)
 
-slice-aggregate-read-count : tie.Need-slice-aggregate-read-count Inv-loop μ-loop
-slice-aggregate-read-count c = search needs
-
-read-count-requires : tie.Need-read-count-requires Inv-loop μ-loop
-read-count-requires c κs = search needs
-
 loop-holds : tie.Need-loop-holds Inv-loop μ-loop
 loop-holds c = listing-start _ _ refl refl
-
-slice-aggregate-read-number : tie.Need-slice-aggregate-read-number Inv-loop μ-loop
-slice-aggregate-read-number c = search needs
-
-cast-read-number : tie.Need-cast-read-number Inv-loop μ-loop
-cast-read-number c = search needs
-
-read-number-requires : tie.Need-read-number-requires Inv-loop μ-loop
-read-number-requires c κs = search needs
 
 cast-governs : tie.Need-cast-governs Inv-loop μ-loop
 cast-governs c =
@@ -85,12 +70,12 @@ read-governs-spec =
     (tie.spec
     Inv-loop
     μ-loop
-    slice-aggregate-read-count
-    read-count-requires
+    (λ c. search needs)
+    (λ c κs. search needs)
     loop-holds
-    slice-aggregate-read-number
-    cast-read-number
-    read-number-requires
+    (λ c. search needs)
+    (λ c. search needs)
+    (λ c κs. search needs)
     cast-governs
     mul-governs
     array-write-governs

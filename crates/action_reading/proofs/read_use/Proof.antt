@@ -2,7 +2,7 @@
 use Prim.Native.Nat.{_-_}
 use borrow.Author.Needs.{needs}
 use native.Mathlib.Omega.{arith}
-use mathlib.Core.List.{[], _∷_}
+use mathlib.Core.List.{[]}
 use mathlib.Core.Path.{sym}
 use Rattle.rights.specs.Rights.{rightCount}
 use Rattle.register.specs.Limits.{idLimit}
@@ -12,24 +12,6 @@ use Rattle.texts.specs.Keys.{useKey, rightKey}
 use Rattle.reading.specs.Runs.{run-none, run-next, field-bound}
 use Rattle.action_reading.proofs.read_use.Statement.{statement}
 use Rattle.action_reading.proofs.read_use.Tie as tie
-
-slice-aggregate-read-number : tie.Need-slice-aggregate-read-number
-slice-aggregate-read-number c = search needs
-
-cast-read-number : tie.Need-cast-read-number
-cast-read-number c = search needs
-
-read-number-requires : tie.Need-read-number-requires
-read-number-requires c κs = search needs
-
-slice-aggregate-read-number-2 : tie.Need-slice-aggregate-read-number-2
-slice-aggregate-read-number-2 c = search needs
-
-cast-read-number-2 : tie.Need-cast-read-number-2
-cast-read-number-2 c = search needs
-
-read-number-requires-2 : tie.Need-read-number-requires-2
-read-number-requires-2 c κs = search needs
 
 cast-t14 : tie.Need-cast-t14
 cast-t14 c =
@@ -60,12 +42,12 @@ pub read-use-spec : {M : Type 1} → statement M
 read-use-spec =
     tie.close
     (tie.spec
-    slice-aggregate-read-number
-    cast-read-number
-    read-number-requires
-    slice-aggregate-read-number-2
-    cast-read-number-2
-    read-number-requires-2
+    (λ c. search needs)
+    (λ c. search needs)
+    (λ c κs. search needs)
+    (λ c. search needs)
+    (λ c. search needs)
+    (λ c κs. search needs)
     cast-t14
     cast-t15
     returns)

@@ -25,17 +25,8 @@ count-bound c =
     let args = c .before .before .before .args in
     field-bound (args .s .now) usesKey 0 useLimit countRefusal (stateOf (args .s .now) (args .c)) (c .read-count .result) (c .read-count .ensures)
 
-slice-aggregate-read-count : tie.Need-slice-aggregate-read-count Inv-loop μ-loop
-slice-aggregate-read-count c = search needs
-
-read-count-requires : tie.Need-read-count-requires Inv-loop μ-loop
-read-count-requires c κs = search needs
-
 loop-holds : tie.Need-loop-holds Inv-loop μ-loop
 loop-holds c = listing-start _ _ refl refl
-
-read-use-requires : tie.Need-read-use-requires Inv-loop μ-loop
-read-use-requires c κs = search needs
 
 mul-uses : tie.Need-mul-uses Inv-loop μ-loop
 mul-uses c = omega (arith, count-bound (c .before .before .before .before .before .before), c .before .before .before .loop-test .taken)
@@ -70,10 +61,10 @@ read-uses-spec =
     (tie.spec
     Inv-loop
     μ-loop
-    slice-aggregate-read-count
-    read-count-requires
+    (λ c. search needs)
+    (λ c κs. search needs)
     loop-holds
-    read-use-requires
+    (λ c κs. search needs)
     mul-uses
     array-set-from-uses
     add-i

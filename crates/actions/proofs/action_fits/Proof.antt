@@ -21,12 +21,6 @@ returns-4 c = sym (used-out _ (c .if4 .taken))
 returns-5 : tie.Need-returns-5
 returns-5 c = sym (governed-out _ (c .if5 .taken))
 
-uses-fit-requires : tie.Need-uses-fit-requires
-uses-fit-requires c κs = search needs
-
-governs-fit-requires : tie.Need-governs-fit-requires
-governs-fit-requires c κs = search needs
-
 returns-6 : tie.Need-returns-6
 returns-6 c =
     let governed = c .before .before in
@@ -46,6 +40,6 @@ action-fits-spec =
     returns-3
     returns-4
     returns-5
-    uses-fit-requires
-    governs-fit-requires
+    (λ c κs. search needs)
+    (λ c κs. search needs)
     returns-6)

@@ -24,19 +24,10 @@ Inv-loop a top i₀ i = Loop (λ at l. every entryFits l) (a .governed) (a .gove
 abbrev μ-loop : tie.MeasureT-loop
 μ-loop a top i₀ i = top - i
 
-least-requires : tie.Need-least-requires Inv-loop μ-loop
-least-requires c κs = search needs
-
 loop-holds : tie.Need-loop-holds Inv-loop μ-loop
 loop-holds c =
     let room : length (c .before .args .t1 .governs) ≡ governLimit = search needs in
     start (rw room (c .least .ensures)) refl
-
-mul-if1 : tie.Need-mul-if1 Inv-loop μ-loop
-mul-if1 c = omega arith
-
-element-copy-out-if1 : tie.Need-element-copy-out-if1 Inv-loop μ-loop
-element-copy-out-if1 c = omega arith
 
 returns : tie.Need-returns Inv-loop μ-loop
 returns c =
@@ -44,12 +35,6 @@ returns c =
     let loop = at .before .loop in
     let g = getD (at .before .before .before .args .t1 .governs) (loop .i) 0 in
     sym (turn (loop .inv) 0 (at .loop-test .taken) ∙ rw (lt-leb g idLimit (c .if1 .taken)))
-
-add-i : tie.Need-add-i Inv-loop μ-loop
-add-i c = omega arith
-
-loop-less : tie.Need-loop-less Inv-loop μ-loop
-loop-less c = omega arith
 
 loop-again : tie.Need-loop-again Inv-loop μ-loop
 loop-again c =
@@ -67,12 +52,12 @@ governs-fit-spec =
     (tie.spec
     Inv-loop
     μ-loop
-    least-requires
+    (λ c κs. search needs)
     loop-holds
-    mul-if1
-    element-copy-out-if1
+    (λ c. omega arith)
+    (λ c. omega arith)
     returns
-    add-i
-    loop-less
+    (λ c. omega arith)
+    (λ c. omega arith)
     loop-again
     returns-2)

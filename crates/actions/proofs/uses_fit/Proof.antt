@@ -30,19 +30,10 @@ Inv-loop a top i₀ i = Loop (λ at l. every useFits l) (a .used) (a .uses) top 
 abbrev μ-loop : tie.MeasureT-loop
 μ-loop a top i₀ i = top - i
 
-least-requires : tie.Need-least-requires Inv-loop μ-loop
-least-requires c κs = search needs
-
 loop-holds : tie.Need-loop-holds Inv-loop μ-loop
 loop-holds c =
     let room : length (c .before .args .t1 .uses) ≡ useLimit = search (needs, length-mapped) in
     start (rw room (c .least .ensures)) refl
-
-mul-u : tie.Need-mul-u Inv-loop μ-loop
-mul-u c = omega arith
-
-element-copy-out-u : tie.Need-element-copy-out-u Inv-loop μ-loop
-element-copy-out-u c = omega arith
 
 returns : tie.Need-returns Inv-loop μ-loop
 returns c =
@@ -59,12 +50,6 @@ returns-2 c =
     let u = getD (at .before .before .before .args .t1 .uses) (loop .i) noUsage in
     sym (turn (loop .inv) noUsage (at .loop-test .taken)
     ∙ rw (le-leb (u .resource) idLimit (known .if1 .left), le-ltb (u .right) rightCount (c .if2 .taken)))
-
-add-i : tie.Need-add-i Inv-loop μ-loop
-add-i c = omega arith
-
-loop-less : tie.Need-loop-less Inv-loop μ-loop
-loop-less c = omega arith
 
 loop-again : tie.Need-loop-again Inv-loop μ-loop
 loop-again c =
@@ -85,13 +70,13 @@ uses-fit-spec =
     (tie.spec
     Inv-loop
     μ-loop
-    least-requires
+    (λ c κs. search needs)
     loop-holds
-    mul-u
-    element-copy-out-u
+    (λ c. omega arith)
+    (λ c. omega arith)
     returns
     returns-2
-    add-i
-    loop-less
+    (λ c. omega arith)
+    (λ c. omega arith)
     loop-again
     returns-3)

@@ -1,6 +1,5 @@
 -- `answers::granted` meets its contract: the claim is put behind the others where the outcome is accepted and there is room (Granting), and each number is
 -- that of the outcome. Assumes nothing.
-use mathlib.Core.Path.{_≡_}
 use mathlib.Core.Logic.{⊎-elim}
 use Prim.Native.Nat.{_<_}
 use borrow.Author.Tests.{ltb-true}
@@ -11,9 +10,6 @@ use Rattle.register.specs.Limits.{claimLimit}
 use Rattle.answers.proofs.Granting.{grant-put, grant-kept}
 use Rattle.answers.proofs.granted.Statement.{statement}
 use Rattle.answers.proofs.granted.Tie as tie
-
-accepted-requires : tie.Need-accepted-requires
-accepted-requires c κs = search needs
 
 -- there is room
 room : (e : tie.Then1) → e .before .before .before .before .before .args .r .claims .count < claimLimit
@@ -34,9 +30,6 @@ add-claims c =
     let inside = room c in
     search needs
 
-refusal-requires : tie.Need-refusal-requires
-refusal-requires c κs = search needs
-
 returns : tie.Need-returns
 returns c =
     let numbered = c .before .before .before .before in
@@ -48,4 +41,4 @@ returns c =
 pub granted-spec : {M : Type 1} → statement M
 granted-spec =
     tie.close
-    (tie.spec accepted-requires mul-c element-set-from-c add-claims refusal-requires returns)
+    (tie.spec (λ c κs. search needs) mul-c element-set-from-c add-claims (λ c κs. search needs) returns)

@@ -3,14 +3,8 @@ use borrow.Author.Needs.{needs}
 use Rattle.answers.proofs.violation.Statement.{statement}
 use Rattle.answers.proofs.violation.Tie as tie
 
-kind-requires : tie.Need-kind-requires
-kind-requires c κs = search needs
-
-value-requires : tie.Need-value-requires
-value-requires c κs = search needs
-
 returns : tie.Need-returns
 returns c = rw (c .before .kind .ensures, c .value .ensures)
 
 pub violation-spec : {M : Type 1} → statement M
-violation-spec = tie.close (tie.spec kind-requires value-requires returns)
+violation-spec = tie.close (tie.spec (λ c κs. search needs) (λ c κs. search needs) returns)

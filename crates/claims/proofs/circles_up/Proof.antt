@@ -15,12 +15,6 @@ Inv-loop ups grantors holders from steps h member₀ left₀ member left =
 abbrev μ-loop : tie.MeasureT-loop
 μ-loop ups grantors holders from steps h member₀ left₀ member left = left
 
-loop-holds : tie.Need-loop-holds Inv-loop μ-loop
-loop-holds c = search needs
-
-number-at-requires : tie.Need-number-at-requires Inv-loop μ-loop
-number-at-requires c κs = search needs
-
 returns : tie.Need-returns Inv-loop μ-loop
 returns c =
     let turn = c .before .before .before in
@@ -30,15 +24,6 @@ returns c =
     ∙ circle-here (given .ups .now) (given .grantors .now) (given .holders .now) (turn .loop .member) (given .h) (turn .loop .left)
     (c .before .before .loop-test .taken) (sym (c .before .number-at .ensures) ∙ c .if1 .taken))
 
-place-at-requires : tie.Need-place-at-requires Inv-loop μ-loop
-place-at-requires c κs = search needs
-
-sub-left : tie.Need-sub-left Inv-loop μ-loop
-sub-left c = search needs
-
-loop-less : tie.Need-loop-less Inv-loop μ-loop
-loop-less c = search needs
-
 loop-again : tie.Need-loop-again Inv-loop μ-loop
 loop-again c =
     let turn = c .before .before .before .before in
@@ -47,12 +32,6 @@ loop-again c =
     ∙ circle-higher (given .ups .now) (given .grantors .now) (given .holders .now) (turn .loop .member) (given .h) (turn .loop .left)
     (c .before .before .before .loop-test .taken) (λ same. c .before .if1 .left (c .before .before .number-at .ensures ∙ same))
     ∙ ap (λ j. circlesUp (given .ups .now) (given .grantors .now) (given .holders .now) j (turn .loop .left - 1) (given .h)) (sym (c .place-at .ensures))
-
-number-at-requires-2 : tie.Need-number-at-requires-2 Inv-loop μ-loop
-number-at-requires-2 c κs = search needs
-
-number-at-requires-3 : tie.Need-number-at-requires-3 Inv-loop μ-loop
-number-at-requires-3 c κs = search needs
 
 returns-2 : tie.Need-returns-2 Inv-loop μ-loop
 returns-2 c =
@@ -70,13 +49,13 @@ circles-up-spec =
     (tie.spec
     Inv-loop
     μ-loop
-    loop-holds
-    number-at-requires
+    (λ c. search needs)
+    (λ c κs. search needs)
     returns
-    place-at-requires
-    sub-left
-    loop-less
+    (λ c κs. search needs)
+    (λ c. search needs)
+    (λ c. search needs)
     loop-again
-    number-at-requires-2
-    number-at-requires-3
+    (λ c κs. search needs)
+    (λ c κs. search needs)
     returns-2)

@@ -25,9 +25,6 @@ returns-2 c =
     let same : eqb (start .p .resource) (start .c .resource) ≡ false = ne-eqb _ _ (c .if2 .taken) in
     sym (passes held ∙ fails _ same)
 
-has-requires : tie.Need-has-requires
-has-requires c κs = search needs
-
 returns-3 : tie.Need-returns-3
 unfolding drawnFrom
 returns-3 c =
@@ -36,9 +33,6 @@ returns-3 c =
     let same : eqb (start .p .resource) (start .c .resource) ≡ true = eq-eqb _ _ (c .before .before .if2 .left) in
     let delegates : hasRight (start .p .rights) delegating ≡ false = sym (c .before .has .ensures) ∙ not-true _ (c .if3 .taken) in
     sym (passes held ∙ passes same ∙ fails _ delegates)
-
-has-all-requires : tie.Need-has-all-requires
-has-all-requires c κs = search needs
 
 returns-4 : tie.Need-returns-4
 unfolding drawnFrom
@@ -63,4 +57,4 @@ returns-5 c =
 pub drawn-from-spec : {M : Type 1} → statement M
 drawn-from-spec =
     tie.close
-    (tie.spec returns returns-2 has-requires returns-3 has-all-requires returns-4 returns-5)
+    (tie.spec returns returns-2 (λ c κs. search needs) returns-3 (λ c κs. search needs) returns-4 returns-5)

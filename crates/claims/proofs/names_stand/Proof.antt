@@ -5,15 +5,6 @@ use Rattle.claims.proofs.Asking.{names-asked}
 use Rattle.claims.proofs.names_stand.Statement.{statement}
 use Rattle.claims.proofs.names_stand.Tie as tie
 
-is-among-requires : tie.Need-is-among-requires
-is-among-requires c κs = search needs
-
-is-among-requires-2 : tie.Need-is-among-requires-2
-is-among-requires-2 c κs = search needs
-
-is-among-requires-3 : tie.Need-is-among-requires-3
-is-among-requires-3 c κs = search needs
-
 returns : tie.Need-returns
 returns c =
     names-asked _ (c .before .before .before .before .before .args .c)
@@ -23,4 +14,4 @@ returns c =
 
 pub names-stand-spec : {M : Type 1} → statement M
 names-stand-spec =
-    tie.close (tie.spec is-among-requires is-among-requires-2 is-among-requires-3 returns)
+    tie.close (tie.spec (λ c κs. search needs) (λ c κs. search needs) (λ c κs. search needs) returns)

@@ -10,9 +10,6 @@ use Rattle.claims.proofs.root_kept.Tie as tie
 returns : tie.Need-returns
 returns c = root-none _ (c .before .before .before .before .args .c) (c .if1 .taken)
 
-is-beside-requires : tie.Need-is-beside-requires
-is-beside-requires c κs = search needs
-
 returns-2 : tie.Need-returns-2
 returns-2 c =
     let given = c .before .before .before .before .before .args in
@@ -23,4 +20,4 @@ returns-2 c =
     (c .is-beside .ensures)
 
 pub root-kept-spec : {M : Type 1} → statement M
-root-kept-spec = tie.close (tie.spec returns is-beside-requires returns-2)
+root-kept-spec = tie.close (tie.spec returns (λ c κs. search needs) returns-2)

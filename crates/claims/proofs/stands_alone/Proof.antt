@@ -4,12 +4,6 @@ use Rattle.claims.proofs.Asking.{alone-asked}
 use Rattle.claims.proofs.stands_alone.Statement.{statement}
 use Rattle.claims.proofs.stands_alone.Tie as tie
 
-claim-fits-requires : tie.Need-claim-fits-requires
-claim-fits-requires c κs = search needs
-
-bars-machine-requires : tie.Need-bars-machine-requires
-bars-machine-requires c κs = search needs
-
 returns : tie.Need-returns
 returns c =
     let given = c .before .before .before .before .args in
@@ -26,4 +20,4 @@ returns c =
     (c .bars-machine .ensures)
 
 pub stands-alone-spec : {M : Type 1} → statement M
-stands-alone-spec = tie.close (tie.spec claim-fits-requires bars-machine-requires returns)
+stands-alone-spec = tie.close (tie.spec (λ c κs. search needs) (λ c κs. search needs) returns)

@@ -6,9 +6,6 @@ use Rattle.claims.proofs.Chains.{not-drawn, too-far, circle-decides}
 use Rattle.claims.proofs.stands_over.Statement.{statement}
 use Rattle.claims.proofs.stands_over.Tie as tie
 
-drawn-from-requires : tie.Need-drawn-from-requires
-drawn-from-requires c κs = search needs
-
 returns : tie.Need-returns
 returns c =
     let given = c .before .before .before .before .before .args in
@@ -23,9 +20,6 @@ returns-2 c =
     (too-far (given .ups .now) (given .grantors .now) (given .holders .now) (given .up) (given .steps) (given .p) (given .c)
     (sym (c .before .before .drawn-from .ensures) ∙ not-false _ (c .before .if1 .left)) (c .if2 .taken))
 
-circles-up-requires : tie.Need-circles-up-requires
-circles-up-requires c κs = search needs
-
 returns-3 : tie.Need-returns-3
 returns-3 c =
     let given = c .before .before .before .before .before .before .before .args in
@@ -36,4 +30,4 @@ returns-3 c =
 
 pub stands-over-spec : {M : Type 1} → statement M
 stands-over-spec =
-    tie.close (tie.spec drawn-from-requires returns returns-2 circles-up-requires returns-3)
+    tie.close (tie.spec (λ c κs. search needs) returns returns-2 (λ c κs. search needs) returns-3)

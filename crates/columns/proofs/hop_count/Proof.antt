@@ -16,23 +16,11 @@ Inv-loop ups from at₀ up₀ steps₀ at up steps = Climbing ups steps at up (s
 abbrev μ-loop : tie.MeasureT-loop
 μ-loop ups from at₀ up₀ steps₀ at up steps = hopLimit - steps
 
-place-above-requires : tie.Need-place-above-requires Inv-loop μ-loop
-place-above-requires c κs = search needs
-
 loop-holds : tie.Need-loop-holds Inv-loop μ-loop
 loop-holds c = climbing-start _ _ (c .place-above .ensures)
 
 returns : tie.Need-returns Inv-loop μ-loop
 returns c = sym (climbing-root (c .before .before .loop .inv) (c .if1 .taken))
-
-place-above-requires-2 : tie.Need-place-above-requires-2 Inv-loop μ-loop
-place-above-requires-2 c κs = search needs
-
-add-steps : tie.Need-add-steps Inv-loop μ-loop
-add-steps c = search needs
-
-loop-less : tie.Need-loop-less Inv-loop μ-loop
-loop-less c = search needs
 
 loop-again : tie.Need-loop-again Inv-loop μ-loop
 loop-again c =
@@ -51,12 +39,12 @@ hop-count-spec =
     (tie.spec
     Inv-loop
     μ-loop
-    place-above-requires
+    (λ c κs. search needs)
     loop-holds
     returns
-    place-above-requires-2
-    add-steps
-    loop-less
+    (λ c κs. search needs)
+    (λ c. search needs)
+    (λ c. search needs)
     loop-again
     returns-2
     returns-3)

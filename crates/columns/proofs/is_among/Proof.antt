@@ -17,23 +17,8 @@ Inv-loop column n x top hit₀ i₀ hit i = Loop (λ at l. hit || any (eqb x) l)
 abbrev μ-loop : tie.MeasureT-loop
 μ-loop column n x top hit₀ i₀ hit i = top - i
 
-least-requires : tie.Need-least-requires Inv-loop μ-loop
-least-requires c κs = search needs
-
 loop-holds : tie.Need-loop-holds Inv-loop μ-loop
 loop-holds c = start (c .least .ensures) refl
-
-mul-hit : tie.Need-mul-hit Inv-loop μ-loop
-mul-hit c = search needs
-
-shared-slice-read-hit : tie.Need-shared-slice-read-hit Inv-loop μ-loop
-shared-slice-read-hit c = search needs
-
-add-i : tie.Need-add-i Inv-loop μ-loop
-add-i c = search needs
-
-loop-less : tie.Need-loop-less Inv-loop μ-loop
-loop-less c = search needs
 
 loop-again : tie.Need-loop-again Inv-loop μ-loop
 loop-again c =
@@ -50,11 +35,11 @@ is-among-spec =
     (tie.spec
     Inv-loop
     μ-loop
-    least-requires
+    (λ c κs. search needs)
     loop-holds
-    mul-hit
-    shared-slice-read-hit
-    add-i
-    loop-less
+    (λ c. search needs)
+    (λ c. search needs)
+    (λ c. search needs)
+    (λ c. search needs)
     loop-again
     returns)

@@ -13,32 +13,8 @@ Inv-loop column other n x y top hit₀ i₀ hit i = Pairing column other n x y t
 abbrev μ-loop : tie.MeasureT-loop
 μ-loop column other n x y top hit₀ i₀ hit i = top - i
 
-least-requires : tie.Need-least-requires Inv-loop μ-loop
-least-requires c κs = search needs
-
-least-requires-2 : tie.Need-least-requires-2 Inv-loop μ-loop
-least-requires-2 c κs = search needs
-
 loop-holds : tie.Need-loop-holds Inv-loop μ-loop
 loop-holds c = pairing-start (rw (c .before .least .ensures) at (c .least2 .ensures))
-
-mul-hit : tie.Need-mul-hit Inv-loop μ-loop
-mul-hit c = search needs
-
-shared-slice-read-hit : tie.Need-shared-slice-read-hit Inv-loop μ-loop
-shared-slice-read-hit c = search needs
-
-mul-hit-2 : tie.Need-mul-hit-2 Inv-loop μ-loop
-mul-hit-2 c = search needs
-
-shared-slice-read-hit-2 : tie.Need-shared-slice-read-hit-2 Inv-loop μ-loop
-shared-slice-read-hit-2 c = search needs
-
-add-i : tie.Need-add-i Inv-loop μ-loop
-add-i c = search needs
-
-loop-less : tie.Need-loop-less Inv-loop μ-loop
-loop-less c = search needs
 
 loop-again : tie.Need-loop-again Inv-loop μ-loop
 loop-again c = pairing-next (c .before .before .before .loop .inv) (c .before .before .loop-test .taken)
@@ -52,14 +28,14 @@ is-beside-spec =
     (tie.spec
     Inv-loop
     μ-loop
-    least-requires
-    least-requires-2
+    (λ c κs. search needs)
+    (λ c κs. search needs)
     loop-holds
-    mul-hit
-    shared-slice-read-hit
-    mul-hit-2
-    shared-slice-read-hit-2
-    add-i
-    loop-less
+    (λ c. search needs)
+    (λ c. search needs)
+    (λ c. search needs)
+    (λ c. search needs)
+    (λ c. search needs)
+    (λ c. search needs)
     loop-again
     returns)

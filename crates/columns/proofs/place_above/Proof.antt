@@ -8,12 +8,6 @@ use Rattle.columns.specs.Laws.{getD-inside}
 use Rattle.columns.proofs.place_above.Statement.{statement}
 use Rattle.columns.proofs.place_above.Tie as tie
 
-mul-result : tie.Need-mul-result
-mul-result c = search needs
-
-shared-slice-read-result : tie.Need-shared-slice-read-result
-shared-slice-read-result c = search needs
-
 cast-result : tie.Need-cast-result
 cast-result c = fits-widen tt (c .shared-slice-known .given (c .before .before .args .at))
 
@@ -26,4 +20,4 @@ returns-2 : tie.Need-returns-2
 returns-2 c = sym (List·getD-eq-default (c .before .args .ups .now) (c .before .args .at) (c .if1 .left))
 
 pub place-above-spec : {M : Type 1} → statement M
-place-above-spec = tie.close (tie.spec mul-result shared-slice-read-result cast-result returns returns-2)
+place-above-spec = tie.close (tie.spec (λ c. search needs) (λ c. search needs) cast-result returns returns-2)

@@ -18,37 +18,16 @@ Inv-loop sheet₀ k top i₀ sheet i = Putting (k .count) (k .list) top i sheet 
 abbrev μ-loop : tie.MeasureT-loop
 μ-loop sheet₀ k top i₀ sheet i = top - i
 
-least-requires : tie.Need-least-requires Inv-loop μ-loop
-least-requires c κs = search needs
-
 loop-holds : tie.Need-loop-holds Inv-loop μ-loop
 loop-holds c =
     let a = c .before .before .before .args in
     let places : length (a .t2 .list) ≡ claimLimit = search (needs, length-mapped) in
     putting-start (a .t2 .count) (a .t2 .list) (c .before .if1 .taken) places (c .least .ensures)
 
-mul-c : tie.Need-mul-c Inv-loop μ-loop
-mul-c c = search needs
-
-element-copy-out-c : tie.Need-element-copy-out-c Inv-loop μ-loop
-element-copy-out-c c = search needs
-
-put-claim-requires : tie.Need-put-claim-requires Inv-loop μ-loop
-put-claim-requires c κs = search needs
-
-add-i : tie.Need-add-i Inv-loop μ-loop
-add-i c = search needs
-
-loop-less : tie.Need-loop-less Inv-loop μ-loop
-loop-less c = search needs
-
 loop-again : tie.Need-loop-again Inv-loop μ-loop
 loop-again c =
     let turn = c .before .before .before .before .before in
     putting-next (turn .before .loop .inv) (turn .loop-test .taken) (c .before .before .put-claim .ensures)
-
-same-length : tie.Need-same-length Inv-loop μ-loop
-same-length c = search needs
 
 returns : tie.Need-returns Inv-loop μ-loop
 returns c = sym (putting-done (c .before .loop .inv) (c .loop-test .left))
@@ -64,14 +43,14 @@ put-claims-spec =
     (tie.spec
     Inv-loop
     μ-loop
-    least-requires
+    (λ c κs. search needs)
     loop-holds
-    mul-c
-    element-copy-out-c
-    put-claim-requires
-    add-i
-    loop-less
+    (λ c. search needs)
+    (λ c. search needs)
+    (λ c κs. search needs)
+    (λ c. search needs)
+    (λ c. search needs)
     loop-again
-    same-length
+    (λ c. search needs)
     returns
     returns-2)

@@ -15,18 +15,6 @@ Inv-loop weights expiries ups n long top found₀ i₀ found i = Ending weights 
 abbrev μ-loop : tie.MeasureT-loop
 μ-loop weights expiries ups n long top found₀ i₀ found i = top - i
 
-least-requires : tie.Need-least-requires Inv-loop μ-loop
-least-requires c κs = search needs
-
-least-requires-2 : tie.Need-least-requires-2 Inv-loop μ-loop
-least-requires-2 c κs = search needs
-
-least-requires-3 : tie.Need-least-requires-3 Inv-loop μ-loop
-least-requires-3 c κs = search needs
-
-least-requires-4 : tie.Need-least-requires-4 Inv-loop μ-loop
-least-requires-4 c κs = search needs
-
 loop-holds : tie.Need-loop-holds Inv-loop μ-loop
 loop-holds c =
     ending-start
@@ -81,9 +69,6 @@ array-read-end-under c =
     let room = ending-room (turn .before .loop .inv) (turn .loop-test .taken) in
     omega (arith, room, c .before .before .if1 .taken)
 
-end-under-requires : tie.Need-end-under-requires Inv-loop μ-loop
-end-under-requires c κs = search needs
-
 mul-found : tie.Need-mul-found Inv-loop μ-loop
 mul-found c =
     let turn = c .before .before .before .before .before in
@@ -95,9 +80,6 @@ array-write-found c =
     let turn = c .before .before .before .before .before in
     let room = ending-room (turn .before .loop .inv) (turn .loop-test .taken) in
     room
-
-add-i : tie.Need-add-i Inv-loop μ-loop
-add-i c = search needs
 
 loop-less : tie.Need-loop-less Inv-loop μ-loop
 loop-less c = less _ _ (c .before .before .before .before .before .loop-test .taken)
@@ -133,9 +115,6 @@ shared-slice-read-end-under-4 c =
 cast-end-under-2 : tie.Need-cast-end-under-2 Inv-loop μ-loop
 cast-end-under-2 c = fits-widen tt (c .shared-slice-known8 .given (c .before .before .before .before .before .loop .i))
 
-end-under-requires-2 : tie.Need-end-under-requires-2 Inv-loop μ-loop
-end-under-requires-2 c κs = search needs
-
 mul-found-2 : tie.Need-mul-found-2 Inv-loop μ-loop
 mul-found-2 c =
     let turn = c .before .before .before .before .before in
@@ -147,9 +126,6 @@ array-write-found-2 c =
     let turn = c .before .before .before .before .before in
     let room = ending-room (turn .before .loop .inv) (turn .loop-test .taken) in
     room
-
-add-i-2 : tie.Need-add-i-2 Inv-loop μ-loop
-add-i-2 c = search needs
 
 loop-less-2 : tie.Need-loop-less-2 Inv-loop μ-loop
 loop-less-2 c = less _ _ (c .before .before .before .before .before .loop-test .taken)
@@ -169,10 +145,10 @@ ends-spec =
     (tie.spec
     Inv-loop
     μ-loop
-    least-requires
-    least-requires-2
-    least-requires-3
-    least-requires-4
+    (λ c κs. search needs)
+    (λ c κs. search needs)
+    (λ c κs. search needs)
+    (λ c κs. search needs)
     loop-holds
     mul-up
     shared-slice-read-up
@@ -184,10 +160,10 @@ ends-spec =
     cast-end-under
     mul-end-under-3
     array-read-end-under
-    end-under-requires
+    (λ c κs. search needs)
     mul-found
     array-write-found
-    add-i
+    (λ c. search needs)
     loop-less
     loop-again
     mul-end-under-4
@@ -195,10 +171,10 @@ ends-spec =
     mul-end-under-5
     shared-slice-read-end-under-4
     cast-end-under-2
-    end-under-requires-2
+    (λ c κs. search needs)
     mul-found-2
     array-write-found-2
-    add-i-2
+    (λ c. search needs)
     loop-less-2
     loop-again-2
     returns)

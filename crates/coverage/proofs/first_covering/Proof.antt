@@ -21,32 +21,14 @@ Inv-loop places count rights spots bytes lens right spot top i₀ i =
 abbrev μ-loop : tie.MeasureT-loop
 μ-loop places count rights spots bytes lens right spot top i₀ i = top - i
 
-least-requires : tie.Need-least-requires Inv-loop μ-loop
-least-requires c κs = search needs
-
 loop-holds : tie.Need-loop-holds Inv-loop μ-loop
 loop-holds c = start (c .least .ensures) refl
-
-mul-j : tie.Need-mul-j Inv-loop μ-loop
-mul-j c = search needs
 
 shared-slice-read-j : tie.Need-shared-slice-read-j Inv-loop μ-loop
 shared-slice-read-j c = omega (arith, c .before .before .before .least .ensures, c .before .loop-test .taken)
 
 cast-j : tie.Need-cast-j Inv-loop μ-loop
 cast-j c = fits-widen tt (c .shared-slice-known6 .given (c .before .before .loop .i))
-
-reach-requires : tie.Need-reach-requires Inv-loop μ-loop
-reach-requires c κs = search needs
-
-enum-told : tie.Need-enum-told Inv-loop μ-loop
-enum-told c = search needs
-
-add-i : tie.Need-add-i Inv-loop μ-loop
-add-i c = search needs
-
-loop-less : tie.Need-loop-less Inv-loop μ-loop
-loop-less c = search needs
 
 loop-again : tie.Need-loop-again Inv-loop μ-loop
 loop-again c =
@@ -57,9 +39,6 @@ loop-again c =
     ∙ covering-miss (a .rights .now) (a .spots .now) (a .bytes .now) (a .lens .now) (a .right) (a .spot) _ _
     (reach-no (a .rights .now) (a .spots .now) (a .bytes .now) (a .lens .now) (a .right) (a .spot) _
     (sym (c .before .before .reach .ensures) ∙ c .enum-told .given .1)))
-
-enum-told-2 : tie.Need-enum-told-2 Inv-loop μ-loop
-enum-told-2 c = search needs
 
 returns : tie.Need-returns Inv-loop μ-loop
 returns c =
@@ -82,16 +61,16 @@ first-covering-spec =
     (tie.spec
     Inv-loop
     μ-loop
-    least-requires
+    (λ c κs. search needs)
     loop-holds
-    mul-j
+    (λ c. search needs)
     shared-slice-read-j
     cast-j
-    reach-requires
-    enum-told
-    add-i
-    loop-less
+    (λ c κs. search needs)
+    (λ c. search needs)
+    (λ c. search needs)
+    (λ c. search needs)
     loop-again
-    enum-told-2
+    (λ c. search needs)
     returns
     returns-2)

@@ -51,22 +51,13 @@ Inv-loop holders ends n x moment places₀ count₀ top i₀ places count i = Ga
 abbrev μ-loop : tie.MeasureT-loop
 μ-loop holders ends n x moment places₀ count₀ top i₀ places count i = top - i
 
-looked-at-requires : tie.Need-looked-at-requires Inv-loop μ-loop
-looked-at-requires c κs = search needs
-
 loop-holds : tie.Need-loop-holds Inv-loop μ-loop
 loop-holds c = gathering-start (c .looked-at .ensures)
-
-mul-if1 : tie.Need-mul-if1 Inv-loop μ-loop
-mul-if1 c = search needs
 
 shared-slice-read-if1 : tie.Need-shared-slice-read-if1 Inv-loop μ-loop
 shared-slice-read-if1 c =
     let come = c .before .before .loop .inv in
     omega (arith, come .whole, come .within .held)
-
-mul-if1-2 : tie.Need-mul-if1-2 Inv-loop μ-loop
-mul-if1-2 c = search needs
 
 shared-slice-read-if1-2 : tie.Need-shared-slice-read-if1-2 Inv-loop μ-loop
 shared-slice-read-if1-2 c =
@@ -97,22 +88,10 @@ add-count c =
     let room = gathering-room (turn .before .loop .inv) (turn .loop-test .taken) in
     search needs
 
-add-i : tie.Need-add-i Inv-loop μ-loop
-add-i c = search needs
-
-loop-less : tie.Need-loop-less Inv-loop μ-loop
-loop-less c = search needs
-
 loop-again : tie.Need-loop-again Inv-loop μ-loop
 loop-again c =
     let turn = c .before .before .before in
     gathering-covers (turn .before .loop .inv) (turn .loop-test .taken) (c .if1 .taken)
-
-add-i-2 : tie.Need-add-i-2 Inv-loop μ-loop
-add-i-2 c = search needs
-
-loop-less-2 : tie.Need-loop-less-2 Inv-loop μ-loop
-loop-less-2 c = search needs
 
 loop-again-2 : tie.Need-loop-again-2 Inv-loop μ-loop
 loop-again-2 c =
@@ -128,20 +107,20 @@ gather-spec =
     (tie.spec
     Inv-loop
     μ-loop
-    looked-at-requires
+    (λ c κs. search needs)
     loop-holds
-    mul-if1
+    (λ c. search needs)
     shared-slice-read-if1
-    mul-if1-2
+    (λ c. search needs)
     shared-slice-read-if1-2
     cast-places
     mul-places
     array-write-places
     add-count
-    add-i
-    loop-less
+    (λ c. search needs)
+    (λ c. search needs)
     loop-again
-    add-i-2
-    loop-less-2
+    (λ c. search needs)
+    (λ c. search needs)
     loop-again-2
     returns)

@@ -22,35 +22,11 @@ abbrev μ-loop : tie.MeasureT-loop
 paths-told : (s : tie.Start Inv-loop μ-loop) → All (λ o. length (o .path) ≡ pathLimit) (s .args .t2 .list)
 paths-told s = each-told _ _ _ (λ o. length (o .path) ≡ pathLimit) (λ o u told. search (needs, told)) (s .args .t2 .list) _ (s .good .1 .0 .1 .1 .0 .1 .1)
 
-least-requires : tie.Need-least-requires Inv-loop μ-loop
-least-requires c κs = search needs
-
 loop-holds : tie.Need-loop-holds Inv-loop μ-loop
 loop-holds c = laying-start (search (needs, length-mapped)) (c .least .ensures) (paths-told (c .before .before))
 
-mul-o : tie.Need-mul-o Inv-loop μ-loop
-mul-o c = search needs
-
-element-copy-out-o : tie.Need-element-copy-out-o Inv-loop μ-loop
-element-copy-out-o c = search needs
-
-mul-put-path : tie.Need-mul-put-path Inv-loop μ-loop
-mul-put-path c = search needs
-
 put-path-requires : tie.Need-put-path-requires Inv-loop μ-loop
 put-path-requires c κs = laying-room (c .before .before .before .loop .inv) (c .before .before .loop-test .taken)
-
-mul-lens : tie.Need-mul-lens Inv-loop μ-loop
-mul-lens c = search needs
-
-array-write-lens : tie.Need-array-write-lens Inv-loop μ-loop
-array-write-lens c = search needs
-
-add-i : tie.Need-add-i Inv-loop μ-loop
-add-i c = search needs
-
-loop-less : tie.Need-loop-less Inv-loop μ-loop
-loop-less c = search needs
 
 loop-again : tie.Need-loop-again Inv-loop μ-loop
 loop-again c =
@@ -70,16 +46,16 @@ lay-spec =
     (tie.spec
     Inv-loop
     μ-loop
-    least-requires
+    (λ c κs. search needs)
     loop-holds
-    mul-o
-    element-copy-out-o
-    mul-put-path
+    (λ c. search needs)
+    (λ c. search needs)
+    (λ c. search needs)
     put-path-requires
-    mul-lens
-    array-write-lens
-    add-i
-    loop-less
+    (λ c. search needs)
+    (λ c. search needs)
+    (λ c. search needs)
+    (λ c. search needs)
     loop-again
     same-length
     returns)

@@ -4,18 +4,9 @@ use Rattle.coverage.specs.Gathering.{lookedAt}
 use Rattle.coverage.proofs.looked_at.Statement.{statement}
 use Rattle.coverage.proofs.looked_at.Tie as tie
 
-least-requires : tie.Need-least-requires
-least-requires c κs = search needs
-
-least-requires-2 : tie.Need-least-requires-2
-least-requires-2 c κs = search needs
-
-least-requires-3 : tie.Need-least-requires-3
-least-requires-3 c κs = search needs
-
 returns : tie.Need-returns
 unfolding lookedAt
 returns c = rw (c .least3 .ensures, c .before .least2 .ensures, c .before .before .least .ensures)
 
 pub looked-at-spec : {M : Type 1} → statement M
-looked-at-spec = tie.close (tie.spec least-requires least-requires-2 least-requires-3 returns)
+looked-at-spec = tie.close (tie.spec (λ c κs. search needs) (λ c κs. search needs) (λ c κs. search needs) returns)

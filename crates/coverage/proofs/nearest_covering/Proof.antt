@@ -21,32 +21,14 @@ Inv-loop places count rights spots bytes lens right spot top best₀ bar₀ i₀
 abbrev μ-loop : tie.MeasureT-loop
 μ-loop places count rights spots bytes lens right spot top best₀ bar₀ i₀ best bar i = top - i
 
-least-requires : tie.Need-least-requires Inv-loop μ-loop
-least-requires c κs = search needs
-
 loop-holds : tie.Need-loop-holds Inv-loop μ-loop
 loop-holds c = start (c .least .ensures) refl
-
-mul-j : tie.Need-mul-j Inv-loop μ-loop
-mul-j c = search needs
 
 shared-slice-read-j : tie.Need-shared-slice-read-j Inv-loop μ-loop
 shared-slice-read-j c = omega (arith, c .before .before .before .least .ensures, c .before .loop-test .taken)
 
 cast-j : tie.Need-cast-j Inv-loop μ-loop
 cast-j c = fits-widen tt (c .shared-slice-known6 .given (c .before .before .loop .i))
-
-reach-from-requires : tie.Need-reach-from-requires Inv-loop μ-loop
-reach-from-requires c κs = search needs
-
-enum-told : tie.Need-enum-told Inv-loop μ-loop
-enum-told c = search needs
-
-add-i : tie.Need-add-i Inv-loop μ-loop
-add-i c = search needs
-
-loop-less : tie.Need-loop-less Inv-loop μ-loop
-loop-less c = search needs
 
 -- what does not reach so far is passed over
 loop-again : tie.Need-loop-again Inv-loop μ-loop
@@ -61,9 +43,6 @@ loop-again c =
     (not-far (a .rights .now) (a .spots .now) (a .bytes .now) (a .lens .now) (a .right) (a .spot) _ (s .bar)
     (sym (c .before .before .reach-from .ensures) ∙ c .enum-told .given .1)))
 
-enum-known-length : tie.Need-enum-known-length Inv-loop μ-loop
-enum-known-length c = search needs
-
 -- a path has at most 64 bytes
 add-bar : tie.Need-add-bar Inv-loop μ-loop
 add-bar c =
@@ -75,12 +54,6 @@ add-bar c =
     let most = reach-limit (a .rights .now) (a .spots .now) (a .bytes .now) (a .lens .now) (a .right) (a .spot)
     (getD (a .places .now) (turning .before .loop .i) 0) in
     omega (arith, far .1, most)
-
-add-i-2 : tie.Need-add-i-2 Inv-loop μ-loop
-add-i-2 c = search needs
-
-loop-less-2 : tie.Need-loop-less-2 Inv-loop μ-loop
-loop-less-2 c = search needs
 
 -- what does is taken, and a further one must exceed it
 loop-again-2 : tie.Need-loop-again-2 Inv-loop μ-loop
@@ -120,20 +93,20 @@ nearest-covering-spec =
     (tie.spec
     Inv-loop
     μ-loop
-    least-requires
+    (λ c κs. search needs)
     loop-holds
-    mul-j
+    (λ c. search needs)
     shared-slice-read-j
     cast-j
-    reach-from-requires
-    enum-told
-    add-i
-    loop-less
+    (λ c κs. search needs)
+    (λ c. search needs)
+    (λ c. search needs)
+    (λ c. search needs)
     loop-again
-    enum-known-length
+    (λ c. search needs)
     add-bar
-    add-i-2
-    loop-less-2
+    (λ c. search needs)
+    (λ c. search needs)
     loop-again-2
     returns
     returns-2)

@@ -6,45 +6,15 @@ use Rattle.coverage.proofs.Parts.{part-unmeasured, part-within}
 use Rattle.coverage.proofs.part_at.Statement.{statement}
 use Rattle.coverage.proofs.part_at.Tie as tie
 
-slice-aggregate-result : tie.Need-slice-aggregate-result
-slice-aggregate-result c = search needs
-
 returns : tie.Need-returns
 returns c =
     let a = c .before .before .before .before .args in
     sym (part-unmeasured (a .bytes .now) (a .lens .now) (a .x) (c .before .if1 .taken))
 
-slice-aggregate-result-2 : tie.Need-slice-aggregate-result-2
-slice-aggregate-result-2 c = search needs
-
 returns-2 : tie.Need-returns-2
 returns-2 c =
     let a = c .before .before .before .before .before .args in
     sym (part-past (a .bytes .now) (a .lens .now) (a .x) (c .before .if2 .taken))
-
-mul-start : tie.Need-mul-start
-mul-start c = search needs
-
-mul-least : tie.Need-mul-least
-mul-least c = search needs
-
-shared-slice-read-least : tie.Need-shared-slice-read-least
-shared-slice-read-least c = search needs
-
-least-requires : tie.Need-least-requires
-least-requires c κs = search needs
-
-add-end : tie.Need-add-end
-add-end c = search needs
-
-sub-result : tie.Need-sub-result
-sub-result c = search needs
-
-part-result-start : tie.Need-part-result-start
-part-result-start c = search needs
-
-part-result-end : tie.Need-part-result-end
-part-result-end c = search needs
 
 returns-3 : tie.Need-returns-3
 returns-3 c =
@@ -55,16 +25,16 @@ pub part-at-spec : {M : Type 1} → statement M
 part-at-spec =
     tie.close
     (tie.spec
-    slice-aggregate-result
+    (λ c. search needs)
     returns
-    slice-aggregate-result-2
+    (λ c. search needs)
     returns-2
-    mul-start
-    mul-least
-    shared-slice-read-least
-    least-requires
-    add-end
-    sub-result
-    part-result-start
-    part-result-end
+    (λ c. search needs)
+    (λ c. search needs)
+    (λ c. search needs)
+    (λ c κs. search needs)
+    (λ c. search needs)
+    (λ c. search needs)
+    (λ c. search needs)
+    (λ c. search needs)
     returns-3)

@@ -26,20 +26,8 @@ returns c =
 loop-holds : tie.Need-loop-holds Inv-loop μ-loop
 loop-holds c = copying-start (search needs) (omega (arith, c .before .pre, c .if1 .left))
 
-element-copy-out-bytes : tie.Need-element-copy-out-bytes Inv-loop μ-loop
-element-copy-out-bytes c = search needs
-
-add-bytes : tie.Need-add-bytes Inv-loop μ-loop
-add-bytes c = search needs
-
 slice-write-bytes : tie.Need-slice-write-bytes Inv-loop μ-loop
 slice-write-bytes c = omega (arith, copying-length (c .before .before .loop .inv))
-
-add-i : tie.Need-add-i Inv-loop μ-loop
-add-i c = search needs
-
-loop-less : tie.Need-loop-less Inv-loop μ-loop
-loop-less c = search needs
 
 loop-again : tie.Need-loop-again Inv-loop μ-loop
 loop-again c = copying-next (c .before .before .loop .inv) (c .before .loop-test .taken)
@@ -62,11 +50,11 @@ put-path-spec =
     μ-loop
     returns
     loop-holds
-    element-copy-out-bytes
-    add-bytes
+    (λ c. search needs)
+    (λ c. search needs)
     slice-write-bytes
-    add-i
-    loop-less
+    (λ c. search needs)
+    (λ c. search needs)
     loop-again
     same-length
     returns-2)

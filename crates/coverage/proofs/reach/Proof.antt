@@ -6,12 +6,6 @@ use Rattle.coverage.proofs.Reaching.{right-missing, right-had, without-
 use Rattle.coverage.proofs.reach.Statement.{statement}
 use Rattle.coverage.proofs.reach.Tie as tie
 
-number-at-requires : tie.Need-number-at-requires
-number-at-requires c κs = search needs
-
-has-requires : tie.Need-has-requires
-has-requires c κs = search needs
-
 returns : tie.Need-returns
 returns c =
     let a = c .before .before .before .before .before .before .before .args in
@@ -26,12 +20,6 @@ returns-2 c =
     (without-spot (a .rights .now) (a .spots .now) (a .bytes .now) (a .lens .now) (a .right) (a .spot) (a .j)
     (right-had (a .right) (c .before .before .before .number-at .ensures) (c .before .before .has .ensures) (c .before .if1 .left))
     (c .if2 .taken))
-
-mul-if3 : tie.Need-mul-if3
-mul-if3 c = search needs
-
-shared-slice-read-if3 : tie.Need-shared-slice-read-if3
-shared-slice-read-if3 c = search needs
 
 cast-if3 : tie.Need-cast-if3
 cast-if3 c = fits-widen tt (c .shared-slice-known5 .given (c .before .before .before .before .before .before .before .before .before .args .j))
@@ -54,17 +42,8 @@ returns-4 c =
     (right-had (a .right) (tests .before .before .before .number-at .ensures) (tests .before .before .has .ensures) (tests .before .if1 .left))
     (tests .if2 .left) (c .before .if3 .left) (c .if4 .taken))
 
-mul-is-inside : tie.Need-mul-is-inside
-mul-is-inside c = search needs
-
-shared-slice-read-is-inside : tie.Need-shared-slice-read-is-inside
-shared-slice-read-is-inside c = search needs
-
 cast-is-inside : tie.Need-cast-is-inside
 cast-is-inside c = fits-widen tt (c .shared-slice-known6 .given (c .before .before .before .before .before .before .before .before .before .before .before .before .args .j))
-
-is-inside-requires : tie.Need-is-inside-requires
-is-inside-requires c κs = search needs
 
 returns-5 : tie.Need-returns-5
 returns-5 c =
@@ -80,17 +59,17 @@ pub reach-spec : {M : Type 1} → statement M
 reach-spec =
     tie.close
     (tie.spec
-    number-at-requires
-    has-requires
+    (λ c κs. search needs)
+    (λ c κs. search needs)
     returns
     returns-2
-    mul-if3
-    shared-slice-read-if3
+    (λ c. search needs)
+    (λ c. search needs)
     cast-if3
     returns-3
     returns-4
-    mul-is-inside
-    shared-slice-read-is-inside
+    (λ c. search needs)
+    (λ c. search needs)
     cast-is-inside
-    is-inside-requires
+    (λ c κs. search needs)
     returns-5)

@@ -6,12 +6,6 @@ use Rattle.coverage.proofs.Reaching.{right-missing, without-right, shor
 use Rattle.coverage.proofs.reach_from.Statement.{statement}
 use Rattle.coverage.proofs.reach_from.Tie as tie
 
-number-at-requires : tie.Need-number-at-requires
-number-at-requires c κs = search needs
-
-has-requires : tie.Need-has-requires
-has-requires c κs = search needs
-
 returns : tie.Need-returns
 returns c =
     let a = c .before .before .before .before .before .before .before .args in
@@ -20,24 +14,12 @@ returns c =
     (without-right (a .rights .now) (a .spots .now) (a .bytes .now) (a .lens .now) (a .right) (a .spot) (a .j)
     (right-missing (a .right) (c .before .before .number-at .ensures) (c .before .has .ensures) (c .if1 .taken))))
 
-is-short-requires : tie.Need-is-short-requires
-is-short-requires c κs = search needs
-
 returns-2 : tie.Need-returns-2
 returns-2 c =
     let a = c .before .before .before .before .before .before .before .before .before .args in
     sym
     (short-out (a .rights .now) (a .spots .now) (a .bytes .now) (a .lens .now) (a .right) (a .spot) (a .j) (a .bar)
     (sym (c .before .is-short .ensures) ∙ c .if2 .taken))
-
-reach-requires : tie.Need-reach-requires
-reach-requires c κs = search needs
-
-enum-told : tie.Need-enum-told
-enum-told c = search needs
-
-enum-known-length : tie.Need-enum-known-length
-enum-known-length c = search needs
 
 returns-3 : tie.Need-returns-3
 returns-3 c =
@@ -66,14 +48,14 @@ pub reach-from-spec : {M : Type 1} → statement M
 reach-from-spec =
     tie.close
     (tie.spec
-    number-at-requires
-    has-requires
+    (λ c κs. search needs)
+    (λ c κs. search needs)
     returns
-    is-short-requires
+    (λ c κs. search needs)
     returns-2
-    reach-requires
-    enum-told
-    enum-known-length
+    (λ c κs. search needs)
+    (λ c. search needs)
+    (λ c. search needs)
     returns-3
     returns-4
     returns-5)

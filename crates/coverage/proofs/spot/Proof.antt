@@ -5,15 +5,6 @@ use Rattle.coverage.specs.Gathering.{spotOf}
 use Rattle.coverage.proofs.spot.Statement.{statement}
 use Rattle.coverage.proofs.spot.Tie as tie
 
-latest-place-requires : tie.Need-latest-place-requires
-latest-place-requires c κs = search needs
-
-enum-known-place : tie.Need-enum-known-place
-enum-known-place c = search needs
-
-enum-told : tie.Need-enum-told
-enum-told c = search needs
-
 returns : tie.Need-returns
 returns c = sym (ap spotOf (sym (c .before .before .before .latest-place .ensures) ∙ c .before .place .given .1))
 
@@ -21,4 +12,4 @@ returns-2 : tie.Need-returns-2
 returns-2 c = sym (ap spotOf (sym (c .before .before .latest-place .ensures) ∙ c .enum-told .given .1))
 
 pub spot-spec : {M : Type 1} → statement M
-spot-spec = tie.close (tie.spec latest-place-requires enum-known-place enum-told returns returns-2)
+spot-spec = tie.close (tie.spec (λ c κs. search needs) (λ c. search needs) (λ c. search needs) returns returns-2)

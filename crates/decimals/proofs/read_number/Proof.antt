@@ -18,25 +18,10 @@ returns c =
     let a = c .before .before .args in
     parse-empty (a .greatest) (a .s .now) (a .at) (run-end (a .s .now) (a .at) (c .if1 .taken))
 
-shared-slice-read-b : tie.Need-shared-slice-read-b
-shared-slice-read-b c = search needs
-
-is-digit-requires : tie.Need-is-digit-requires
-is-digit-requires c κs = search needs
-
 returns-2 : tie.Need-returns-2
 returns-2 c =
     let a = c .before .before .before .before .before .args in
     parse-empty (a .greatest) (a .s .now) (a .at) (run-stop (a .s .now) (a .at) (omega arith) (sym (c .before .is-digit .ensures) ∙ not-true _ (c .if2 .taken)))
-
-add-k : tie.Need-add-k
-add-k c = search needs
-
-shared-slice-read-is-digit : tie.Need-shared-slice-read-is-digit
-shared-slice-read-is-digit c = search needs
-
-is-digit-requires-2 : tie.Need-is-digit-requires-2
-is-digit-requires-2 c κs = search needs
 
 returns-3 : tie.Need-returns-3
 returns-3 c =
@@ -44,9 +29,6 @@ returns-3 c =
     let a = e .before .before .before .before .before .args in
     parse-zero (a .greatest) (a .s .now) (a .at) (omega arith) (sym (e .before .is-digit .ensures) ∙ not-false _ (e .if2 .left))
     (c .before .before .before .before .if3 .taken) (c .before .before .before .if4 .taken) (sym (c .before .is-digit2 .ensures) ∙ c .if5 .taken)
-
-scan-requires : tie.Need-scan-requires
-scan-requires c κs = search needs
 
 returns-4 : tie.Need-returns-4
 returns-4 c =
@@ -67,12 +49,12 @@ read-number-spec =
     tie.close
     (tie.spec
     returns
-    shared-slice-read-b
-    is-digit-requires
+    (λ c. search needs)
+    (λ c κs. search needs)
     returns-2
-    add-k
-    shared-slice-read-is-digit
-    is-digit-requires-2
+    (λ c. search needs)
+    (λ c. search needs)
+    (λ c κs. search needs)
     returns-3
-    scan-requires
+    (λ c κs. search needs)
     returns-4)

@@ -45,12 +45,6 @@ more c =
 loop-holds : tie.Need-loop-holds Inv-loop μ-loop
 loop-holds c = (omega arith, omega arith, refl, refl)
 
-shared-slice-read-b : tie.Need-shared-slice-read-b Inv-loop μ-loop
-shared-slice-read-b c = omega arith
-
-is-digit-requires : tie.Need-is-digit-requires Inv-loop μ-loop
-is-digit-requires c κs = search needs
-
 returns : tie.Need-returns Inv-loop μ-loop
 returns c =
     let l = c .before .before .before .before in
@@ -64,9 +58,6 @@ returns c =
 digit-requires : tie.Need-digit-requires Inv-loop μ-loop
 digit-requires c κs = digit-low _ (is-one c)
 
-digits-end-requires : tie.Need-digits-end-requires Inv-loop μ-loop
-digits-end-requires c κs = omega arith
-
 returns-2 : tie.Need-returns-2 Inv-loop μ-loop
 returns-2 c =
     let l = c .before .before .before .before .before .before .before in
@@ -74,33 +65,12 @@ returns-2 c =
     says-large (a .s .now) (a .greatest) _ (c .digits-end .result) _
     (omega (arith, more (c .before .before))) (l .loop .inv .3 ∙ c .digits-end .ensures .0) (omega arith)
 
-mul-if3 : tie.Need-mul-if3 Inv-loop μ-loop
-mul-if3 c = omega arith
-
-sub-if3 : tie.Need-sub-if3 Inv-loop μ-loop
-sub-if3 c = omega arith
-
-digits-end-requires-2 : tie.Need-digits-end-requires-2 Inv-loop μ-loop
-digits-end-requires-2 c κs = omega arith
-
 returns-3 : tie.Need-returns-3 Inv-loop μ-loop
 returns-3 c =
     let l = c .before .before .before .before .before .before .before .before in
     let a = l .before .before .args in
     says-large (a .s .now) (a .greatest) _ (c .digits-end2 .result) _
     (omega (arith, more (c .before .before .before))) (l .loop .inv .3 ∙ c .digits-end2 .ensures .0) (omega arith)
-
-mul-n : tie.Need-mul-n Inv-loop μ-loop
-mul-n c = omega arith
-
-add-n : tie.Need-add-n Inv-loop μ-loop
-add-n c = omega arith
-
-add-i : tie.Need-add-i Inv-loop μ-loop
-add-i c = omega arith
-
-loop-less : tie.Need-loop-less Inv-loop μ-loop
-loop-less c = omega arith
 
 loop-again : tie.Need-loop-again Inv-loop μ-loop
 loop-again c =
@@ -127,19 +97,19 @@ scan-spec =
     Inv-loop
     μ-loop
     loop-holds
-    shared-slice-read-b
-    is-digit-requires
+    (λ c. omega arith)
+    (λ c κs. search needs)
     returns
     digit-requires
-    digits-end-requires
+    (λ c κs. omega arith)
     returns-2
-    mul-if3
-    sub-if3
-    digits-end-requires-2
+    (λ c. omega arith)
+    (λ c. omega arith)
+    (λ c κs. omega arith)
     returns-3
-    mul-n
-    add-n
-    add-i
-    loop-less
+    (λ c. omega arith)
+    (λ c. omega arith)
+    (λ c. omega arith)
+    (λ c. omega arith)
     loop-again
     returns-4)

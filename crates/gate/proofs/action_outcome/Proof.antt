@@ -6,14 +6,8 @@ use borrow.Author.Needs.{needs}
 use Rattle.gate.proofs.action_outcome.Statement.{statement}
 use Rattle.gate.proofs.action_outcome.Tie as tie
 
-action-fits-requires : tie.Need-action-fits-requires
-action-fits-requires c κs = search needs
-
 returns : tie.Need-returns
 returns c = sym (outcome-fail _ _ (sym (c .before .action-fits .ensures) ∙ not-true (c .before .action-fits .result) (c .if1 .taken)))
-
-is-among-requires : tie.Need-is-among-requires
-is-among-requires c κs = search needs
 
 returns-2 : tie.Need-returns-2
 returns-2 c =
@@ -30,4 +24,4 @@ returns-3 c =
 
 pub action-outcome-spec : {M : Type 1} → statement M
 action-outcome-spec =
-    tie.close (tie.spec action-fits-requires returns is-among-requires returns-2 returns-3)
+    tie.close (tie.spec (λ c κs. search needs) returns (λ c κs. search needs) returns-2 returns-3)

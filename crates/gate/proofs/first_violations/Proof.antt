@@ -11,18 +11,6 @@ use borrow.Author.Needs.{needs}
 use Rattle.gate.proofs.first_violations.Statement.{statement}
 use Rattle.gate.proofs.first_violations.Tie as tie
 
-none-requires : tie.Need-none-requires
-none-requires c κs = search needs
-
-push-flags-requires : tie.Need-push-flags-requires
-push-flags-requires c κs = search needs
-
-push-requires : tie.Need-push-requires
-push-requires c κs = search needs
-
-push-governs-requires : tie.Need-push-governs-requires
-push-governs-requires c κs = search needs
-
 returns : tie.Need-returns
 returns c =
     rw (c .before .before .before .if1 .taken, eq-eqb _ _ (c .before .before .if2 .taken))
@@ -30,9 +18,6 @@ returns c =
     ∙ three-pushed (listed []) (flagsSet (c .before .before .before .before .before .before .args .a .flags)) (NoOwner (c .before .before .before .before .before .before .args .a .actor)) (governed 0 (governsOf (c .before .before .before .before .before .before .args .a)))
     (c .before .before .before .before .push-flags .result) (c .before .push .result)
     (c .before .before .before .before .push-flags .ensures ∙ ap (λ vs. pushedAll vs (flagsSet (c .before .before .before .before .before .before .args .a .flags))) (c .before .before .before .before .before .none .ensures)) (c .before .push .ensures))
-
-push-governs-requires-2 : tie.Need-push-governs-requires-2
-push-governs-requires-2 c κs = search needs
 
 returns-2 : tie.Need-returns-2
 returns-2 c =
@@ -51,11 +36,11 @@ pub first-violations-spec : {M : Type 1} → statement M
 first-violations-spec =
     tie.close
     (tie.spec
-    none-requires
-    push-flags-requires
-    push-requires
-    push-governs-requires
+    (λ c κs. search needs)
+    (λ c κs. search needs)
+    (λ c κs. search needs)
+    (λ c κs. search needs)
     returns
-    push-governs-requires-2
+    (λ c κs. search needs)
     returns-2
     returns-3)

@@ -12,57 +12,9 @@ use borrow.Author.Needs.{needs}
 use Rattle.gate.proofs.judge_by.Statement.{statement}
 use Rattle.gate.proofs.judge_by.Tie as tie
 
-is-beside-requires : tie.Need-is-beside-requires
-is-beside-requires c κs = search needs
-
-owner-of-requires : tie.Need-owner-of-requires
-owner-of-requires c κs = search needs
-
-first-violations-requires : tie.Need-first-violations-requires
-first-violations-requires c κs = search needs
-
-column-requires : tie.Need-column-requires
-column-requires c κs = search needs
-
-column-requires-2 : tie.Need-column-requires-2
-column-requires-2 c κs = search needs
-
-gather-requires : tie.Need-gather-requires
-gather-requires c κs = search needs
-
-asked-for-requires : tie.Need-asked-for-requires
-asked-for-requires c κs = search needs
-
-gather-requires-2 : tie.Need-gather-requires-2
-gather-requires-2 c κs = search needs
-
-uses-of-requires : tie.Need-uses-of-requires
-uses-of-requires c κs = search needs
-
-relied-on-requires : tie.Need-relied-on-requires
-relied-on-requires c κs = search needs
-
-covered-by-requires : tie.Need-covered-by-requires
-covered-by-requires c κs = search needs
-
-slice-aggregate-hop-counts : tie.Need-slice-aggregate-hop-counts
-slice-aggregate-hop-counts c = search needs
-
-hop-counts-requires : tie.Need-hop-counts-requires
-hop-counts-requires c κs = search needs
-
-slice-aggregate-put-faults : tie.Need-slice-aggregate-put-faults
-slice-aggregate-put-faults c = search needs
-
-slice-aggregate-put-faults-2 : tie.Need-slice-aggregate-put-faults-2
-slice-aggregate-put-faults-2 c = search needs
-
-put-faults-requires : tie.Need-put-faults-requires
-put-faults-requires c κs = search needs
-
 -- the arrays have their lengths, by their types
-reports-few : (s : tie.Start) → length (s .args .t1 .resources .ids) ≤ resourceLimit
-reports-few s = let long : length (s .args .t1 .resources .ids) ≡ resourceLimit = search needs in omega (arith, long)
+reports-few : (s : tie.Start) → length (s .args .t1 .resources .reports) ≤ resourceLimit
+reports-few s = let long : length (s .args .t1 .resources .reports) ≡ resourceLimit = search needs in omega (arith, long)
 
 uses-long : (s : tie.Start) → length (s .args .a .uses) ≡ useLimit
 uses-long s = search (needs, length-mapped)
@@ -89,20 +41,20 @@ pub judge-by-spec : {M : Type 1} → statement M
 judge-by-spec =
     tie.close
     (tie.spec
-    is-beside-requires
-    owner-of-requires
-    first-violations-requires
-    column-requires
-    column-requires-2
-    gather-requires
-    asked-for-requires
-    gather-requires-2
-    uses-of-requires
-    relied-on-requires
-    covered-by-requires
-    slice-aggregate-hop-counts
-    hop-counts-requires
-    slice-aggregate-put-faults
-    slice-aggregate-put-faults-2
-    put-faults-requires
+    (λ c κs. search needs)
+    (λ c κs. search needs)
+    (λ c κs. search needs)
+    (λ c κs. search needs)
+    (λ c κs. search needs)
+    (λ c κs. search needs)
+    (λ c κs. search needs)
+    (λ c κs. search needs)
+    (λ c κs. search needs)
+    (λ c κs. search needs)
+    (λ c κs. search needs)
+    (λ c. search needs)
+    (λ c κs. search needs)
+    (λ c. search needs)
+    (λ c. search needs)
+    (λ c κs. search needs)
     returns)

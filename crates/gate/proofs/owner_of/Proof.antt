@@ -3,18 +3,6 @@ use borrow.Author.Needs.{needs}
 use Rattle.gate.proofs.owner_of.Statement.{statement}
 use Rattle.gate.proofs.owner_of.Tie as tie
 
-latest-place-requires : tie.Need-latest-place-requires
-latest-place-requires c κs = search needs
-
-enum-known-place : tie.Need-enum-known-place
-enum-known-place c = search needs
-
-number-at-requires : tie.Need-number-at-requires
-number-at-requires c κs = search needs
-
-enum-told : tie.Need-enum-told
-enum-told c = search needs
-
 returns : tie.Need-returns
 returns c = rw (← c .before .before .before .before .latest-place .ensures, c .before .before .place .given .1) (c .number-at .ensures)
 
@@ -23,4 +11,4 @@ returns-2 c = rw (← c .before .before .latest-place .ensures, c .enum-told .gi
 
 pub owner-of-spec : {M : Type 1} → statement M
 owner-of-spec =
-    tie.close (tie.spec latest-place-requires enum-known-place number-at-requires enum-told returns returns-2)
+    tie.close (tie.spec (λ c κs. search needs) (λ c. search needs) (λ c κs. search needs) (λ c. search needs) returns returns-2)

@@ -3,11 +3,8 @@ use borrow.Author.Needs.{needs}
 use Rattle.gate.proofs.stopped.Statement.{statement}
 use Rattle.gate.proofs.stopped.Tie as tie
 
-none-requires : tie.Need-none-requires
-none-requires c κs = search needs
-
 returns : tie.Need-returns
 returns c = rw (c .none .ensures)
 
 pub stopped-spec : {M : Type 1} → statement M
-stopped-spec = tie.close (tie.spec none-requires returns)
+stopped-spec = tie.close (tie.spec (λ c κs. search needs) returns)

@@ -1,13 +1,10 @@
 -- `granting::chain_outcome` meets its contract: each outcome by the tests that led to it (Deciding). The steps that were counted tell whether there
 -- are at most 16 hops, and for so many steps the walk asks along the chain (`circles-places`). Assumes nothing.
-use mathlib.Core.Path.{_≡_, sym, _∙_}
-use mathlib.Core.Bool.{true}
+use mathlib.Core.Path.{sym, _∙_}
 use mathlib.Core.List.{_∷_}
-use lib.Dec.{ltb}
-use lib.ListN.{length, getD}
+use lib.ListN.{getD}
 use borrow.Author.Tests.{lt-ltb, le-ltb}
 use borrow.Author.Needs.{needs}
-use Rattle.register.specs.Limits.{hopLimit}
 use Rattle.columns.specs.Columns.{placesUp}
 use Rattle.columns.specs.Laws.{steps-up-within}
 use Rattle.claims.specs.OverLaws.{circles-places}
@@ -16,15 +13,6 @@ use Rattle.granting.proofs.Deciding.{too-many-hops, circle, no-circle}
 use Rattle.granting.proofs.chain_outcome.Statement.{statement}
 use Rattle.granting.proofs.chain_outcome.Tie as tie
 
-hop-count-requires : tie.Need-hop-count-requires
-hop-count-requires c κs = search needs
-
-enum-told : tie.Need-enum-told
-enum-told c = search needs
-
-enum-known-walked : tie.Need-enum-known-walked
-enum-known-walked c = search needs
-
 returns : tie.Need-returns
 returns c =
     let counted = c .before .before .before .before in
@@ -32,9 +20,6 @@ returns c =
     sym
     (too-many-hops (λ j. getD (given .grantors .now) j 0) (λ j. getD (given .holders .now) j 0) _ (given .at ∷ placesUp (given .ups .now) (given .at)) (given .h)
     (sym (near-limit (placesUp (given .ups .now) (given .at)) (sym (counted .hop-count .ensures) ∙ c .before .before .walked .given .1)) ∙ le-ltb _ _ (c .if1 .taken)))
-
-circles-up-requires : tie.Need-circles-up-requires
-circles-up-requires c κs = search needs
 
 returns-2 : tie.Need-returns-2
 returns-2 c =
@@ -72,11 +57,11 @@ pub chain-outcome-spec : {M : Type 1} → statement M
 chain-outcome-spec =
     tie.close
     (tie.spec
-    hop-count-requires
-    enum-told
-    enum-known-walked
+    (λ c κs. search needs)
+    (λ c. search needs)
+    (λ c. search needs)
     returns
-    circles-up-requires
+    (λ c κs. search needs)
     returns-2
     returns-3
     returns-4)

@@ -30,9 +30,6 @@ returns-3 c =
     (eq-eqb _ _ (c .before .if2 .left))
     (not-true _ (c .if3 .taken)))
 
-has-requires : tie.Need-has-requires
-has-requires c κs = search needs
-
 returns-4 : tie.Need-returns-4
 returns-4 c =
     let given = c .before .before .before .before .before .before .before .before .before .args in
@@ -42,9 +39,6 @@ returns-4 c =
     (eq-eqb _ _ (c .before .before .before .if2 .left))
     (not-false _ (c .before .before .if3 .left))
     (sym (c .before .has .ensures) ∙ not-true _ (c .if4 .taken)))
-
-has-all-requires : tie.Need-has-all-requires
-has-all-requires c κs = search needs
 
 returns-5 : tie.Need-returns-5
 returns-5 c =
@@ -88,9 +82,9 @@ drawn-outcome-spec =
     returns
     returns-2
     returns-3
-    has-requires
+    (λ c κs. search needs)
     returns-4
-    has-all-requires
+    (λ c κs. search needs)
     returns-5
     returns-6
     returns-7)

@@ -9,9 +9,6 @@ use Rattle.granting.proofs.first_outcome.Tie as tie
 returns : tie.Need-returns
 returns c = sym (unsound (c .before .args .c) (c .before .args .moment) (not-true _ (c .if1 .taken)))
 
-claim-fits-requires : tie.Need-claim-fits-requires
-claim-fits-requires c κs = search needs
-
 returns-2 : tie.Need-returns-2
 returns-2 c =
     let given = c .before .before .before .args in
@@ -34,4 +31,4 @@ returns-4 c =
     (sym (c .before .before .claim-fits .ensures) ∙ not-false _ (c .before .if2 .left)) (lt-ltb _ _ (c .if3 .left)))
 
 pub first-outcome-spec : {M : Type 1} → statement M
-first-outcome-spec = tie.close (tie.spec returns claim-fits-requires returns-2 returns-3 returns-4)
+first-outcome-spec = tie.close (tie.spec returns (λ c κs. search needs) returns-2 returns-3 returns-4)

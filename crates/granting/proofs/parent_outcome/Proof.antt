@@ -1,6 +1,6 @@
 -- `granting::parent_outcome` meets its contract: a root is asked nothing; where no claim has the parent's number the parent is absent; where one has,
 -- the tests of the parent come before those of the chain that begins with it (Columns). Assumes nothing.
-use mathlib.Core.Path.{_≡_, sym, ap, _∙_}
+use mathlib.Core.Path.{sym, ap, _∙_}
 use mathlib.Core.List.{_∷_}
 use lib.Dec.{ltb}
 use lib.ListN.{length}
@@ -16,39 +16,6 @@ returns : tie.Need-returns
 returns c =
     let given = c .before .before .before .before .args in
     sym (root-passes (given .sheet .now) (given .ups .now) (given .n) (given .c) (given .moment) (c .if1 .taken))
-
-column-requires : tie.Need-column-requires
-column-requires c κs = search needs
-
-latest-place-requires : tie.Need-latest-place-requires
-latest-place-requires c κs = search needs
-
-enum-told : tie.Need-enum-told
-enum-told c = search needs
-
-enum-known-place : tie.Need-enum-known-place
-enum-known-place c = search needs
-
-claim-at-requires : tie.Need-claim-at-requires
-claim-at-requires c κs = search needs
-
-current-up-requires : tie.Need-current-up-requires
-current-up-requires c κs = search needs
-
-drawn-outcome-requires : tie.Need-drawn-outcome-requires
-drawn-outcome-requires c κs = search needs
-
-column-requires-2 : tie.Need-column-requires-2
-column-requires-2 c κs = search needs
-
-column-requires-3 : tie.Need-column-requires-3
-column-requires-3 c κs = search needs
-
-chain-outcome-requires : tie.Need-chain-outcome-requires
-chain-outcome-requires c κs = search needs
-
-then-requires : tie.Need-then-requires
-then-requires c κs = search needs
 
 returns-2 : tie.Need-returns-2
 returns-2 c =
@@ -79,16 +46,16 @@ parent-outcome-spec =
     tie.close
     (tie.spec
     returns
-    column-requires
-    latest-place-requires
-    enum-told
-    enum-known-place
-    claim-at-requires
-    current-up-requires
-    drawn-outcome-requires
-    column-requires-2
-    column-requires-3
-    chain-outcome-requires
-    then-requires
+    (λ c κs. search needs)
+    (λ c κs. search needs)
+    (λ c. search needs)
+    (λ c. search needs)
+    (λ c κs. search needs)
+    (λ c κs. search needs)
+    (λ c κs. search needs)
+    (λ c κs. search needs)
+    (λ c κs. search needs)
+    (λ c κs. search needs)
+    (λ c κs. search needs)
     returns-2
     returns-3)

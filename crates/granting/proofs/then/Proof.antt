@@ -5,12 +5,6 @@ use Rattle.granting.specs.Drawn.{outcomeThen}
 use Rattle.granting.proofs.then.Statement.{statement}
 use Rattle.granting.proofs.then.Tie as tie
 
-enum-known-first : tie.Need-enum-known-first
-enum-known-first c = search needs
-
-enum-told : tie.Need-enum-told
-enum-told c = search needs
-
 returns : tie.Need-returns
 returns c = ap (λ o. outcomeThen o (c .before .before .before .args .next)) (sym (c .before .first .given .1))
 
@@ -18,4 +12,4 @@ returns-2 : tie.Need-returns-2
 returns-2 c = ap (λ o. outcomeThen o (c .before .before .args .next)) (sym (c .enum-told .given .1))
 
 pub then-spec : {M : Type 1} → statement M
-then-spec = tie.close (tie.spec enum-known-first enum-told returns returns-2)
+then-spec = tie.close (tie.spec (λ c. search needs) (λ c. search needs) returns returns-2)

@@ -1,189 +1,150 @@
--- `granting::world_outcome` meets its contract: each outcome by the tests that led to it (Deciding), which the columns answer as the
--- actors and the resources would (Columns). Assumes nothing.
-use mathlib.Core.Path.{sym, _∙_}
+-- `granting::world_outcome` meets its contract: each outcome by the tests that led to it (Deciding), of the world that the columns show
+-- (Columns). Assumes nothing.
+use mathlib.Core.Path.{_≡_, sym, _∙_}
+use mathlib.Core.Bool.{true, false}
 use borrow.Author.Tests.{not-true, not-false, lt-ltb, le-ltb}
-use Rattle.register.specs.Register.{actorsOf, resourcesOf}
-use Rattle.rules.specs.Sound.{worldOf}
-use Rattle.granting.proofs.Columns.{names-asked, root-asked, machine-asked, ownerless-asked}
+use Rattle.rules.specs.Sound.{World, namesStand, rootKept}
+use Rattle.claims.specs.Alone.{worldBy}
+use Rattle.granting.proofs.Columns.{names-asked, root-asked}
 use Rattle.granting.proofs.Deciding.{unknown, id-stands, full, not-keeper, no-machine, ownerless, machine-barred, machine-grants}
 use borrow.Author.Needs.{needs}
 use Rattle.granting.proofs.world_outcome.Statement.{statement}
 use Rattle.granting.proofs.world_outcome.Tie as tie
 
-actor-columns-requires : tie.Need-actor-columns-requires
-actor-columns-requires c κs = search needs
+-- the world of a call
+abbrev world : tie.Start → World
+world s =
+    worldBy (s .args .t1 .names) (s .args .t1 .kinds) (s .args .t1 .owners) (s .args .h) (s .args .t3 .reports) (s .args .t3 .keepers) (s .args .m)
 
-resource-columns-requires : tie.Need-resource-columns-requires
-resource-columns-requires c κs = search needs
+-- where the call began, seen from behind its tests
+abbrev names-start : tie.After-names-stand → tie.Start
+names-start c = c .before .before .before .before .before .before .before
 
-slice-aggregate-names-stand : tie.Need-slice-aggregate-names-stand
-slice-aggregate-names-stand c = search needs
+abbrev start-1 : tie.Else1 → tie.Start
+start-1 c = names-start (c .before)
 
-slice-aggregate-names-stand-2 : tie.Need-slice-aggregate-names-stand-2
-slice-aggregate-names-stand-2 c = search needs
+abbrev start-3 : tie.Else3 → tie.Start
+start-3 c = start-1 (c .before .before)
 
-names-stand-requires : tie.Need-names-stand-requires
-names-stand-requires c κs = search needs
+abbrev root-start : tie.After-root-kept → tie.Start
+root-start c = start-3 (c .before .before .before .before .before .before)
+
+abbrev start-4 : tie.Else4 → tie.Start
+start-4 c = root-start (c .before)
+
+abbrev start-5 : tie.Else5 → tie.Start
+start-5 c = start-4 (c .before .before .before .before .before .before .before)
+
+abbrev start-6 : tie.Else6 → tie.Start
+start-6 c = start-5 (c .before .before .before .before .before .before .before)
+
+-- what the tests found of that world
+names-told : (c : tie.After-names-stand) → c .names-stand .result ≡ namesStand (world (names-start c)) (names-start c .args .c)
+names-told c =
+    let s = names-start c .args in
+    names-asked (s .t1 .names) (s .t1 .kinds) (s .t1 .owners) (s .h) (s .t3 .reports) (s .t3 .keepers) (s .m) (s .c) (c .names-stand .ensures)
+
+root-told : (c : tie.After-root-kept) → c .root-kept .result ≡ rootKept (world (root-start c)) (root-start c .args .c)
+root-told c =
+    let s = root-start c .args in
+    root-asked (s .t1 .names) (s .t1 .kinds) (s .t1 .owners) (s .h) (s .t3 .reports) (s .t3 .keepers) (s .m) (s .c) (c .root-kept .ensures)
+
+named : (c : tie.Else1) → namesStand (world (start-1 c)) (start-1 c .args .c) ≡ true
+named c = sym (names-told (c .before)) ∙ not-false _ (c .if1 .left)
+
+kept : (c : tie.Else4) → rootKept (world (start-4 c)) (start-4 c .args .c) ≡ true
+kept c = sym (root-told (c .before)) ∙ not-false _ (c .if4 .left)
+
+machine : (c : tie.Else5) → world (start-5 c) .machine (start-5 c .args .c .grantor) ≡ true
+machine c = sym (c .before .is-beside .ensures) ∙ not-false _ (c .if5 .left)
+
+owned : (c : tie.Else6) → world (start-6 c) .ownerless (start-6 c .args .c .grantor) ≡ false
+owned c = sym (c .before .is-beside2 .ensures) ∙ c .if6 .left
 
 returns : tie.Need-returns
 returns c =
-    let given = c .before .before .before .before .before .before .before .before .before .before .before .args in
-    let actors = c .before .before .before .before .before .before .before .before .before .before .actor-columns .ensures in
-    let resources = c .before .before .before .before .before .before .before .before .before .resource-columns .ensures in
-    sym
-    (unknown (worldOf (actorsOf (given .a)) (resourcesOf (given .o))) (given .stands) (given .n) (given .c)
-    (sym (names-asked (given .a) (given .o) (given .c) actors resources (c .before .names-stand .ensures)) ∙ not-true _ (c .if1 .taken)))
+    let s = names-start (c .before) in
+    sym (unknown (world s) (s .args .stands) (s .args .n) (s .args .c) (sym (names-told (c .before)) ∙ not-true _ (c .if1 .taken)))
 
 returns-2 : tie.Need-returns-2
 returns-2 c =
-    let given = c .before .before .before .before .before .before .before .before .before .before .before .before .args in
-    let actors = c .before .before .before .before .before .before .before .before .before .before .before .actor-columns .ensures in
-    let resources = c .before .before .before .before .before .before .before .before .before .before .resource-columns .ensures in
-    sym
-    (id-stands (worldOf (actorsOf (given .a)) (resourcesOf (given .o))) (given .stands) (given .n) (given .c)
-    (sym (names-asked (given .a) (given .o) (given .c) actors resources (c .before .before .names-stand .ensures)) ∙ not-false _ (c .before .if1 .left))
-    (c .if2 .taken))
+    let s = start-1 (c .before) in
+    sym (id-stands (world s) (s .args .stands) (s .args .n) (s .args .c) (named (c .before)) (c .if2 .taken))
 
 returns-3 : tie.Need-returns-3
 returns-3 c =
-    let given = c .before .before .before .before .before .before .before .before .before .before .before .before .before .args in
-    let actors = c .before .before .before .before .before .before .before .before .before .before .before .before .actor-columns .ensures in
-    let resources = c .before .before .before .before .before .before .before .before .before .before .before .resource-columns .ensures in
-    sym
-    (full (worldOf (actorsOf (given .a)) (resourcesOf (given .o))) (given .stands) (given .n) (given .c)
-    (sym (names-asked (given .a) (given .o) (given .c) actors resources (c .before .before .before .names-stand .ensures)) ∙ not-false _ (c .before .before .if1 .left))
-    (c .before .if2 .left)
-    (le-ltb _ _ (c .if3 .taken)))
-
-slice-aggregate-root-kept : tie.Need-slice-aggregate-root-kept
-slice-aggregate-root-kept c = search needs
-
-slice-aggregate-root-kept-2 : tie.Need-slice-aggregate-root-kept-2
-slice-aggregate-root-kept-2 c = search needs
-
-root-kept-requires : tie.Need-root-kept-requires
-root-kept-requires c κs = search needs
+    let else2 = c .before in
+    let s = start-1 (else2 .before) in
+    sym (full (world s) (s .args .stands) (s .args .n) (s .args .c) (named (else2 .before)) (else2 .if2 .left) (le-ltb _ _ (c .if3 .taken)))
 
 returns-4 : tie.Need-returns-4
 returns-4 c =
-    let given = c .before .before .before .before .before .before .before .before .before .before .before .before .before .before .before .before .before .args in
-    let actors = c .before .before .before .before .before .before .before .before .before .before .before .before .before .before .before .before .actor-columns .ensures in
-    let resources = c .before .before .before .before .before .before .before .before .before .before .before .before .before .before .before .resource-columns .ensures in
+    let else3 = c .before .before .before .before .before .before .before in
+    let else2 = else3 .before in
+    let s = start-3 else3 in
     sym
-    (not-keeper (worldOf (actorsOf (given .a)) (resourcesOf (given .o))) (given .stands) (given .n) (given .c)
-    (sym (names-asked (given .a) (given .o) (given .c) actors resources (c .before .before .before .before .before .before .before .names-stand .ensures)) ∙ not-false _ (c .before .before .before .before .before .before .if1 .left))
-    (c .before .before .before .before .before .if2 .left)
-    (lt-ltb _ _ (c .before .before .before .before .if3 .left))
-    (sym (root-asked (given .a) (given .o) (given .c) actors resources (c .before .root-kept .ensures)) ∙ not-true _ (c .if4 .taken)))
-
-slice-aggregate-is-beside : tie.Need-slice-aggregate-is-beside
-slice-aggregate-is-beside c = search needs
-
-slice-aggregate-is-beside-2 : tie.Need-slice-aggregate-is-beside-2
-slice-aggregate-is-beside-2 c =
-    let sized = c .before .before .before .before .before .before .before .before .before .before .before .before .before .before .before .before .before .before .actor-columns .ok in
-    search needs
-
-is-beside-requires : tie.Need-is-beside-requires
-is-beside-requires c κs = search needs
+    (not-keeper (world s) (s .args .stands) (s .args .n) (s .args .c) (named (else2 .before)) (else2 .if2 .left) (lt-ltb _ _ (else3 .if3 .left))
+    (sym (root-told (c .before)) ∙ not-true _ (c .if4 .taken)))
 
 returns-5 : tie.Need-returns-5
 returns-5 c =
-    let given = c .before .before .before .before .before .before .before .before .before .before .before .before .before .before .before .before .before .before .before .before .before .args in
-    let actors = c .before .before .before .before .before .before .before .before .before .before .before .before .before .before .before .before .before .before .before .before .actor-columns .ensures in
-    let resources = c .before .before .before .before .before .before .before .before .before .before .before .before .before .before .before .before .before .before .before .resource-columns .ensures in
+    let else4 = c .before .before .before .before .before .before .before in
+    let else3 = else4 .before .before .before .before .before .before .before in
+    let else2 = else3 .before in
+    let s = start-4 else4 in
     sym
-    (no-machine (worldOf (actorsOf (given .a)) (resourcesOf (given .o))) (given .stands) (given .n) (given .c)
-    (sym (names-asked (given .a) (given .o) (given .c) actors resources (c .before .before .before .before .before .before .before .before .before .before .before .names-stand .ensures)) ∙ not-false _ (c .before .before .before .before .before .before .before .before .before .before .if1 .left))
-    (c .before .before .before .before .before .before .before .before .before .if2 .left)
-    (lt-ltb _ _ (c .before .before .before .before .before .before .before .before .if3 .left))
-    (sym (root-asked (given .a) (given .o) (given .c) actors resources (c .before .before .before .before .before .root-kept .ensures)) ∙ not-false _ (c .before .before .before .before .if4 .left))
-    (sym (machine-asked (given .a) (given .o) (given .c) actors resources (c .before .is-beside .ensures)) ∙ not-true _ (c .if5 .taken)))
-
-slice-aggregate-is-beside-3 : tie.Need-slice-aggregate-is-beside-3
-slice-aggregate-is-beside-3 c =
-    let sized = c .before .before .before .before .before .before .before .before .before .before .before .before .before .before .before .before .before .before .before .before .before .actor-columns .ok in
-    search needs
-
-slice-aggregate-is-beside-4 : tie.Need-slice-aggregate-is-beside-4
-slice-aggregate-is-beside-4 c =
-    let sized = c .before .before .before .before .before .before .before .before .before .before .before .before .before .before .before .before .before .before .before .before .before .before .actor-columns .ok in
-    search needs
-
-is-beside-requires-2 : tie.Need-is-beside-requires-2
-is-beside-requires-2 c κs = search needs
+    (no-machine (world s) (s .args .stands) (s .args .n) (s .args .c) (named (else2 .before)) (else2 .if2 .left) (lt-ltb _ _ (else3 .if3 .left)) (kept else4)
+    (sym (c .before .is-beside .ensures) ∙ not-true _ (c .if5 .taken)))
 
 returns-6 : tie.Need-returns-6
 returns-6 c =
-    let given = c .before .before .before .before .before .before .before .before .before .before .before .before .before .before .before .before .before .before .before .before .before .before .before .before .before .args in
-    let actors = c .before .before .before .before .before .before .before .before .before .before .before .before .before .before .before .before .before .before .before .before .before .before .before .before .actor-columns .ensures in
-    let resources = c .before .before .before .before .before .before .before .before .before .before .before .before .before .before .before .before .before .before .before .before .before .before .before .resource-columns .ensures in
+    let else5 = c .before .before .before .before .before .before .before in
+    let else4 = else5 .before .before .before .before .before .before .before in
+    let else3 = else4 .before .before .before .before .before .before .before in
+    let else2 = else3 .before in
+    let s = start-5 else5 in
     sym
-    (ownerless (worldOf (actorsOf (given .a)) (resourcesOf (given .o))) (given .stands) (given .n) (given .c)
-    (sym (names-asked (given .a) (given .o) (given .c) actors resources (c .before .before .before .before .before .before .before .before .before .before .before .before .before .before .before .names-stand .ensures)) ∙ not-false _ (c .before .before .before .before .before .before .before .before .before .before .before .before .before .before .if1 .left))
-    (c .before .before .before .before .before .before .before .before .before .before .before .before .before .if2 .left)
-    (lt-ltb _ _ (c .before .before .before .before .before .before .before .before .before .before .before .before .if3 .left))
-    (sym (root-asked (given .a) (given .o) (given .c) actors resources (c .before .before .before .before .before .before .before .before .before .root-kept .ensures)) ∙ not-false _ (c .before .before .before .before .before .before .before .before .if4 .left))
-    (sym (machine-asked (given .a) (given .o) (given .c) actors resources (c .before .before .before .before .before .is-beside .ensures)) ∙ not-false _ (c .before .before .before .before .if5 .left))
-    (sym (ownerless-asked (given .a) (given .o) (given .c) actors resources (c .before .is-beside2 .ensures)) ∙ c .if6 .taken))
-
-bars-machine-requires : tie.Need-bars-machine-requires
-bars-machine-requires c κs = search needs
+    (ownerless (world s) (s .args .stands) (s .args .n) (s .args .c) (named (else2 .before)) (else2 .if2 .left) (lt-ltb _ _ (else3 .if3 .left)) (kept else4) (machine else5)
+    (sym (c .before .is-beside2 .ensures) ∙ c .if6 .taken))
 
 returns-7 : tie.Need-returns-7
 returns-7 c =
-    let given = c .before .before .before .before .before .before .before .before .before .before .before .before .before .before .before .before .before .before .before .before .before .before .before .before .before .before .before .args in
-    let actors = c .before .before .before .before .before .before .before .before .before .before .before .before .before .before .before .before .before .before .before .before .before .before .before .before .before .before .actor-columns .ensures in
-    let resources = c .before .before .before .before .before .before .before .before .before .before .before .before .before .before .before .before .before .before .before .before .before .before .before .before .before .resource-columns .ensures in
+    let else6 = c .before .before in
+    let else5 = else6 .before .before .before .before .before .before .before in
+    let else4 = else5 .before .before .before .before .before .before .before in
+    let else3 = else4 .before .before .before .before .before .before .before in
+    let else2 = else3 .before in
+    let s = start-6 else6 in
     sym
-    (machine-barred (worldOf (actorsOf (given .a)) (resourcesOf (given .o))) (given .stands) (given .n) (given .c)
-    (sym (names-asked (given .a) (given .o) (given .c) actors resources (c .before .before .before .before .before .before .before .before .before .before .before .before .before .before .before .before .before .names-stand .ensures)) ∙ not-false _ (c .before .before .before .before .before .before .before .before .before .before .before .before .before .before .before .before .if1 .left))
-    (c .before .before .before .before .before .before .before .before .before .before .before .before .before .before .before .if2 .left)
-    (lt-ltb _ _ (c .before .before .before .before .before .before .before .before .before .before .before .before .before .before .if3 .left))
-    (sym (root-asked (given .a) (given .o) (given .c) actors resources (c .before .before .before .before .before .before .before .before .before .before .before .root-kept .ensures)) ∙ not-false _ (c .before .before .before .before .before .before .before .before .before .before .if4 .left))
-    (sym (machine-asked (given .a) (given .o) (given .c) actors resources (c .before .before .before .before .before .before .before .is-beside .ensures)) ∙ not-false _ (c .before .before .before .before .before .before .if5 .left))
-    (sym (ownerless-asked (given .a) (given .o) (given .c) actors resources (c .before .before .before .is-beside2 .ensures)) ∙ c .before .before .if6 .left)
+    (machine-barred (world s) (s .args .stands) (s .args .n) (s .args .c) (named (else2 .before)) (else2 .if2 .left) (lt-ltb _ _ (else3 .if3 .left)) (kept else4) (machine else5) (owned else6)
     (sym (c .before .bars-machine .ensures) ∙ c .if7 .taken))
 
 returns-8 : tie.Need-returns-8
 returns-8 c =
-    let given = c .before .before .before .before .before .before .before .before .before .before .before .before .before .before .before .before .before .before .before .before .before .before .before .before .before .before .before .args in
-    let actors = c .before .before .before .before .before .before .before .before .before .before .before .before .before .before .before .before .before .before .before .before .before .before .before .before .before .before .actor-columns .ensures in
-    let resources = c .before .before .before .before .before .before .before .before .before .before .before .before .before .before .before .before .before .before .before .before .before .before .before .before .before .resource-columns .ensures in
+    let else6 = c .before .before in
+    let else5 = else6 .before .before .before .before .before .before .before in
+    let else4 = else5 .before .before .before .before .before .before .before in
+    let else3 = else4 .before .before .before .before .before .before .before in
+    let else2 = else3 .before in
+    let s = start-6 else6 in
     sym
-    (machine-grants (worldOf (actorsOf (given .a)) (resourcesOf (given .o))) (given .stands) (given .n) (given .c)
-    (sym (names-asked (given .a) (given .o) (given .c) actors resources (c .before .before .before .before .before .before .before .before .before .before .before .before .before .before .before .before .before .names-stand .ensures)) ∙ not-false _ (c .before .before .before .before .before .before .before .before .before .before .before .before .before .before .before .before .if1 .left))
-    (c .before .before .before .before .before .before .before .before .before .before .before .before .before .before .before .if2 .left)
-    (lt-ltb _ _ (c .before .before .before .before .before .before .before .before .before .before .before .before .before .before .if3 .left))
-    (sym (root-asked (given .a) (given .o) (given .c) actors resources (c .before .before .before .before .before .before .before .before .before .before .before .root-kept .ensures)) ∙ not-false _ (c .before .before .before .before .before .before .before .before .before .before .if4 .left))
-    (sym (machine-asked (given .a) (given .o) (given .c) actors resources (c .before .before .before .before .before .before .before .is-beside .ensures)) ∙ not-false _ (c .before .before .before .before .before .before .if5 .left))
-    (sym (ownerless-asked (given .a) (given .o) (given .c) actors resources (c .before .before .before .is-beside2 .ensures)) ∙ c .before .before .if6 .left)
+    (machine-grants (world s) (s .args .stands) (s .args .n) (s .args .c) (named (else2 .before)) (else2 .if2 .left) (lt-ltb _ _ (else3 .if3 .left)) (kept else4) (machine else5) (owned else6)
     (sym (c .before .bars-machine .ensures) ∙ c .if7 .left))
 
 pub world-outcome-spec : {M : Type 1} → statement M
 world-outcome-spec =
     tie.close
     (tie.spec
-    actor-columns-requires
-    resource-columns-requires
-    slice-aggregate-names-stand
-    slice-aggregate-names-stand-2
-    names-stand-requires
+    (λ c κs. search needs)
     returns
     returns-2
     returns-3
-    slice-aggregate-root-kept
-    slice-aggregate-root-kept-2
-    root-kept-requires
+    (λ c κs. search needs)
     returns-4
-    slice-aggregate-is-beside
-    slice-aggregate-is-beside-2
-    is-beside-requires
+    (λ c κs. search needs)
     returns-5
-    slice-aggregate-is-beside-3
-    slice-aggregate-is-beside-4
-    is-beside-requires-2
+    (λ c κs. search needs)
     returns-6
-    bars-machine-requires
+    (λ c κs. search needs)
     returns-7
     returns-8)

@@ -56,20 +56,11 @@ loop-holds : tie.Need-loop-holds Inv-loop μ-loop
 unfolding isIdText
 loop-holds c = (omega arith, rw (le-leb (length (c .before .args .id .now)) idLength (c .if1 .left)))
 
-shared-slice-read-b : tie.Need-shared-slice-read-b Inv-loop μ-loop
-shared-slice-read-b c = omega arith
-
 returns-2 : tie.Need-returns-2 Inv-loop μ-loop
 returns-2 c =
     let at = c .before .before in
     let id = at .before .before .before .args .id .now in
     sym (byte-barred id (at .before .loop .i) (at .loop-test .taken) (at .before .loop .inv .1) (c .if2 .taken))
-
-add-i : tie.Need-add-i Inv-loop μ-loop
-add-i c = omega arith
-
-loop-less : tie.Need-loop-less Inv-loop μ-loop
-loop-less c = omega arith
 
 loop-again : tie.Need-loop-again Inv-loop μ-loop
 loop-again c =
@@ -90,9 +81,9 @@ is-id-spec =
     μ-loop
     returns
     loop-holds
-    shared-slice-read-b
+    (λ c. omega arith)
     returns-2
-    add-i
-    loop-less
+    (λ c. omega arith)
+    (λ c. omega arith)
     loop-again
     returns-3)

@@ -20,28 +20,16 @@ abbrev μ-loop : tie.MeasureT-loop
 loop-holds : tie.Need-loop-holds Inv-loop μ-loop
 loop-holds c = counting-start _ _
 
-array-read-if1 : tie.Need-array-read-if1 Inv-loop μ-loop
-array-read-if1 c = search needs
-
 returns : tie.Need-returns Inv-loop μ-loop
 returns c =
     let a = c .before .before .before .args in
     sym (flags-unseen (a .t1) (a .t2) (a .next) (c .before .before .loop .i) (c .before .loop-test .taken) (not-true _ (c .if1 .taken)))
-
-array-read-if2 : tie.Need-array-read-if2 Inv-loop μ-loop
-array-read-if2 c = search needs
 
 add-flags : tie.Need-add-flags Inv-loop μ-loop
 add-flags c = omega (arith, counting-room (c .before .before .before .loop .inv) .0, counting-room (c .before .before .before .loop .inv) .1)
 
 mul-worth : tie.Need-mul-worth Inv-loop μ-loop
 mul-worth c = omega (arith, counting-room (c .before .before .before .loop .inv) .1)
-
-add-i : tie.Need-add-i Inv-loop μ-loop
-add-i c = search needs
-
-loop-less : tie.Need-loop-less Inv-loop μ-loop
-loop-less c = search needs
 
 loop-again : tie.Need-loop-again Inv-loop μ-loop
 loop-again c =
@@ -61,12 +49,12 @@ flags-number-spec =
     Inv-loop
     μ-loop
     loop-holds
-    array-read-if1
+    (λ c. search needs)
     returns
-    array-read-if2
+    (λ c. search needs)
     add-flags
     mul-worth
-    add-i
-    loop-less
+    (λ c. search needs)
+    (λ c. search needs)
     loop-again
     returns-2)

@@ -20,21 +20,6 @@ abbrev μ-loop : tie.MeasureT-loop
 loop-holds : tie.Need-loop-holds Inv-loop μ-loop
 loop-holds c = (omega arith, refl)
 
-add-id : tie.Need-add-id Inv-loop μ-loop
-add-id c = omega arith
-
-shared-slice-read-id : tie.Need-shared-slice-read-id Inv-loop μ-loop
-shared-slice-read-id c = omega arith
-
-array-write-id : tie.Need-array-write-id Inv-loop μ-loop
-array-write-id c = omega arith
-
-add-i : tie.Need-add-i Inv-loop μ-loop
-add-i c = omega arith
-
-loop-less : tie.Need-loop-less Inv-loop μ-loop
-loop-less c = omega arith
-
 loop-again : tie.Need-loop-again Inv-loop μ-loop
 loop-again c =
     let l = c .before .before in
@@ -60,10 +45,10 @@ id-of-spec =
     Inv-loop
     μ-loop
     loop-holds
-    add-id
-    shared-slice-read-id
-    array-write-id
-    add-i
-    loop-less
+    (λ c. omega arith)
+    (λ c. omega arith)
+    (λ c. omega arith)
+    (λ c. omega arith)
+    (λ c. omega arith)
     loop-again
     returns)

@@ -111,155 +111,53 @@ text-17 c = text-16 (c .before .before .before)
 passed-17 : (c : tie.Else17) → Unnamed kindNames 17 (text-17 c)
 passed-17 c = next-miss (passed-16 (c .before .before .before)) (sym (c .before .is-same17 .ensures) ∙ c .if17 .left)
 
-slice-aggregate-is-same : tie.Need-slice-aggregate-is-same
-slice-aggregate-is-same c = search needs
-
-is-same-requires : tie.Need-is-same-requires
-is-same-requires c κs = search needs
-
 returns : tie.Need-returns
 returns c = next-hit (unnamed kindNames _) (sym (c .before .is-same .ensures) ∙ c .if1 .taken)
-
-slice-aggregate-is-same-2 : tie.Need-slice-aggregate-is-same-2
-slice-aggregate-is-same-2 c = search needs
-
-is-same-requires-2 : tie.Need-is-same-requires-2
-is-same-requires-2 c κs = search needs
 
 returns-2 : tie.Need-returns-2
 returns-2 c = next-hit (passed-1 (c .before .before .before)) (sym (c .before .is-same2 .ensures) ∙ c .if2 .taken)
 
-slice-aggregate-is-same-3 : tie.Need-slice-aggregate-is-same-3
-slice-aggregate-is-same-3 c = search needs
-
-is-same-requires-3 : tie.Need-is-same-requires-3
-is-same-requires-3 c κs = search needs
-
 returns-3 : tie.Need-returns-3
 returns-3 c = next-hit (passed-2 (c .before .before .before)) (sym (c .before .is-same3 .ensures) ∙ c .if3 .taken)
-
-slice-aggregate-is-same-4 : tie.Need-slice-aggregate-is-same-4
-slice-aggregate-is-same-4 c = search needs
-
-is-same-requires-4 : tie.Need-is-same-requires-4
-is-same-requires-4 c κs = search needs
 
 returns-4 : tie.Need-returns-4
 returns-4 c = next-hit (passed-3 (c .before .before .before)) (sym (c .before .is-same4 .ensures) ∙ c .if4 .taken)
 
-slice-aggregate-is-same-5 : tie.Need-slice-aggregate-is-same-5
-slice-aggregate-is-same-5 c = search needs
-
-is-same-requires-5 : tie.Need-is-same-requires-5
-is-same-requires-5 c κs = search needs
-
 returns-5 : tie.Need-returns-5
 returns-5 c = next-hit (passed-4 (c .before .before .before)) (sym (c .before .is-same5 .ensures) ∙ c .if5 .taken)
-
-slice-aggregate-is-same-6 : tie.Need-slice-aggregate-is-same-6
-slice-aggregate-is-same-6 c = search needs
-
-is-same-requires-6 : tie.Need-is-same-requires-6
-is-same-requires-6 c κs = search needs
 
 returns-6 : tie.Need-returns-6
 returns-6 c = next-hit (passed-5 (c .before .before .before)) (sym (c .before .is-same6 .ensures) ∙ c .if6 .taken)
 
-slice-aggregate-is-same-7 : tie.Need-slice-aggregate-is-same-7
-slice-aggregate-is-same-7 c = search needs
-
-is-same-requires-7 : tie.Need-is-same-requires-7
-is-same-requires-7 c κs = search needs
-
 returns-7 : tie.Need-returns-7
 returns-7 c = next-hit (passed-6 (c .before .before .before)) (sym (c .before .is-same7 .ensures) ∙ c .if7 .taken)
-
-slice-aggregate-is-same-8 : tie.Need-slice-aggregate-is-same-8
-slice-aggregate-is-same-8 c = search needs
-
-is-same-requires-8 : tie.Need-is-same-requires-8
-is-same-requires-8 c κs = search needs
 
 returns-8 : tie.Need-returns-8
 returns-8 c = next-hit (passed-7 (c .before .before .before)) (sym (c .before .is-same8 .ensures) ∙ c .if8 .taken)
 
-slice-aggregate-is-same-9 : tie.Need-slice-aggregate-is-same-9
-slice-aggregate-is-same-9 c = search needs
-
-is-same-requires-9 : tie.Need-is-same-requires-9
-is-same-requires-9 c κs = search needs
-
 returns-9 : tie.Need-returns-9
 returns-9 c = next-hit (passed-8 (c .before .before .before)) (sym (c .before .is-same9 .ensures) ∙ c .if9 .taken)
-
-slice-aggregate-is-same-10 : tie.Need-slice-aggregate-is-same-10
-slice-aggregate-is-same-10 c = search needs
-
-is-same-requires-10 : tie.Need-is-same-requires-10
-is-same-requires-10 c κs = search needs
 
 returns-10 : tie.Need-returns-10
 returns-10 c = next-hit (passed-9 (c .before .before .before)) (sym (c .before .is-same10 .ensures) ∙ c .if10 .taken)
 
-slice-aggregate-is-same-11 : tie.Need-slice-aggregate-is-same-11
-slice-aggregate-is-same-11 c = search needs
-
-is-same-requires-11 : tie.Need-is-same-requires-11
-is-same-requires-11 c κs = search needs
-
 returns-11 : tie.Need-returns-11
 returns-11 c = next-hit (passed-10 (c .before .before .before)) (sym (c .before .is-same11 .ensures) ∙ c .if11 .taken)
-
-slice-aggregate-is-same-12 : tie.Need-slice-aggregate-is-same-12
-slice-aggregate-is-same-12 c = search needs
-
-is-same-requires-12 : tie.Need-is-same-requires-12
-is-same-requires-12 c κs = search needs
 
 returns-12 : tie.Need-returns-12
 returns-12 c = next-hit (passed-11 (c .before .before .before)) (sym (c .before .is-same12 .ensures) ∙ c .if12 .taken)
 
-slice-aggregate-is-same-13 : tie.Need-slice-aggregate-is-same-13
-slice-aggregate-is-same-13 c = search needs
-
-is-same-requires-13 : tie.Need-is-same-requires-13
-is-same-requires-13 c κs = search needs
-
 returns-13 : tie.Need-returns-13
 returns-13 c = next-hit (passed-12 (c .before .before .before)) (sym (c .before .is-same13 .ensures) ∙ c .if13 .taken)
-
-slice-aggregate-is-same-14 : tie.Need-slice-aggregate-is-same-14
-slice-aggregate-is-same-14 c = search needs
-
-is-same-requires-14 : tie.Need-is-same-requires-14
-is-same-requires-14 c κs = search needs
 
 returns-14 : tie.Need-returns-14
 returns-14 c = next-hit (passed-13 (c .before .before .before)) (sym (c .before .is-same14 .ensures) ∙ c .if14 .taken)
 
-slice-aggregate-is-same-15 : tie.Need-slice-aggregate-is-same-15
-slice-aggregate-is-same-15 c = search needs
-
-is-same-requires-15 : tie.Need-is-same-requires-15
-is-same-requires-15 c κs = search needs
-
 returns-15 : tie.Need-returns-15
 returns-15 c = next-hit (passed-14 (c .before .before .before)) (sym (c .before .is-same15 .ensures) ∙ c .if15 .taken)
 
-slice-aggregate-is-same-16 : tie.Need-slice-aggregate-is-same-16
-slice-aggregate-is-same-16 c = search needs
-
-is-same-requires-16 : tie.Need-is-same-requires-16
-is-same-requires-16 c κs = search needs
-
 returns-16 : tie.Need-returns-16
 returns-16 c = next-hit (passed-15 (c .before .before .before)) (sym (c .before .is-same16 .ensures) ∙ c .if16 .taken)
-
-slice-aggregate-is-same-17 : tie.Need-slice-aggregate-is-same-17
-slice-aggregate-is-same-17 c = search needs
-
-is-same-requires-17 : tie.Need-is-same-requires-17
-is-same-requires-17 c κs = search needs
 
 returns-17 : tie.Need-returns-17
 returns-17 c = next-hit (passed-16 (c .before .before .before)) (sym (c .before .is-same17 .ensures) ∙ c .if17 .taken)
@@ -271,55 +169,55 @@ pub kind-place-spec : {M : Type 1} → statement M
 kind-place-spec =
     tie.close
     (tie.spec
-    slice-aggregate-is-same
-    is-same-requires
+    (λ c. search needs)
+    (λ c κs. search needs)
     returns
-    slice-aggregate-is-same-2
-    is-same-requires-2
+    (λ c. search needs)
+    (λ c κs. search needs)
     returns-2
-    slice-aggregate-is-same-3
-    is-same-requires-3
+    (λ c. search needs)
+    (λ c κs. search needs)
     returns-3
-    slice-aggregate-is-same-4
-    is-same-requires-4
+    (λ c. search needs)
+    (λ c κs. search needs)
     returns-4
-    slice-aggregate-is-same-5
-    is-same-requires-5
+    (λ c. search needs)
+    (λ c κs. search needs)
     returns-5
-    slice-aggregate-is-same-6
-    is-same-requires-6
+    (λ c. search needs)
+    (λ c κs. search needs)
     returns-6
-    slice-aggregate-is-same-7
-    is-same-requires-7
+    (λ c. search needs)
+    (λ c κs. search needs)
     returns-7
-    slice-aggregate-is-same-8
-    is-same-requires-8
+    (λ c. search needs)
+    (λ c κs. search needs)
     returns-8
-    slice-aggregate-is-same-9
-    is-same-requires-9
+    (λ c. search needs)
+    (λ c κs. search needs)
     returns-9
-    slice-aggregate-is-same-10
-    is-same-requires-10
+    (λ c. search needs)
+    (λ c κs. search needs)
     returns-10
-    slice-aggregate-is-same-11
-    is-same-requires-11
+    (λ c. search needs)
+    (λ c κs. search needs)
     returns-11
-    slice-aggregate-is-same-12
-    is-same-requires-12
+    (λ c. search needs)
+    (λ c κs. search needs)
     returns-12
-    slice-aggregate-is-same-13
-    is-same-requires-13
+    (λ c. search needs)
+    (λ c κs. search needs)
     returns-13
-    slice-aggregate-is-same-14
-    is-same-requires-14
+    (λ c. search needs)
+    (λ c κs. search needs)
     returns-14
-    slice-aggregate-is-same-15
-    is-same-requires-15
+    (λ c. search needs)
+    (λ c κs. search needs)
     returns-15
-    slice-aggregate-is-same-16
-    is-same-requires-16
+    (λ c. search needs)
+    (λ c κs. search needs)
     returns-16
-    slice-aggregate-is-same-17
-    is-same-requires-17
+    (λ c. search needs)
+    (λ c κs. search needs)
     returns-17
     returns-18)

@@ -16,15 +16,6 @@ use Rattle.json_reading.proofs.number_in.Tie as tie
 told : (c : tie.After-read-number) (r : Number) → c .read-number .result ≡ r → let x = c .before .before .args .x .now in Says x r (parse idLimit x)
 told c r e = let x = c .before .before .args .x .now in subst (λ (y : Number). Says x y (parse idLimit x)) e (c .read-number .ensures)
 
-cast-read-number : tie.Need-cast-read-number
-cast-read-number c = search needs
-
-read-number-requires : tie.Need-read-number-requires
-read-number-requires c κs = search needs
-
-enum-known-n : tie.Need-enum-known-n
-enum-known-n c = search needs
-
 returns : tie.Need-returns
 returns c =
     let k = c .before .before in
@@ -37,12 +28,6 @@ cast-t9 c =
     let r = k .before .before in
     let x = r .before .before .args .x .now in
     omega (arith, digits-parse idLimit _ _ x (told r _ (k .n .given .1) .0) .within)
-
-enum-told : tie.Need-enum-told
-enum-told c = search needs
-
-enum-told-2 : tie.Need-enum-told-2
-enum-told-2 c = search needs
 
 returns-2 : tie.Need-returns-2
 returns-2 c =
@@ -60,13 +45,13 @@ pub number-in-spec : {M : Type 1} → statement M
 number-in-spec =
     tie.close
     (tie.spec
-    cast-read-number
-    read-number-requires
-    enum-known-n
+    (λ c. search needs)
+    (λ c κs. search needs)
+    (λ c. search needs)
     returns
     cast-t9
-    enum-told
-    enum-told-2
+    (λ c. search needs)
+    (λ c. search needs)
     returns-2
     returns-3
     returns-4)

@@ -20,12 +20,6 @@ told c r e =
     let a = c .before .before .args in
     subst (λ (x : TokenAt). TokenSays (a .s .now) (a .at) x (tokens (drop (a .at) (a .s .now)))) e (c .next-token .ensures)
 
-next-token-requires : tie.Need-next-token-requires
-next-token-requires c κs = search needs
-
-enum-known-b : tie.Need-enum-known-b
-enum-known-b c = search needs
-
 returns : tie.Need-returns
 returns c =
     let k = c .before .before in
@@ -33,15 +27,6 @@ returns c =
     let f = k .b .given in
     let says = told r _ (f .1) in
     (says .0 ∙ ap (λ (b : ℕ). mark b ∷ tokens (drop (f .0 .1 .0) (r .before .before .args .s .now))) (c .if1 .taken), (says .1, says .2))
-
-enum-told : tie.Need-enum-told
-enum-told c = search needs
-
-enum-told-2 : tie.Need-enum-told-2
-enum-told-2 c = search needs
-
-enum-told-3 : tie.Need-enum-told-3
-enum-told-3 c = search needs
 
 returns-2 : tie.Need-returns-2
 returns-2 c =
@@ -62,12 +47,12 @@ pub pass-mark-spec : {M : Type 1} → statement M
 pass-mark-spec =
     tie.close
     (tie.spec
-    next-token-requires
-    enum-known-b
+    (λ c κs. search needs)
+    (λ c. search needs)
     returns
-    enum-told
-    enum-told-2
-    enum-told-3
+    (λ c. search needs)
+    (λ c. search needs)
+    (λ c. search needs)
     returns-2
     returns-3
     returns-4

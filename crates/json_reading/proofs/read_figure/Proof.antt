@@ -10,8 +10,7 @@ use Rattle.json_reading.specs.declared.NumberAt.{NumberAt}
 use Rattle.json_reading.specs.declared.Settings.{Settings}
 use Rattle.json_reading.specs.declared.Passed.{Passed}
 use Rattle.json_reading.proofs.Keys.{depth-last}
-use Rattle.json_reading.proofs.Values.{says-missed, says-held, holds-figure, holds-flags, holds-nothing}
-use Rattle.json_reading.proofs.Values.{actor-took, actor-missed, flags-took, flags-missed, depth-took, depth-missed}
+use Rattle.json_reading.proofs.Values.{says-missed, says-held, holds-figure, holds-flags, holds-nothing, actor-took, actor-missed, flags-took, flags-missed, depth-took, depth-missed}
 use Rattle.json_reading.proofs.read_figure.Statement.{statement}
 use Rattle.json_reading.proofs.read_figure.Tie as tie
 
@@ -34,21 +33,6 @@ passed c r e =
     let a = c .before .before .before .before .args in
     subst (λ (x : Passed). PassedSays (a .s .now) (a .at) zeroMark x (tokens (drop (a .at) (a .s .now)))) e (c .pass-mark .ensures)
 
-read-number-requires : tie.Need-read-number-requires
-read-number-requires c κs = search needs
-
-enum-known-n : tie.Need-enum-known-n
-enum-known-n c = search needs
-
-held-number-requires : tie.Need-held-number-requires
-held-number-requires c κs = search needs
-
-enum-told : tie.Need-enum-told
-enum-told c = search needs
-
-not-held-requires : tie.Need-not-held-requires
-not-held-requires c κs = search needs
-
 returns : tie.Need-returns
 returns c =
     let m = c .before .before .before .before in
@@ -64,21 +48,6 @@ returns-2 c =
     let a = m .before .before .before .args in
     says-missed (a .s .now) (a .at) (a .key) _ _ (actor-missed _ _ (m .before .if1 .taken) (number m _ (c .before .enum-told .given .1))) (c .not-held .ensures)
 
-read-settings-requires : tie.Need-read-settings-requires
-read-settings-requires c κs = search needs
-
-enum-known-flags : tie.Need-enum-known-flags
-enum-known-flags c = search needs
-
-held-number-requires-2 : tie.Need-held-number-requires-2
-held-number-requires-2 c κs = search needs
-
-enum-told-2 : tie.Need-enum-told-2
-enum-told-2 c = search needs
-
-not-held-requires-2 : tie.Need-not-held-requires-2
-not-held-requires-2 c κs = search needs
-
 returns-3 : tie.Need-returns-3
 returns-3 c =
     let m = c .before .before .before .before in
@@ -93,21 +62,6 @@ returns-4 c =
     let m = c .before .before .before in
     let a = m .before .before .before .before .args in
     says-missed (a .s .now) (a .at) (a .key) _ _ (flags-missed _ _ (m .before .if2 .taken) (flags m _ (c .before .enum-told2 .given .1))) (c .not-held2 .ensures)
-
-pass-mark-requires : tie.Need-pass-mark-requires
-pass-mark-requires c κs = search needs
-
-enum-known-next : tie.Need-enum-known-next
-enum-known-next c = search needs
-
-held-number-requires-3 : tie.Need-held-number-requires-3
-held-number-requires-3 c κs = search needs
-
-enum-told-3 : tie.Need-enum-told-3
-enum-told-3 c = search needs
-
-not-held-requires-3 : tie.Need-not-held-requires-3
-not-held-requires-3 c κs = search needs
 
 returns-5 : tie.Need-returns-5
 returns-5 c =
@@ -132,24 +86,24 @@ pub read-figure-spec : {M : Type 1} → statement M
 read-figure-spec =
     tie.close
     (tie.spec
-    read-number-requires
-    enum-known-n
-    held-number-requires
-    enum-told
-    not-held-requires
+    (λ c κs. search needs)
+    (λ c. search needs)
+    (λ c κs. search needs)
+    (λ c. search needs)
+    (λ c κs. search needs)
     returns
     returns-2
-    read-settings-requires
-    enum-known-flags
-    held-number-requires-2
-    enum-told-2
-    not-held-requires-2
+    (λ c κs. search needs)
+    (λ c. search needs)
+    (λ c κs. search needs)
+    (λ c. search needs)
+    (λ c κs. search needs)
     returns-3
     returns-4
-    pass-mark-requires
-    enum-known-next
-    held-number-requires-3
-    enum-told-3
-    not-held-requires-3
+    (λ c κs. search needs)
+    (λ c. search needs)
+    (λ c κs. search needs)
+    (λ c. search needs)
+    (λ c κs. search needs)
     returns-5
     returns-6)

@@ -46,12 +46,6 @@ parted c r e =
 loop-holds : tie.Need-loop-holds Inv-loop μ-loop
 loop-holds c = reading-start (c .before .args .s .now) (c .before .args .begun)
 
-read-setting-requires : tie.Need-read-setting-requires Inv-loop μ-loop
-read-setting-requires c κs = search needs
-
-enum-known-flag : tie.Need-enum-known-flag Inv-loop μ-loop
-enum-known-flag c = search needs
-
 array-read-if1 : tie.Need-array-read-if1 Inv-loop μ-loop
 array-read-if1 c = told (c .before .before .before) _ (c .before .flag .given .1) .1
 
@@ -66,12 +60,6 @@ array-write-seen c = told (c .before .before .before .before) _ (c .before .befo
 
 array-write-set : tie.Need-array-write-set Inv-loop μ-loop
 array-write-set c = told (c .before .before .before .before) _ (c .before .before .flag .given .1) .1
-
-read-separator-requires : tie.Need-read-separator-requires Inv-loop μ-loop
-read-separator-requires c κs = search needs
-
-enum-known-next : tie.Need-enum-known-next Inv-loop μ-loop
-enum-known-next c = search needs
 
 loop-less : tie.Need-loop-less Inv-loop μ-loop
 loop-less c =
@@ -91,12 +79,6 @@ loop-again c =
     let comma = parted p _ (f .1) in
     reading-more (loop .inv) (one .0) (one .1) (f .0 .0) (p .before .if1 .left) (comma .0) (omega (arith, loop .inv .onward, one .2 .0, comma .1 .0))
 
-enum-known-next-2 : tie.Need-enum-known-next-2 Inv-loop μ-loop
-enum-known-next-2 c = search needs
-
-flags-number-requires : tie.Need-flags-number-requires Inv-loop μ-loop
-flags-number-requires c κs = search needs
-
 returns-2 : tie.Need-returns-2 Inv-loop μ-loop
 returns-2 c =
     let p = c .before .before .before .before in
@@ -111,18 +93,12 @@ returns-2 c =
     (reading-done (loop .inv) (one .0) (one .1) (f .0 .0) (p .before .if1 .left) (close .0)
     (omega (arith, loop .inv .onward, one .2 .0, close .1 .0), close .1 .1))
 
-enum-told : tie.Need-enum-told Inv-loop μ-loop
-enum-told c = search needs
-
 returns-3 : tie.Need-returns-3 Inv-loop μ-loop
 returns-3 c =
     let p = c .before .before in
     let k = p .before .before .before in
     let one = told (k .before .before) _ (k .flag .given .1) in
     reading-broken (k .before .before .before .loop .inv) (one .0) (one .1) (parted p _ (c .enum-told .given .1))
-
-enum-told-2 : tie.Need-enum-told-2 Inv-loop μ-loop
-enum-told-2 c = search needs
 
 returns-4 : tie.Need-returns-4 Inv-loop μ-loop
 returns-4 c = reading-missed (c .before .before .before .loop .inv) (told (c .before .before) _ (c .enum-told2 .given .1))
@@ -134,20 +110,20 @@ read-flags-spec =
     Inv-loop
     μ-loop
     loop-holds
-    read-setting-requires
-    enum-known-flag
+    (λ c κs. search needs)
+    (λ c. search needs)
     array-read-if1
     returns
     array-write-seen
     array-write-set
-    read-separator-requires
-    enum-known-next
+    (λ c κs. search needs)
+    (λ c. search needs)
     loop-less
     loop-again
-    enum-known-next-2
-    flags-number-requires
+    (λ c. search needs)
+    (λ c κs. search needs)
     returns-2
-    enum-told
+    (λ c. search needs)
     returns-3
-    enum-told-2
+    (λ c. search needs)
     returns-4)

@@ -45,33 +45,6 @@ told-separator c r e =
 loop-holds : tie.Need-loop-holds Inv-loop μ-loop
 loop-holds c = listing-start _ _ _ _
 
-read-number-requires : tie.Need-read-number-requires Inv-loop μ-loop
-read-number-requires c κs = search needs
-
-enum-known-n : tie.Need-enum-known-n Inv-loop μ-loop
-enum-known-n c = search needs
-
-add-numbers : tie.Need-add-numbers Inv-loop μ-loop
-add-numbers c = omega arith
-
-mul-numbers : tie.Need-mul-numbers Inv-loop μ-loop
-mul-numbers c = omega arith
-
-slice-write-numbers : tie.Need-slice-write-numbers Inv-loop μ-loop
-slice-write-numbers c = omega arith
-
-add-count : tie.Need-add-count Inv-loop μ-loop
-add-count c = omega arith
-
-read-separator-requires : tie.Need-read-separator-requires Inv-loop μ-loop
-read-separator-requires c κs = search needs
-
-enum-known-next : tie.Need-enum-known-next Inv-loop μ-loop
-enum-known-next c = search needs
-
-loop-less : tie.Need-loop-less Inv-loop μ-loop
-loop-less c = omega arith
-
 loop-again : tie.Need-loop-again Inv-loop μ-loop
 loop-again c =
     let d = c .before .before .before in
@@ -81,9 +54,6 @@ loop-again c =
     let read = told r _ (k .n .given .1) in
     let says = told-separator d _ (c .before .next .given .1) in
     listing-more (l .loop .inv) _ _ (read .0) (l .before .before .before .pre) (r .before .loop-test .taken) _ (omega arith) (says .0)
-
-enum-known-next-2 : tie.Need-enum-known-next-2 Inv-loop μ-loop
-enum-known-next-2 c = search needs
 
 same-length : tie.Need-same-length Inv-loop μ-loop
 same-length c = simp length-set (c .before .before .before .before .before .before .before .before .before .loop .inv .kept)
@@ -98,9 +68,6 @@ returns c =
     let says = told-separator d _ (c .before .next2 .given .1) in
     listing-done (l .loop .inv) _ _ (read .0) (l .before .before .before .pre) (r .before .loop-test .taken) _ (omega arith) (says .0) (says .1 .1)
 
-enum-told : tie.Need-enum-told Inv-loop μ-loop
-enum-told c = search needs
-
 same-length-2 : tie.Need-same-length-2 Inv-loop μ-loop
 same-length-2 c = simp length-set (c .before .before .before .before .before .before .before .before .loop .inv .kept)
 
@@ -110,9 +77,6 @@ returns-2 c =
     let k = d .before .before in
     let r = k .before .before in
     listing-broken (r .before .before .loop .inv) _ _ (told r _ (k .n .given .1) .0) (told-separator d _ (c .enum-told .given .1))
-
-enum-told-2 : tie.Need-enum-told-2 Inv-loop μ-loop
-enum-told-2 c = search needs
 
 same-length-3 : tie.Need-same-length-3 Inv-loop μ-loop
 same-length-3 c = c .before .before .before .before .loop .inv .kept
@@ -135,23 +99,23 @@ read-items-spec =
     Inv-loop
     μ-loop
     loop-holds
-    read-number-requires
-    enum-known-n
-    add-numbers
-    mul-numbers
-    slice-write-numbers
-    add-count
-    read-separator-requires
-    enum-known-next
-    loop-less
+    (λ c κs. search needs)
+    (λ c. search needs)
+    (λ c. omega arith)
+    (λ c. omega arith)
+    (λ c. omega arith)
+    (λ c. omega arith)
+    (λ c κs. search needs)
+    (λ c. search needs)
+    (λ c. omega arith)
     loop-again
-    enum-known-next-2
+    (λ c. search needs)
     same-length
     returns
-    enum-told
+    (λ c. search needs)
     same-length-2
     returns-2
-    enum-told-2
+    (λ c. search needs)
     same-length-3
     returns-3
     same-length-4

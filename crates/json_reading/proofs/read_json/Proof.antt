@@ -38,42 +38,18 @@ used-told c left =
     let d = c .before .before .before .before .before .before .before .read-object .result in
     leb-true _ _ (and-right (draftFull (d .seen)) _ (full-told c left))
 
-refused-requires : tie.Need-refused-requires
-refused-requires c κs = search needs
-
 returns : tie.Need-returns
 returns c = c .refused .ensures ∙ sym (json-late _ _ (c .before .if1 .taken))
-
-slice-aggregate-read-object : tie.Need-slice-aggregate-read-object
-slice-aggregate-read-object c = search needs
-
-read-object-requires : tie.Need-read-object-requires
-read-object-requires c κs = search needs
-
-refused-requires-2 : tie.Need-refused-requires-2
-refused-requires-2 c κs = search needs
 
 returns-2 : tie.Need-returns-2
 returns-2 c =
     let o = c .before .before .before in
     c .refused2 .ensures ∙ sym (json-unadmitted (o .before .before .if1 .left) (o .read-object .ensures) (not-true _ (c .before .if2 .taken)))
 
-element-copy-out-reads : tie.Need-element-copy-out-reads
-element-copy-out-reads c = search needs
-
-element-copy-out-writes : tie.Need-element-copy-out-writes
-element-copy-out-writes c = search needs
-
-element-copy-out-executes : tie.Need-element-copy-out-executes
-element-copy-out-executes c = search needs
-
 is-full-requires : tie.Need-is-full-requires
 is-full-requires c κs =
     let short = admitted-told (c .before .before .before .before .before) (c .before .before .before .before .if2 .left) .drafted .kept .short in
     (short readPlace (omega arith) (omega arith), short writePlace (omega arith) (omega arith), short executePlace (omega arith) (omega arith))
-
-refused-requires-3 : tie.Need-refused-requires-3
-refused-requires-3 c κs = search needs
 
 returns-3 : tie.Need-returns-3
 returns-3 c =
@@ -83,18 +59,9 @@ returns-3 c =
     let lacking = sym (f .is-full .ensures) ∙ not-true _ (c .before .if3 .taken) in
     c .refused3 .ensures ∙ sym (json-partial (n .before .before .before .if1 .left) a (n .numbers2 .given) lacking)
 
-slice-aggregate-uses-of : tie.Need-slice-aggregate-uses-of
-slice-aggregate-uses-of c = search needs
-
 uses-of-requires : tie.Need-uses-of-requires
 uses-of-requires c κs =
     (c .before .before .before .before .before .before .before .before .numbers2 .given, used-told (c .before .before) (c .before .if3 .left))
-
-element-copy-out-t33 : tie.Need-element-copy-out-t33
-element-copy-out-t33 c = search needs
-
-element-copy-out-t36 : tie.Need-element-copy-out-t36
-element-copy-out-t36 c = search needs
 
 add-id-of : tie.Need-add-id-of
 add-id-of c = omega (arith, used-told (c .before .before .before .before .before) (c .before .before .before .before .if3 .left))
@@ -102,21 +69,12 @@ add-id-of c = omega (arith, used-told (c .before .before .before .before .before
 add-id-of-2 : tie.Need-add-id-of-2
 add-id-of-2 c = omega (arith, used-told (c .before .before .before .before .before) (c .before .before .before .before .if3 .left))
 
-element-copy-out-len : tie.Need-element-copy-out-len
-element-copy-out-len c = search needs
-
-element-copy-out-id-of : tie.Need-element-copy-out-id-of
-element-copy-out-id-of c = search needs
-
 id-of-requires : tie.Need-id-of-requires
 id-of-requires c κs =
     let f = c .before .before .before .before .before .before .before in
     let n = f .before .before .before .before .before .before in
     let a = admitted-told n (f .before .before .before .before .before .if2 .left) in
     id-inside (a .drafted .kept) (n .numbers2 .given) (and-left _ _ (full-told f (c .before .before .before .before .before .before .if3 .left)))
-
-element-copy-out-t33-2 : tie.Need-element-copy-out-t33-2
-element-copy-out-t33-2 c = search needs
 
 returns-4 : tie.Need-returns-4
 returns-4 c =
@@ -132,26 +90,26 @@ pub read-json-spec : {M : Type 1} → statement M
 read-json-spec =
     tie.close
     (tie.spec
-    refused-requires
+    (λ c κs. search needs)
     returns
-    slice-aggregate-read-object
-    read-object-requires
-    refused-requires-2
+    (λ c. search needs)
+    (λ c κs. search needs)
+    (λ c κs. search needs)
     returns-2
-    element-copy-out-reads
-    element-copy-out-writes
-    element-copy-out-executes
+    (λ c. search needs)
+    (λ c. search needs)
+    (λ c. search needs)
     is-full-requires
-    refused-requires-3
+    (λ c κs. search needs)
     returns-3
-    slice-aggregate-uses-of
+    (λ c. search needs)
     uses-of-requires
-    element-copy-out-t33
-    element-copy-out-t36
+    (λ c. search needs)
+    (λ c. search needs)
     add-id-of
     add-id-of-2
-    element-copy-out-len
-    element-copy-out-id-of
+    (λ c. search needs)
+    (λ c. search needs)
     id-of-requires
-    element-copy-out-t33-2
+    (λ c. search needs)
     returns-4)

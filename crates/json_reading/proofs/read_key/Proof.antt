@@ -31,12 +31,6 @@ passed c r e =
     subst (λ (x : Passed). PassedSays (a .s .now) (k .from .given .0 .1 .0 + 1) colon x (tokens (drop (k .from .given .0 .1 .0 + 1) (a .s .now))))
     e (c .pass-mark .ensures)
 
-next-token-requires : tie.Need-next-token-requires
-next-token-requires c κs = search needs
-
-enum-known-from : tie.Need-enum-known-from
-enum-known-from c = search needs
-
 sub-key-place : tie.Need-sub-key-place
 sub-key-place c =
     let k = c .before in
@@ -55,32 +49,11 @@ part-key-place-end c =
     let t = told (k .before .before) _ (k .from .given .1) in
     omega arith
 
-key-place-requires : tie.Need-key-place-requires
-key-place-requires c κs = search needs
-
 add-pass-mark : tie.Need-add-pass-mark
 add-pass-mark c =
     let k = c .before .before .before in
     let t = told (k .before .before) _ (k .from .given .1) in
     omega arith
-
-pass-mark-requires : tie.Need-pass-mark-requires
-pass-mark-requires c κs = search needs
-
-enum-known-next : tie.Need-enum-known-next
-enum-known-next c = search needs
-
-enum-told : tie.Need-enum-told
-enum-told c = search needs
-
-enum-told-2 : tie.Need-enum-told-2
-enum-told-2 c = search needs
-
-enum-told-3 : tie.Need-enum-told-3
-enum-told-3 c = search needs
-
-enum-told-4 : tie.Need-enum-told-4
-enum-told-4 c = search needs
 
 returns : tie.Need-returns
 returns c =
@@ -115,19 +88,19 @@ pub read-key-spec : {M : Type 1} → statement M
 read-key-spec =
     tie.close
     (tie.spec
-    next-token-requires
-    enum-known-from
+    (λ c κs. search needs)
+    (λ c. search needs)
     sub-key-place
     part-key-place-start
     part-key-place-end
-    key-place-requires
+    (λ c κs. search needs)
     add-pass-mark
-    pass-mark-requires
-    enum-known-next
-    enum-told
-    enum-told-2
-    enum-told-3
-    enum-told-4
+    (λ c κs. search needs)
+    (λ c. search needs)
+    (λ c. search needs)
+    (λ c. search needs)
+    (λ c. search needs)
+    (λ c. search needs)
     returns
     returns-2
     returns-3

@@ -34,12 +34,6 @@ told-text c r e =
     let s = c .before .before .before .before .before .before .before .args .s .now in
     subst (λ (x : Exact). ExactSays x (parse idLimit (part (f .0 .0) (f .0 .1 .0) s))) e (c .number-in .ensures)
 
-next-token-requires : tie.Need-next-token-requires
-next-token-requires c κs = search needs
-
-enum-known-from : tie.Need-enum-known-from
-enum-known-from c = search needs
-
 sub-number-in : tie.Need-sub-number-in
 sub-number-in c = let k = c .before in let says = told (k .before .before) _ (k .from .given .1) in omega arith
 
@@ -49,29 +43,11 @@ part-number-in-start c = let k = c .before in let says = told (k .before .before
 part-number-in-end : tie.Need-part-number-in-end
 part-number-in-end c = let k = c .before in let says = told (k .before .before) _ (k .from .given .1) in omega arith
 
-number-in-requires : tie.Need-number-in-requires
-number-in-requires c κs = search needs
-
-enum-known-n : tie.Need-enum-known-n
-enum-known-n c = search needs
-
 add-t14 : tie.Need-add-t14
 add-t14 c =
     let k = c .before .before .before .before .before .before in
     let says = told (k .before .before) _ (k .from .given .1) in
     omega arith
-
-enum-told : tie.Need-enum-told
-enum-told c = search needs
-
-enum-told-2 : tie.Need-enum-told-2
-enum-told-2 c = search needs
-
-enum-told-3 : tie.Need-enum-told-3
-enum-told-3 c = search needs
-
-enum-told-4 : tie.Need-enum-told-4
-enum-told-4 c = search needs
 
 returns : tie.Need-returns
 returns c =
@@ -102,18 +78,18 @@ pub read-number-spec : {M : Type 1} → statement M
 read-number-spec =
     tie.close
     (tie.spec
-    next-token-requires
-    enum-known-from
+    (λ c κs. search needs)
+    (λ c. search needs)
     sub-number-in
     part-number-in-start
     part-number-in-end
-    number-in-requires
-    enum-known-n
+    (λ c κs. search needs)
+    (λ c. search needs)
     add-t14
-    enum-told
-    enum-told-2
-    enum-told-3
-    enum-told-4
+    (λ c. search needs)
+    (λ c. search needs)
+    (λ c. search needs)
+    (λ c. search needs)
     returns
     returns-2
     returns-3

@@ -28,27 +28,6 @@ told-close c r e =
     let s = k .before .before .before .before .before .args .s .now in
     subst (λ (x : Passed). PassedSays s (k .begun .given .0 .0) closesList x (tokens (drop (k .begun .given .0 .0) s))) e (c .pass-mark2 .ensures)
 
-pass-mark-requires : tie.Need-pass-mark-requires
-pass-mark-requires c κs = search needs
-
-enum-known-begun : tie.Need-enum-known-begun
-enum-known-begun c = search needs
-
-pass-mark-requires-2 : tie.Need-pass-mark-requires-2
-pass-mark-requires-2 c κs = search needs
-
-enum-known-next : tie.Need-enum-known-next
-enum-known-next c = search needs
-
-enum-told : tie.Need-enum-told
-enum-told c = search needs
-
-read-items-requires : tie.Need-read-items-requires
-read-items-requires c κs = search needs
-
-enum-told-2 : tie.Need-enum-told-2
-enum-told-2 c = search needs
-
 returns : tie.Need-returns
 returns c =
     let d = c .before .before .before in
@@ -58,9 +37,6 @@ returns c =
     let opened = told r _ (k .begun .given .1) in
     let closed = told-close d _ (c .before .next .given .1) in
     says-none (a .s .now) (a .at) _ (a .base) (a .numbers .now) _ (opened .0) (closed .0) (omega arith, closed .1 .1)
-
-same-length : tie.Need-same-length
-same-length c = search needs
 
 returns-2 : tie.Need-returns-2
 returns-2 c =
@@ -81,14 +57,14 @@ pub read-numbers-spec : {M : Type 1} → statement M
 read-numbers-spec =
     tie.close
     (tie.spec
-    pass-mark-requires
-    enum-known-begun
-    pass-mark-requires-2
-    enum-known-next
-    enum-told
-    read-items-requires
-    enum-told-2
+    (λ c κs. search needs)
+    (λ c. search needs)
+    (λ c κs. search needs)
+    (λ c. search needs)
+    (λ c. search needs)
+    (λ c κs. search needs)
+    (λ c. search needs)
     returns
-    same-length
+    (λ c. search needs)
     returns-2
     returns-3)

@@ -30,57 +30,12 @@ token-told c r e =
     let s = m .before .before .before .before .before .before .before .before .args .s .now in
     subst (λ (x : TokenAt). TokenSays s (m .read-members .result .next) x (tokens (drop (m .read-members .result .next) s))) e (c .next-token .ensures)
 
-pass-mark-requires : tie.Need-pass-mark-requires
-pass-mark-requires c κs = search needs
-
-enum-known-begun : tie.Need-enum-known-begun
-enum-known-begun c = search needs
-
-read-members-requires : tie.Need-read-members-requires
-read-members-requires c κs = search needs
-
-next-token-requires : tie.Need-next-token-requires
-next-token-requires c κs = search needs
-
-enum-told : tie.Need-enum-told
-enum-told c = search needs
-
-enum-told-2 : tie.Need-enum-told-2
-enum-told-2 c = search needs
-
-no-draft-requires : tie.Need-no-draft-requires
-no-draft-requires c κs = search needs
-
-enum-told-3 : tie.Need-enum-told-3
-enum-told-3 c = search needs
-
-no-draft-requires-2 : tie.Need-no-draft-requires-2
-no-draft-requires-2 c κs = search needs
-
-enum-told-4 : tie.Need-enum-told-4
-enum-told-4 c = search needs
-
-no-draft-requires-3 : tie.Need-no-draft-requires-3
-no-draft-requires-3 c κs = search needs
-
-enum-told-5 : tie.Need-enum-told-5
-enum-told-5 c = search needs
-
-no-draft-requires-4 : tie.Need-no-draft-requires-4
-no-draft-requires-4 c κs = search needs
-
-same-length : tie.Need-same-length
-same-length c = search needs
-
 returns : tie.Need-returns
 returns c =
     let p = c .before .before in
     let m = p .before .before .before in
     let b = m .before .before .before in
     object-ended _ _ (mark-told (b .before .before) _ (b .begun .given .1) .0) _ (m .read-members .ensures) (token-told p _ (c .enum-told .given .1))
-
-same-length-2 : tie.Need-same-length-2
-same-length-2 c = search needs
 
 returns-2 : tie.Need-returns-2
 returns-2 c =
@@ -90,9 +45,6 @@ returns-2 c =
     object-followed _ _ (mark-told (b .before .before) _ (b .begun .given .1) .0) _ (m .read-members .ensures) _ _ _
     (token-told p _ (c .before .enum-told2 .given .1) .0) (c .no-draft .ensures)
 
-same-length-3 : tie.Need-same-length-3
-same-length-3 c = search needs
-
 returns-3 : tie.Need-returns-3
 returns-3 c =
     let p = c .before .before .before in
@@ -100,9 +52,6 @@ returns-3 c =
     let b = m .before .before .before in
     object-followed _ _ (mark-told (b .before .before) _ (b .begun .given .1) .0) _ (m .read-members .ensures) _ _ _
     (token-told p _ (c .before .enum-told3 .given .1) .0) (c .no-draft2 .ensures)
-
-same-length-4 : tie.Need-same-length-4
-same-length-4 c = search needs
 
 returns-4 : tie.Need-returns-4
 returns-4 c =
@@ -119,25 +68,25 @@ pub read-object-spec : {M : Type 1} → statement M
 read-object-spec =
     tie.close
     (tie.spec
-    pass-mark-requires
-    enum-known-begun
-    read-members-requires
-    next-token-requires
-    enum-told
-    enum-told-2
-    no-draft-requires
-    enum-told-3
-    no-draft-requires-2
-    enum-told-4
-    no-draft-requires-3
-    enum-told-5
-    no-draft-requires-4
-    same-length
+    (λ c κs. search needs)
+    (λ c. search needs)
+    (λ c κs. search needs)
+    (λ c κs. search needs)
+    (λ c. search needs)
+    (λ c. search needs)
+    (λ c κs. search needs)
+    (λ c. search needs)
+    (λ c κs. search needs)
+    (λ c. search needs)
+    (λ c κs. search needs)
+    (λ c. search needs)
+    (λ c κs. search needs)
+    (λ c. search needs)
     returns
-    same-length-2
+    (λ c. search needs)
     returns-2
-    same-length-3
+    (λ c. search needs)
     returns-3
-    same-length-4
+    (λ c. search needs)
     returns-4
     returns-5)

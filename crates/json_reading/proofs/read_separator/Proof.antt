@@ -18,12 +18,6 @@ told c r e =
     let a = c .before .before .args in
     subst (λ (x : TokenAt). TokenSays (a .s .now) (a .at) x (tokens (drop (a .at) (a .s .now)))) e (c .next-token .ensures)
 
-next-token-requires : tie.Need-next-token-requires
-next-token-requires c κs = search needs
-
-enum-known-b : tie.Need-enum-known-b
-enum-known-b c = search needs
-
 returns : tie.Need-returns
 returns c =
     let k = c .before .before in
@@ -39,15 +33,6 @@ returns-2 c =
     let a = r .before .before .args in
     let says = told r _ (k .b .given .1) in
     (ap (separation (a .close)) (says .0) ∙ separation-close (a .close) _ _ (c .before .if1 .left) (c .if2 .taken), (says .1, says .2))
-
-enum-told : tie.Need-enum-told
-enum-told c = search needs
-
-enum-told-2 : tie.Need-enum-told-2
-enum-told-2 c = search needs
-
-enum-told-3 : tie.Need-enum-told-3
-enum-told-3 c = search needs
 
 returns-3 : tie.Need-returns-3
 returns-3 c =
@@ -69,13 +54,13 @@ pub read-separator-spec : {M : Type 1} → statement M
 read-separator-spec =
     tie.close
     (tie.spec
-    next-token-requires
-    enum-known-b
+    (λ c κs. search needs)
+    (λ c. search needs)
     returns
     returns-2
-    enum-told
-    enum-told-2
-    enum-told-3
+    (λ c. search needs)
+    (λ c. search needs)
+    (λ c. search needs)
     returns-3
     returns-4
     returns-5

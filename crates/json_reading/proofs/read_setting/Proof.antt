@@ -41,12 +41,6 @@ passed c r e =
     let next = k .from .given .0 .1 .0 + 1 in
     subst (λ (x : Passed). PassedSays s next colon x (tokens (drop next s))) e (c .pass-mark .ensures)
 
-next-token-requires : tie.Need-next-token-requires
-next-token-requires c κs = search needs
-
-enum-known-from : tie.Need-enum-known-from
-enum-known-from c = search needs
-
 sub-flag-place : tie.Need-sub-flag-place
 sub-flag-place c = let w = within (c .before) in omega arith
 
@@ -56,32 +50,8 @@ part-flag-place-start c = let w = within (c .before) in omega arith
 part-flag-place-end : tie.Need-part-flag-place-end
 part-flag-place-end c = let w = within (c .before) in omega arith
 
-flag-place-requires : tie.Need-flag-place-requires
-flag-place-requires c κs = search needs
-
 add-pass-mark : tie.Need-add-pass-mark
 add-pass-mark c = let w = within (c .before .before .before) in omega arith
-
-pass-mark-requires : tie.Need-pass-mark-requires
-pass-mark-requires c κs = search needs
-
-enum-known-next : tie.Need-enum-known-next
-enum-known-next c = search needs
-
-read-word-requires : tie.Need-read-word-requires
-read-word-requires c κs = search needs
-
-enum-told : tie.Need-enum-told
-enum-told c = search needs
-
-enum-told-2 : tie.Need-enum-told-2
-enum-told-2 c = search needs
-
-enum-told-3 : tie.Need-enum-told-3
-enum-told-3 c = search needs
-
-enum-told-4 : tie.Need-enum-told-4
-enum-told-4 c = search needs
 
 returns : tie.Need-returns
 returns c =
@@ -116,20 +86,20 @@ pub read-setting-spec : {M : Type 1} → statement M
 read-setting-spec =
     tie.close
     (tie.spec
-    next-token-requires
-    enum-known-from
+    (λ c κs. search needs)
+    (λ c. search needs)
     sub-flag-place
     part-flag-place-start
     part-flag-place-end
-    flag-place-requires
+    (λ c κs. search needs)
     add-pass-mark
-    pass-mark-requires
-    enum-known-next
-    read-word-requires
-    enum-told
-    enum-told-2
-    enum-told-3
-    enum-told-4
+    (λ c κs. search needs)
+    (λ c. search needs)
+    (λ c κs. search needs)
+    (λ c. search needs)
+    (λ c. search needs)
+    (λ c. search needs)
+    (λ c. search needs)
     returns
     returns-2
     returns-3

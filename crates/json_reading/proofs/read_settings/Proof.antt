@@ -18,18 +18,6 @@ passed c r e =
     let a = c .before .before .args in
     subst (λ (x : Passed). PassedSays (a .s .now) (a .at) opensObject x (tokens (drop (a .at) (a .s .now)))) e (c .pass-mark .ensures)
 
-pass-mark-requires : tie.Need-pass-mark-requires
-pass-mark-requires c κs = search needs
-
-enum-known-begun : tie.Need-enum-known-begun
-enum-known-begun c = search needs
-
-read-flags-requires : tie.Need-read-flags-requires
-read-flags-requires c κs = search needs
-
-enum-told : tie.Need-enum-told
-enum-told c = search needs
-
 returns : tie.Need-returns
 returns c =
     let p = c .before .before .before .before in
@@ -44,4 +32,4 @@ returns-2 c = settings-none _ (passed (c .before .before) _ (c .enum-told .given
 pub read-settings-spec : {M : Type 1} → statement M
 read-settings-spec =
     tie.close
-    (tie.spec pass-mark-requires enum-known-begun read-flags-requires enum-told returns returns-2)
+    (tie.spec (λ c κs. search needs) (λ c. search needs) (λ c κs. search needs) (λ c. search needs) returns returns-2)

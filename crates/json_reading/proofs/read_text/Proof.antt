@@ -12,8 +12,7 @@ use Rattle.json_actions.specs.Members.{missed, takeText, takeValue}
 use Rattle.json_reading.specs.Answers.{HeldAnyway}
 use Rattle.json_reading.specs.declared.Held.{Held}
 use Rattle.json_reading.proofs.Keys.{domain-last}
-use Rattle.json_reading.proofs.Values.{text-mark, text-none, text-broken, says-missed, says-held, holds-letters, holds-figure, holds-nothing}
-use Rattle.json_reading.proofs.Values.{id-short, id-took, id-unfit, kind-took, kind-unfit, domain-took, domain-unfit, no-text-held}
+use Rattle.json_reading.proofs.Values.{text-mark, text-none, text-broken, says-missed, says-held, holds-letters, holds-figure, holds-nothing, id-short, id-took, id-unfit, kind-took, kind-unfit, domain-took, domain-unfit, no-text-held}
 use Rattle.json_reading.proofs.read_text.Statement.{statement}
 use Rattle.json_reading.proofs.read_text.Tie as tie
 
@@ -34,12 +33,6 @@ textless c h e f =
     says-missed (a .s .now) (a .at) (a .key) h (takeValue (a .key) (tokens (drop (a .at) (a .s .now))))
     (no-text-held (a .key) (tokens (drop (a .at) (a .s .now))) (c .before .before .pre) e) f
 
-next-token-requires : tie.Need-next-token-requires
-next-token-requires c κs = search needs
-
-enum-known-from : tie.Need-enum-known-from
-enum-known-from c = search needs
-
 sub-is-id : tie.Need-sub-is-id
 sub-is-id c =
     let k = c .before .before in
@@ -57,9 +50,6 @@ part-is-id-end c =
     let k = c .before .before in
     let t = told (k .before .before) _ (k .from .given .1) in
     omega arith
-
-is-id-requires : tie.Need-is-id-requires
-is-id-requires c κs = search needs
 
 add-t16 : tie.Need-add-t16
 add-t16 c =
@@ -86,9 +76,6 @@ returns c =
     says-held (a .s .now) (a .at) (a .key) _ _ _ (end + 1) 0 from (end - from)
     (id-took _ _ _ _ (t .0) (c .before .before .before .if1 .taken) fit) refl (omega arith) (omega arith)
     (λ numbers. holds-letters _ numbers _ _ _ _ _ (c .before .before .before .if1 .taken) refl short (omega arith))
-
-not-held-requires : tie.Need-not-held-requires
-not-held-requires c κs = search needs
 
 returns-2 : tie.Need-returns-2
 returns-2 c =
@@ -117,17 +104,11 @@ part-kind-place-end c =
     let t = told (k .before .before) _ (k .from .given .1) in
     omega arith
 
-kind-place-requires : tie.Need-kind-place-requires
-kind-place-requires c κs = search needs
-
 add-held-number : tie.Need-add-held-number
 add-held-number c =
     let k = c .before .before .before .before .before .before in
     let t = told (k .before .before) _ (k .from .given .1) in
     omega arith
-
-held-number-requires : tie.Need-held-number-requires
-held-number-requires c κs = search needs
 
 returns-3 : tie.Need-returns-3
 returns-3 c =
@@ -139,9 +120,6 @@ returns-3 c =
     (kind-took _ _ _ _ (t .0) (i .before .before .if3 .taken) (omega (arith, i .kind-place .ensures))) (c .held-number .ensures) (omega arith) (omega arith)
     (λ numbers. holds-figure _ numbers _ _ _ _ _ (rw (i .before .before .if3 .taken)) (sym (i .kind-place .ensures)))
 
-not-held-requires-2 : tie.Need-not-held-requires-2
-not-held-requires-2 c κs = search needs
-
 returns-4 : tie.Need-returns-4
 returns-4 c =
     let i = c .before .before in
@@ -150,9 +128,6 @@ returns-4 c =
     let t = told (k .before .before) _ (k .from .given .1) in
     says-missed (a .s .now) (a .at) (a .key) _ _
     (kind-unfit _ _ _ _ (t .0) (i .before .before .if3 .taken) (omega (arith, i .kind-place .ensures))) (c .not-held2 .ensures)
-
-slice-aggregate-is-same : tie.Need-slice-aggregate-is-same
-slice-aggregate-is-same c = search needs
 
 sub-is-same : tie.Need-sub-is-same
 sub-is-same c =
@@ -172,17 +147,11 @@ part-is-same-end c =
     let t = told (k .before .before) _ (k .from .given .1) in
     omega arith
 
-is-same-requires : tie.Need-is-same-requires
-is-same-requires c κs = search needs
-
 add-held-number-2 : tie.Need-add-held-number-2
 add-held-number-2 c =
     let k = c .before .before .before .before .before .before .before in
     let t = told (k .before .before) _ (k .from .given .1) in
     omega arith
-
-held-number-requires-2 : tie.Need-held-number-requires-2
-held-number-requires-2 c κs = search needs
 
 returns-5 : tie.Need-returns-5
 returns-5 c =
@@ -195,27 +164,6 @@ returns-5 c =
     says-held (a .s .now) (a .at) (a .key) _ _ _ _ 0 0 0
     (domain-took _ _ _ _ (t .0) last (sym (i .is-same .ensures) ∙ c .before .if5 .taken)) (c .held-number2 .ensures) (omega arith) (omega arith)
     (λ numbers. holds-nothing _ numbers _ _ _ _ _ (omega arith))
-
-not-held-requires-3 : tie.Need-not-held-requires-3
-not-held-requires-3 c κs = search needs
-
-enum-told : tie.Need-enum-told
-enum-told c = search needs
-
-not-held-requires-4 : tie.Need-not-held-requires-4
-not-held-requires-4 c κs = search needs
-
-enum-told-2 : tie.Need-enum-told-2
-enum-told-2 c = search needs
-
-not-held-requires-5 : tie.Need-not-held-requires-5
-not-held-requires-5 c κs = search needs
-
-enum-told-3 : tie.Need-enum-told-3
-enum-told-3 c = search needs
-
-not-held-requires-6 : tie.Need-not-held-requires-6
-not-held-requires-6 c κs = search needs
 
 returns-6 : tie.Need-returns-6
 returns-6 c =
@@ -247,41 +195,41 @@ pub read-text-spec : {M : Type 1} → statement M
 read-text-spec =
     tie.close
     (tie.spec
-    next-token-requires
-    enum-known-from
+    (λ c κs. search needs)
+    (λ c. search needs)
     sub-is-id
     part-is-id-start
     part-is-id-end
-    is-id-requires
+    (λ c κs. search needs)
     add-t16
     sub-t17
     returns
-    not-held-requires
+    (λ c κs. search needs)
     returns-2
     sub-kind-place
     part-kind-place-start
     part-kind-place-end
-    kind-place-requires
+    (λ c κs. search needs)
     add-held-number
-    held-number-requires
+    (λ c κs. search needs)
     returns-3
-    not-held-requires-2
+    (λ c κs. search needs)
     returns-4
-    slice-aggregate-is-same
+    (λ c. search needs)
     sub-is-same
     part-is-same-start
     part-is-same-end
-    is-same-requires
+    (λ c κs. search needs)
     add-held-number-2
-    held-number-requires-2
+    (λ c κs. search needs)
     returns-5
-    not-held-requires-3
-    enum-told
-    not-held-requires-4
-    enum-told-2
-    not-held-requires-5
-    enum-told-3
-    not-held-requires-6
+    (λ c κs. search needs)
+    (λ c. search needs)
+    (λ c κs. search needs)
+    (λ c. search needs)
+    (λ c κs. search needs)
+    (λ c. search needs)
+    (λ c κs. search needs)
     returns-6
     returns-7
     returns-8

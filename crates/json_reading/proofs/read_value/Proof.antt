@@ -27,23 +27,8 @@ told c r e =
 sub-base : tie.Need-sub-base
 sub-base c = omega (arith, list-key (c .before .before .before .args .key) (c .if1 .taken))
 
-mul-base : tie.Need-mul-base
-mul-base c = search needs
-
 read-numbers-requires : tie.Need-read-numbers-requires
 read-numbers-requires c κs = omega (arith, list-key (c .before .before .before .before .args .key) (c .before .if1 .taken))
-
-enum-known-len : tie.Need-enum-known-len
-enum-known-len c = search needs
-
-enum-told : tie.Need-enum-told
-enum-told c = search needs
-
-not-held-requires : tie.Need-not-held-requires
-not-held-requires c κs = search needs
-
-same-length : tie.Need-same-length
-same-length c = search needs
 
 returns : tie.Need-returns
 returns c =
@@ -55,9 +40,6 @@ returns c =
       list-held (a .s .now) (a .numbers .now) _ (a .at) (a .key) (inside .0) (inside .1) (b .pre .1) (t .0) _ _ (t .1) (t .2) (t .3) (t .4) (t .5),
       λ kept. list-apart (a .s .now) (a .numbers .now) _ (a .at) (a .key) (inside .0) (inside .1) (b .pre .1) (t .0) (omega (arith, t .2, t .3)) (t .4),
     )
-
-same-length-2 : tie.Need-same-length-2
-same-length-2 c = search needs
 
 returns-2 : tie.Need-returns-2
 returns-2 c =
@@ -89,14 +71,14 @@ read-value-spec =
     tie.close
     (tie.spec
     sub-base
-    mul-base
+    (λ c. search needs)
     read-numbers-requires
-    enum-known-len
-    enum-told
-    not-held-requires
-    same-length
+    (λ c. search needs)
+    (λ c. search needs)
+    (λ c κs. search needs)
+    (λ c. search needs)
     returns
-    same-length-2
+    (λ c. search needs)
     returns-2
     read-text-requires
     returns-3

@@ -24,12 +24,6 @@ told c r e =
 returns : tie.Need-returns
 returns c = let a = c .before .before .args in set-unknown (a .flag) (tokens (drop (a .at) (a .s .now))) (c .if1 .taken)
 
-next-token-requires : tie.Need-next-token-requires
-next-token-requires c κs = search needs
-
-enum-known-b : tie.Need-enum-known-b
-enum-known-b c = search needs
-
 returns-2 : tie.Need-returns-2
 returns-2 c =
     let k = c .before .before in
@@ -49,15 +43,6 @@ returns-3 c =
     let said = told r _ (f .1) in
     let below : a .flag < flagCount = omega (arith, r .before .if1 .left) in
     (set-off (a .flag) (f .0 .0) _ _ (said .0) below (c .if3 .taken), below, (said .1, said .2))
-
-enum-told : tie.Need-enum-told
-enum-told c = search needs
-
-enum-told-2 : tie.Need-enum-told-2
-enum-told-2 c = search needs
-
-enum-told-3 : tie.Need-enum-told-3
-enum-told-3 c = search needs
 
 returns-4 : tie.Need-returns-4
 returns-4 c =
@@ -89,13 +74,13 @@ read-word-spec =
     tie.close
     (tie.spec
     returns
-    next-token-requires
-    enum-known-b
+    (λ c κs. search needs)
+    (λ c. search needs)
     returns-2
     returns-3
-    enum-told
-    enum-told-2
-    enum-told-3
+    (λ c. search needs)
+    (λ c. search needs)
+    (λ c. search needs)
     returns-4
     returns-5
     returns-6

@@ -21,77 +21,8 @@ Inv-loop numbers reads writes executes uses₀ used i₀ uses i =
 abbrev μ-loop : tie.MeasureT-loop
 μ-loop numbers reads writes executes uses₀ used i₀ uses i = used - i
 
-add-used : tie.Need-add-used Inv-loop μ-loop
-add-used c = search needs
-
-add-used-2 : tie.Need-add-used-2 Inv-loop μ-loop
-add-used-2 c = search needs
-
 loop-holds : tie.Need-loop-holds Inv-loop μ-loop
 loop-holds c = (omega arith, refl)
-
-mul-t11 : tie.Need-mul-t11 Inv-loop μ-loop
-mul-t11 c = search needs
-
-shared-slice-read-t13 : tie.Need-shared-slice-read-t13 Inv-loop μ-loop
-shared-slice-read-t13 c = search needs
-
-mul-uses : tie.Need-mul-uses Inv-loop μ-loop
-mul-uses c = search needs
-
-array-set-from-uses : tie.Need-array-set-from-uses Inv-loop μ-loop
-array-set-from-uses c = search needs
-
-add-if2 : tie.Need-add-if2 Inv-loop μ-loop
-add-if2 c = search needs
-
-add-t20 : tie.Need-add-t20 Inv-loop μ-loop
-add-t20 c = search needs
-
-sub-t21 : tie.Need-sub-t21 Inv-loop μ-loop
-sub-t21 c = search needs
-
-mul-t22 : tie.Need-mul-t22 Inv-loop μ-loop
-mul-t22 c = search needs
-
-shared-slice-read-t24 : tie.Need-shared-slice-read-t24 Inv-loop μ-loop
-shared-slice-read-t24 c = search needs
-
-mul-uses-2 : tie.Need-mul-uses-2 Inv-loop μ-loop
-mul-uses-2 c = search needs
-
-array-set-from-uses-2 : tie.Need-array-set-from-uses-2 Inv-loop μ-loop
-array-set-from-uses-2 c = search needs
-
-mul-t29 : tie.Need-mul-t29 Inv-loop μ-loop
-mul-t29 c = search needs
-
-add-t30 : tie.Need-add-t30 Inv-loop μ-loop
-add-t30 c = search needs
-
-sub-t31 : tie.Need-sub-t31 Inv-loop μ-loop
-sub-t31 c = search needs
-
-sub-t32 : tie.Need-sub-t32 Inv-loop μ-loop
-sub-t32 c = search needs
-
-mul-t33 : tie.Need-mul-t33 Inv-loop μ-loop
-mul-t33 c = search needs
-
-shared-slice-read-t35 : tie.Need-shared-slice-read-t35 Inv-loop μ-loop
-shared-slice-read-t35 c = search needs
-
-mul-uses-3 : tie.Need-mul-uses-3 Inv-loop μ-loop
-mul-uses-3 c = search needs
-
-array-set-from-uses-3 : tie.Need-array-set-from-uses-3 Inv-loop μ-loop
-array-set-from-uses-3 c = search needs
-
-add-i : tie.Need-add-i Inv-loop μ-loop
-add-i c = search needs
-
-loop-less : tie.Need-loop-less Inv-loop μ-loop
-loop-less c = search needs
 
 loop-again : tie.Need-loop-again Inv-loop μ-loop
 loop-again c =
@@ -129,29 +60,29 @@ uses-of-spec =
     (tie.spec
     Inv-loop
     μ-loop
-    add-used
-    add-used-2
+    (λ c. search needs)
+    (λ c. search needs)
     loop-holds
-    mul-t11
-    shared-slice-read-t13
-    mul-uses
-    array-set-from-uses
-    add-if2
-    add-t20
-    sub-t21
-    mul-t22
-    shared-slice-read-t24
-    mul-uses-2
-    array-set-from-uses-2
-    mul-t29
-    add-t30
-    sub-t31
-    sub-t32
-    mul-t33
-    shared-slice-read-t35
-    mul-uses-3
-    array-set-from-uses-3
-    add-i
-    loop-less
+    (λ c. search needs)
+    (λ c. search needs)
+    (λ c. search needs)
+    (λ c. search needs)
+    (λ c. search needs)
+    (λ c. search needs)
+    (λ c. search needs)
+    (λ c. search needs)
+    (λ c. search needs)
+    (λ c. search needs)
+    (λ c. search needs)
+    (λ c. search needs)
+    (λ c. search needs)
+    (λ c. search needs)
+    (λ c. search needs)
+    (λ c. search needs)
+    (λ c. search needs)
+    (λ c. search needs)
+    (λ c. search needs)
+    (λ c. search needs)
+    (λ c. search needs)
     loop-again
     returns)

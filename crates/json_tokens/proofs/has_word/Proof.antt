@@ -9,29 +9,11 @@ use Rattle.json_tokens.proofs.Walks.{same-lengths}
 use Rattle.json_tokens.proofs.has_word.Statement.{statement}
 use Rattle.json_tokens.proofs.has_word.Tie as tie
 
-sub-if1 : tie.Need-sub-if1
-sub-if1 c = search needs
-
 returns : tie.Need-returns
 returns c =
     let a = c .before .before .before .args in
     sym (same-lengths (a .word .now) (take (length (a .word .now)) (drop (a .at) (a .s .now)))
     (λ e. let short = c .if1 .taken in omega (arith, simp (length-take, length-drop) at e)))
-
-add-end : tie.Need-add-end
-add-end c = search needs
-
-sub-is-same : tie.Need-sub-is-same
-sub-is-same c = search needs
-
-part-is-same-start : tie.Need-part-is-same-start
-part-is-same-start c = search needs
-
-part-is-same-end : tie.Need-part-is-same-end
-part-is-same-end c = search needs
-
-is-same-requires : tie.Need-is-same-requires
-is-same-requires c κs = search needs
 
 returns-2 : tie.Need-returns-2
 returns-2 c =
@@ -43,11 +25,11 @@ pub has-word-spec : {M : Type 1} → statement M
 has-word-spec =
     tie.close
     (tie.spec
-    sub-if1
+    (λ c. search needs)
     returns
-    add-end
-    sub-is-same
-    part-is-same-start
-    part-is-same-end
-    is-same-requires
+    (λ c. search needs)
+    (λ c. search needs)
+    (λ c. search needs)
+    (λ c. search needs)
+    (λ c κs. search needs)
     returns-2)

@@ -13,23 +13,11 @@ use Rattle.json_tokens.proofs.next_token.Tie as tie
 returns : tie.Need-returns
 returns c = ap tokens (drop-of-length-le (c .before .before .args .s .now) (c .if1 .taken)) ∙ tokens-nil
 
-blanks-end-requires : tie.Need-blanks-end-requires
-blanks-end-requires c κs = search needs
-
 returns-2 : tie.Need-returns-2
 returns-2 c =
     let n = c .before in
     let a = n .before .before .before .args in
     tokens-none (a .s .now) (a .at) (n .blanks-end .result) (n .blanks-end .ensures .0) (c .if2 .taken)
-
-shared-slice-read-b : tie.Need-shared-slice-read-b
-shared-slice-read-b c = search needs
-
-is-mark-requires : tie.Need-is-mark-requires
-is-mark-requires c κs = search needs
-
-add-t14 : tie.Need-add-t14
-add-t14 c = search needs
 
 returns-3 : tie.Need-returns-3
 returns-3 c =
@@ -39,12 +27,6 @@ returns-3 c =
       omega arith,
       omega arith,
     )
-
-add-from : tie.Need-add-from
-add-from c = search needs
-
-quote-at-requires : tie.Need-quote-at-requires
-quote-at-requires c κs = search needs
 
 returns-4 : tie.Need-returns-4
 returns-4 c =
@@ -69,15 +51,6 @@ returns-5 c =
     tokens-unclosed (a .s .now) (a .at) (n .blanks-end .result) (n .blanks-end .ensures .0) (omega arith)
     (sym (m .is-mark .ensures) ∙ q .before .before .if3 .left) (q .before .if4 .taken) (q .quote-at .result) (q .quote-at .ensures .1) (omega arith)
 
-slice-aggregate-has-word : tie.Need-slice-aggregate-has-word
-slice-aggregate-has-word c = search needs
-
-has-word-requires : tie.Need-has-word-requires
-has-word-requires c κs = search needs
-
-add-t20 : tie.Need-add-t20
-add-t20 c = search needs
-
 returns-6 : tie.Need-returns-6
 returns-6 c =
     let w = c .before in
@@ -92,15 +65,6 @@ returns-6 c =
       omega arith,
       omega arith,
     )
-
-slice-aggregate-has-word-2 : tie.Need-slice-aggregate-has-word-2
-slice-aggregate-has-word-2 c = search needs
-
-has-word-requires-2 : tie.Need-has-word-requires-2
-has-word-requires-2 c κs = search needs
-
-add-t24 : tie.Need-add-t24
-add-t24 c = search needs
 
 returns-7 : tie.Need-returns-7
 returns-7 c =
@@ -135,22 +99,22 @@ next-token-spec =
     tie.close
     (tie.spec
     returns
-    blanks-end-requires
+    (λ c κs. search needs)
     returns-2
-    shared-slice-read-b
-    is-mark-requires
-    add-t14
+    (λ c. search needs)
+    (λ c κs. search needs)
+    (λ c. search needs)
     returns-3
-    add-from
-    quote-at-requires
+    (λ c. search needs)
+    (λ c κs. search needs)
     returns-4
     returns-5
-    slice-aggregate-has-word
-    has-word-requires
-    add-t20
+    (λ c. search needs)
+    (λ c κs. search needs)
+    (λ c. search needs)
     returns-6
-    slice-aggregate-has-word-2
-    has-word-requires-2
-    add-t24
+    (λ c. search needs)
+    (λ c κs. search needs)
+    (λ c. search needs)
     returns-7
     returns-8)

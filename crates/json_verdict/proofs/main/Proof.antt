@@ -20,103 +20,37 @@ within t old new {w} same kept = omega (arith, ap (λ (x : Written). x .length) 
 shown : (c : tie.After-json-verdict-text) → c .json-verdict-text .result .length ≤ length (c .json-verdict-text .last .1 .1 .1 .0)
 shown c = within _ _ (c .json-verdict-text .last .1 .1 .1 .0) (c .json-verdict-text .ensures .0) (c .json-verdict-text .kept .1 .1 .1 .0)
 
-large-buffer-requires : tie.Need-large-buffer-requires
-large-buffer-requires c κs = search needs
-
-slice-aggregate-load : tie.Need-slice-aggregate-load
-slice-aggregate-load c = search needs
-
-slice-aggregate-load-2 : tie.Need-slice-aggregate-load-2
-slice-aggregate-load-2 c = search needs
-
-load-requires : tie.Need-load-requires
-load-requires c κs = search needs
-
-large-buffer-requires-2 : tie.Need-large-buffer-requires-2
-large-buffer-requires-2 c κs = search needs
-
-slice-aggregate-load-3 : tie.Need-slice-aggregate-load-3
-slice-aggregate-load-3 c = search needs
-
-slice-aggregate-load-4 : tie.Need-slice-aggregate-load-4
-slice-aggregate-load-4 c = search needs
-
-load-requires-2 : tie.Need-load-requires-2
-load-requires-2 c κs = search needs
-
-large-buffer-requires-3 : tie.Need-large-buffer-requires-3
-large-buffer-requires-3 c κs = search needs
-
-slice-aggregate-load-5 : tie.Need-slice-aggregate-load-5
-slice-aggregate-load-5 c = search needs
-
-slice-aggregate-load-6 : tie.Need-slice-aggregate-load-6
-slice-aggregate-load-6 c = search needs
-
-load-requires-3 : tie.Need-load-requires-3
-load-requires-3 c κs = search needs
-
-array-share-prefix-register : tie.Need-array-share-prefix-register
-array-share-prefix-register c = search needs
-
-slice-aggregate-json-verdict-text : tie.Need-slice-aggregate-json-verdict-text
-slice-aggregate-json-verdict-text c = search needs
-
-array-share-prefix-clock : tie.Need-array-share-prefix-clock
-array-share-prefix-clock c = search needs
-
-slice-aggregate-json-verdict-text-4 : tie.Need-slice-aggregate-json-verdict-text-4
-slice-aggregate-json-verdict-text-4 c = search needs
-
-array-share-prefix-action : tie.Need-array-share-prefix-action
-array-share-prefix-action c = search needs
-
-slice-aggregate-json-verdict-text-2 : tie.Need-slice-aggregate-json-verdict-text-2
-slice-aggregate-json-verdict-text-2 c = search needs
-
-slice-aggregate-json-verdict-text-3 : tie.Need-slice-aggregate-json-verdict-text-3
-slice-aggregate-json-verdict-text-3 c = search needs
-
-json-verdict-text-requires : tie.Need-json-verdict-text-requires
-json-verdict-text-requires c κs = search needs
-
 array-share-prefix-printed : tie.Need-array-share-prefix-printed
 array-share-prefix-printed c = shown (c .before)
 
 slice-aggregate-write-all : tie.Need-slice-aggregate-write-all
 slice-aggregate-write-all c = sym (length-take-le _ (c .before .before .json-verdict-text .last .1 .1 .1 .0) (shown (c .before .before)))
 
-write-all-requires : tie.Need-write-all-requires
-write-all-requires c κs = search needs
-
-returns : tie.Need-returns
-returns c = search needs
-
 pub main-spec : {M : Type 1} → statement M
 main-spec =
     tie.close
     (tie.spec
-    large-buffer-requires
-    slice-aggregate-load
-    slice-aggregate-load-2
-    load-requires
-    large-buffer-requires-2
-    slice-aggregate-load-3
-    slice-aggregate-load-4
-    load-requires-2
-    large-buffer-requires-3
-    slice-aggregate-load-5
-    slice-aggregate-load-6
-    load-requires-3
-    array-share-prefix-register
-    slice-aggregate-json-verdict-text
-    array-share-prefix-clock
-    slice-aggregate-json-verdict-text-2
-    array-share-prefix-action
-    slice-aggregate-json-verdict-text-3
-    slice-aggregate-json-verdict-text-4
-    json-verdict-text-requires
+    (λ c κs. search needs)
+    (λ c. search needs)
+    (λ c. search needs)
+    (λ c κs. search needs)
+    (λ c κs. search needs)
+    (λ c. search needs)
+    (λ c. search needs)
+    (λ c κs. search needs)
+    (λ c κs. search needs)
+    (λ c. search needs)
+    (λ c. search needs)
+    (λ c κs. search needs)
+    (λ c. search needs)
+    (λ c. search needs)
+    (λ c. search needs)
+    (λ c. search needs)
+    (λ c. search needs)
+    (λ c. search needs)
+    (λ c. search needs)
+    (λ c κs. search needs)
     array-share-prefix-printed
     slice-aggregate-write-all
-    write-all-requires
-    returns)
+    (λ c κs. search needs)
+    (λ c. search needs))

@@ -38,20 +38,11 @@ returns c =
     let a = c .before .args .t1 in
     rw (ne-eqb (a .governed) 0 (c .if1 .taken)) (sym (and-false (every isPlain (usesOf a))))
 
-least-requires : tie.Need-least-requires Inv-loop μ-loop
-least-requires c κs = search needs
-
 loop-holds : tie.Need-loop-holds Inv-loop μ-loop
 loop-holds c =
     let a = c .before .before .args .t1 in
     let room : length (a .uses) ≡ useLimit = search (needs, length-mapped) in
     start (rw room (c .least .ensures)) (holds-ungoverned a (c .before .if1 .left))
-
-mul-u : tie.Need-mul-u Inv-loop μ-loop
-mul-u c = omega arith
-
-element-copy-out-u : tie.Need-element-copy-out-u Inv-loop μ-loop
-element-copy-out-u c = omega arith
 
 returns-2 : tie.Need-returns-2 Inv-loop μ-loop
 returns-2 c =
@@ -59,12 +50,6 @@ returns-2 c =
     let loop = at .before .loop in
     let u = getD (at .before .before .before .before .args .t1 .uses) (loop .i) noUse in
     sym (turn (loop .inv) noUse (at .loop-test .taken) ∙ rw (lt-leb (u .right) 2 (c .if2 .taken)))
-
-add-i : tie.Need-add-i Inv-loop μ-loop
-add-i c = omega arith
-
-loop-less : tie.Need-loop-less Inv-loop μ-loop
-loop-less c = omega arith
 
 loop-again : tie.Need-loop-again Inv-loop μ-loop
 loop-again c =
@@ -83,12 +68,12 @@ has-place-spec =
     Inv-loop
     μ-loop
     returns
-    least-requires
+    (λ c κs. search needs)
     loop-holds
-    mul-u
-    element-copy-out-u
+    (λ c. omega arith)
+    (λ c. omega arith)
     returns-2
-    add-i
-    loop-less
+    (λ c. omega arith)
+    (λ c. omega arith)
     loop-again
     returns-3)

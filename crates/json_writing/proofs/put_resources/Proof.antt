@@ -33,9 +33,6 @@ loop-holds c =
       writing-start (st .args .at) (resourcesText (st .args .right) (usesOf a)) (st .args .buf .now),
     )
 
-mul-u : tie.Need-mul-u Inv-loop μ-loop
-mul-u c = omega arith
-
 element-copy-out-u : tie.Need-element-copy-out-u Inv-loop μ-loop
 element-copy-out-u c =
     let a = c .before .before .before .before .args .t3 in
@@ -49,12 +46,6 @@ put-resource-requires c κs =
     let a = st .args .t3 in
     listing-room (st .args .right) (a .used) (a .uses) noUse (loop .first) (loop .i) (omega (arith, turn .loop-test .taken, loop .inv .1))
     (loop .inv .2) (st .pre) (c .before .if1 .taken)
-
-add-i : tie.Need-add-i Inv-loop μ-loop
-add-i c = omega arith
-
-loop-less : tie.Need-loop-less Inv-loop μ-loop
-loop-less c = omega arith
 
 -- the resource is written
 loop-again : tie.Need-loop-again Inv-loop μ-loop
@@ -70,12 +61,6 @@ loop-again c =
       listing-next (st .args .right) (a .used) (a .uses) noUse (loop .first) (loop .i) (omega (arith, turn .loop-test .taken, loop .inv .1))
           (loop .inv .2) (st .pre) (test .if1 .taken) (call .ensures .0) (call .ensures .1),
     )
-
-add-i-2 : tie.Need-add-i-2 Inv-loop μ-loop
-add-i-2 c = omega arith
-
-loop-less-2 : tie.Need-loop-less-2 Inv-loop μ-loop
-loop-less-2 c = omega arith
 
 -- the use is passed over
 loop-again-2 : tie.Need-loop-again-2 Inv-loop μ-loop
@@ -108,14 +93,14 @@ put-resources-spec =
     μ-loop
     least-requires
     loop-holds
-    mul-u
+    (λ c. omega arith)
     element-copy-out-u
     put-resource-requires
-    add-i
-    loop-less
+    (λ c. omega arith)
+    (λ c. omega arith)
     loop-again
-    add-i-2
-    loop-less-2
+    (λ c. omega arith)
+    (λ c. omega arith)
     loop-again-2
     same-length
     returns)

@@ -11,9 +11,6 @@ use Rattle.json_writing.proofs.put_setting.Tie as tie
 put-bytes-requires : tie.Need-put-bytes-requires
 put-bytes-requires c κs = tt
 
-shr-if1 : tie.Need-shr-if1
-shr-if1 c = search needs
-
 slice-aggregate-put-bytes : tie.Need-slice-aggregate-put-bytes
 slice-aggregate-put-bytes c = refl
 
@@ -57,7 +54,7 @@ put-setting-spec =
     tie.close
     (tie.spec
     put-bytes-requires
-    shr-if1
+    (λ c. search needs)
     slice-aggregate-put-bytes
     put-bytes-requires-2
     slice-aggregate-put-bytes-2

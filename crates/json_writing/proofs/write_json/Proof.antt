@@ -70,17 +70,11 @@ returns-2 c =
     let told = json-unheld (a .a) (a .id .now) (a .kind) (a .buf .now) (in-range range) unheld in
     (c .refused2 .ensures ∙ told .0, told .1)
 
-slice-aggregate-put-head : tie.Need-slice-aggregate-put-head
-slice-aggregate-put-head c = search needs
-
 put-head-requires : tie.Need-put-head-requires
 put-head-requires c κs =
     let range = c .before .before .before in
     let a = range .before .before .before .before .before .args in
     head-room (a .a) (a .id .now) (a .kind) blankSheet (in-range range) blank
-
-slice-aggregate-put-tail : tie.Need-slice-aggregate-put-tail
-slice-aggregate-put-tail c = search needs
 
 put-tail-requires : tie.Need-put-tail-requires
 put-tail-requires c κs =
@@ -88,9 +82,6 @@ put-tail-requires c κs =
     let range = headed .before .before .before .before in
     let a = range .before .before .before .before .before .args in
     tail-room (a .a) (a .id .now) (a .kind) blankSheet (in-range range) blank (headed .put-head .ensures .0) (headed .put-head .ensures .1)
-
-slice-aggregate-text : tie.Need-slice-aggregate-text
-slice-aggregate-text c = search needs
 
 -- the sheet's front is the text
 front : (c : tie.After-put-tail) →
@@ -116,9 +107,6 @@ slice-aggregate-deliver c =
 deliver-requires : tie.Need-deliver-requires
 deliver-requires c κs = tt
 
-same-length : tie.Need-same-length
-same-length c = search needs
-
 returns-3 : tie.Need-returns-3
 returns-3 c =
     let call = c .before .before .deliver in
@@ -143,12 +131,12 @@ write-json-spec =
     has-place-requires
     refused-requires-2
     returns-2
-    slice-aggregate-put-head
+    (λ c. search needs)
     put-head-requires
-    slice-aggregate-put-tail
+    (λ c. search needs)
     put-tail-requires
-    slice-aggregate-text
+    (λ c. search needs)
     slice-aggregate-deliver
     deliver-requires
-    same-length
+    (λ c. search needs)
     returns-3)

@@ -15,9 +15,6 @@ on : (c : tie.Else1) →
     goesOn (a .s .now) (a .c) ≡ true
 on c = sym (c .before .goes-on .ensures) ∙ not-false _ (c .if1 .left)
 
-goes-on-requires : tie.Need-goes-on-requires
-goes-on-requires c κs = search needs
-
 returns : tie.Need-returns
 returns c =
     let a = c .before .before .before .args in
@@ -40,4 +37,4 @@ returns-3 c =
     closed-end (a .s .now) (a .c) (on (c .before .before)) (c .if2 .left)
 
 pub finish-spec : {M : Type 1} → statement M
-finish-spec = tie.close (tie.spec goes-on-requires returns failing-requires returns-2 returns-3)
+finish-spec = tie.close (tie.spec (λ c κs. search needs) returns failing-requires returns-2 returns-3)

@@ -36,9 +36,6 @@ told c r e =
     subst (λ (x : LineRead). LineSays (a .s .now) (a .c .at) x (parseDecimal (a .key .now) (a .least) (a .greatest) (drop (a .c .at) (a .s .now))))
     e (c .read-ranged .ensures)
 
-goes-on-requires : tie.Need-goes-on-requires
-goes-on-requires c κs = search needs
-
 returns : tie.Need-returns
 returns c =
     let a = c .before .before .before .before .args in
@@ -47,20 +44,11 @@ returns c =
 read-ranged-requires : tie.Need-read-ranged-requires
 read-ranged-requires c κs = let a = c .before .before .before .before .args in on-within (a .s .now) (a .c) (on c)
 
-enum-known-value : tie.Need-enum-known-value
-enum-known-value c = search needs
-
 add-t16 : tie.Need-add-t16
 add-t16 c = omega (arith, line-fits (c .before .before .before .before .before))
 
-enum-told : tie.Need-enum-told
-enum-told c = search needs
-
 failing-requires : tie.Need-failing-requires
 failing-requires c κs = omega (arith, line-fits (c .before .before .before))
-
-enum-told-2 : tie.Need-enum-told-2
-enum-told-2 c = search needs
 
 failing-requires-2 : tie.Need-failing-requires-2
 failing-requires-2 c κs = omega (arith, line-fits (c .before .before .before))
@@ -92,14 +80,14 @@ pub read-decimal-spec : {M : Type 1} → statement M
 read-decimal-spec =
     tie.close
     (tie.spec
-    goes-on-requires
+    (λ c κs. search needs)
     returns
     read-ranged-requires
-    enum-known-value
+    (λ c. search needs)
     add-t16
-    enum-told
+    (λ c. search needs)
     failing-requires
-    enum-told-2
+    (λ c. search needs)
     failing-requires-2
     returns-2
     returns-3

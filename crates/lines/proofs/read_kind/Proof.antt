@@ -50,16 +50,10 @@ machine-within c =
     let a = e .before .before .before .args in
     begins-within machineLine (a .s .now) (a .c .at) (on-within (a .s .now) (a .c) (on e)) (sym (c .before .has-key2 .ensures) ∙ c .if3 .taken)
 
-goes-on-requires : tie.Need-goes-on-requires
-goes-on-requires c κs = search needs
-
 returns : tie.Need-returns
 returns c =
     let a = c .before .before .before .args in
     field-off (a .s .now) (a .c) kind (sym (c .before .goes-on .ensures) ∙ not-true _ (c .if1 .taken))
-
-slice-aggregate-has-key : tie.Need-slice-aggregate-has-key
-slice-aggregate-has-key c = search needs
 
 has-key-requires : tie.Need-has-key-requires
 has-key-requires c κs = let a = c .before .before .before .before .args in on-within (a .s .now) (a .c) (on (c .before))
@@ -70,9 +64,6 @@ add-t13 c = omega (arith, human-within (c .before), c .before .before .before .b
 add-t14 : tie.Need-add-t14
 add-t14 c = omega (arith, line-fits (c .before .before .before .before .before))
 
-cast-t15 : tie.Need-cast-t15
-cast-t15 c = search needs
-
 returns-2 : tie.Need-returns-2
 returns-2 c =
     let t = c .before .before in
@@ -80,9 +71,6 @@ returns-2 c =
     let a = e .before .before .before .args in
     field-behind (a .s .now) (a .c) kind (on e) 1 (a .c .at + 11)
     (kind-human (a .s .now) (a .c .at) (sym (t .before .has-key .ensures) ∙ t .if2 .taken)) (human-within t) (omega arith)
-
-slice-aggregate-has-key-2 : tie.Need-slice-aggregate-has-key-2
-slice-aggregate-has-key-2 c = search needs
 
 has-key-requires-2 : tie.Need-has-key-requires-2
 has-key-requires-2 c κs =
@@ -95,9 +83,6 @@ add-t19 c = omega (arith, machine-within (c .before), c .before .before .before 
 
 add-t20 : tie.Need-add-t20
 add-t20 c = omega (arith, line-fits (c .before .before .before .before .before .before .before .before))
-
-cast-t21 : tie.Need-cast-t21
-cast-t21 c = search needs
 
 returns-3 : tie.Need-returns-3
 returns-3 c =
@@ -123,19 +108,19 @@ pub read-kind-spec : {M : Type 1} → statement M
 read-kind-spec =
     tie.close
     (tie.spec
-    goes-on-requires
+    (λ c κs. search needs)
     returns
-    slice-aggregate-has-key
+    (λ c. search needs)
     has-key-requires
     add-t13
     add-t14
-    cast-t15
+    (λ c. search needs)
     returns-2
-    slice-aggregate-has-key-2
+    (λ c. search needs)
     has-key-requires-2
     add-t19
     add-t20
-    cast-t21
+    (λ c. search needs)
     returns-3
     failing-requires
     returns-4)

@@ -11,8 +11,7 @@ use Rattle.decimals.specs.Decimals.{Parsed, parse}
 use Rattle.decimals.specs.declared.Number.{Number}
 use Rattle.decimals.specs.Answers.{Says}
 use Rattle.lines.specs.Lines.{begins, ended, parseLimited}
-use Rattle.lines.proofs.Walks.{limited-none, limited-on, limited-behind, ended-got, ended-got-other, ended-got-past}
-use Rattle.lines.proofs.Walks.{ended-large, ended-large-other, ended-large-past, ended-bad}
+use Rattle.lines.proofs.Walks.{limited-none, limited-on, limited-behind, ended-got, ended-got-other, ended-got-past, ended-large, ended-large-other, ended-large-past, ended-bad}
 use Rattle.lines.proofs.read_limited.Statement.{statement}
 use Rattle.lines.proofs.read_limited.Tie as tie
 
@@ -38,28 +37,10 @@ on c p e =
     let a = c .before .before .before .before .before .args in
     limited-on (a .key .now) (a .s .now) (a .greatest) (a .at) p (keyed (c .before)) e
 
-has-key-requires : tie.Need-has-key-requires
-has-key-requires c κs = search needs
-
 returns : tie.Need-returns
 returns c =
     let a = c .before .before .before .before .args in
     limited-none (a .key .now) (a .s .now) (a .greatest) (a .at) (sym (c .before .has-key .ensures) ∙ not-true _ (c .if1 .taken))
-
-add-read-number : tie.Need-add-read-number
-add-read-number c = search needs
-
-read-number-requires : tie.Need-read-number-requires
-read-number-requires c κs = search needs
-
-enum-known-n : tie.Need-enum-known-n
-enum-known-n c = search needs
-
-shared-slice-read-if3 : tie.Need-shared-slice-read-if3
-shared-slice-read-if3 c = search needs
-
-add-t19 : tie.Need-add-t19
-add-t19 c = search needs
 
 -- the line that LF ends lies behind the position that it begins at
 returns-2 : tie.Need-returns-2
@@ -73,12 +54,6 @@ returns-2 c =
     let read = on r _ (told r _ (f .1) .0) ∙ ended-got (a .s .now) next (f .0 .0) inside (c .if3 .taken) in
     (read, omega arith, limited-behind (a .key .now) (a .s .now) (a .greatest) (a .at) (f .0 .0) (next + 1) (omega arith) read)
 
-enum-known-next : tie.Need-enum-known-next
-enum-known-next c = search needs
-
-shared-slice-read-if5 : tie.Need-shared-slice-read-if5
-shared-slice-read-if5 c = search needs
-
 returns-3 : tie.Need-returns-3
 returns-3 c =
     let k = c .before .before .before .before in
@@ -86,9 +61,6 @@ returns-3 c =
     let s = r .before .before .before .before .before .args .s .now in
     let f = k .next .given in
     on r _ (told r _ (f .1) .0) ∙ ended-large s (f .0 .0) (c .before .before .if4 .taken) (c .if5 .taken)
-
-enum-told : tie.Need-enum-told
-enum-told c = search needs
 
 returns-4 : tie.Need-returns-4
 returns-4 c =
@@ -131,18 +103,18 @@ pub read-limited-spec : {M : Type 1} → statement M
 read-limited-spec =
     tie.close
     (tie.spec
-    has-key-requires
+    (λ c κs. search needs)
     returns
-    add-read-number
-    read-number-requires
-    enum-known-n
-    shared-slice-read-if3
-    add-t19
+    (λ c. search needs)
+    (λ c κs. search needs)
+    (λ c. search needs)
+    (λ c. search needs)
+    (λ c. search needs)
     returns-2
-    enum-known-next
-    shared-slice-read-if5
+    (λ c. search needs)
+    (λ c. search needs)
     returns-3
-    enum-told
+    (λ c. search needs)
     returns-4
     returns-5
     returns-6

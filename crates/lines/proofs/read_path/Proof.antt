@@ -23,12 +23,6 @@ abbrev μ-loop : tie.MeasureT-loop
 loop-holds : tie.Need-loop-holds Inv-loop μ-loop
 loop-holds c = (omega arith, omega arith, ([], refl, refl, refl))
 
-shared-slice-read-b : tie.Need-shared-slice-read-b Inv-loop μ-loop
-shared-slice-read-b c = omega arith
-
-add-t12 : tie.Need-add-t12 Inv-loop μ-loop
-add-t12 c = omega arith
-
 returns : tie.Need-returns Inv-loop μ-loop
 returns c =
     let l = c .before .before .before in
@@ -37,9 +31,6 @@ returns c =
     let inside = c .before .before .loop-test .taken in
     says-path (a .s .now) (v .0) (l .loop .path) (a .at) (l .loop .len) (l .loop .i + 1) _
     (v .3 ∙ path-feed (v .0) (a .s .now) (l .loop .i) inside (c .if1 .taken)) (v .1) (v .2) (omega arith) (omega arith)
-
-no-path-requires : tie.Need-no-path-requires Inv-loop μ-loop
-no-path-requires c κs = search needs
 
 returns-2 : tie.Need-returns-2 Inv-loop μ-loop
 returns-2 c =
@@ -51,9 +42,6 @@ returns-2 c =
     says-no-path (a .s .now) (a .at) _ _ (v .3 ∙ path-low (v .0) (a .s .now) (l .loop .i) inside (e .if1 .left) (omega (arith, c .before .if2 .taken)))
     (c .no-path .ensures)
 
-no-path-requires-2 : tie.Need-no-path-requires-2 Inv-loop μ-loop
-no-path-requires-2 c κs = search needs
-
 returns-3 : tie.Need-returns-3 Inv-loop μ-loop
 returns-3 c =
     let e = c .before .before .before in
@@ -63,9 +51,6 @@ returns-3 c =
     let inside = e .before .before .loop-test .taken in
     says-no-path (a .s .now) (a .at) _ _
     (v .3 ∙ path-high (v .0) (a .s .now) (l .loop .i) inside (e .if1 .left) (c .before .before .if2 .left) (c .before .if3 .taken)) (c .no-path2 .ensures)
-
-no-path-requires-3 : tie.Need-no-path-requires-3 Inv-loop μ-loop
-no-path-requires-3 c κs = search needs
 
 returns-4 : tie.Need-returns-4 Inv-loop μ-loop
 returns-4 c =
@@ -78,18 +63,6 @@ returns-4 c =
     (v .3
     ∙ path-full (v .0) (a .s .now) (l .loop .i) inside (e .if1 .left) (c .before .before .before .if2 .left) (c .before .before .if3 .left) (omega (arith, v .1)))
     (c .no-path3 .ensures)
-
-array-write-path : tie.Need-array-write-path Inv-loop μ-loop
-array-write-path c = omega arith
-
-add-len : tie.Need-add-len Inv-loop μ-loop
-add-len c = omega arith
-
-add-i : tie.Need-add-i Inv-loop μ-loop
-add-i c = omega arith
-
-loop-less : tie.Need-loop-less Inv-loop μ-loop
-loop-less c = omega arith
 
 loop-again : tie.Need-loop-again Inv-loop μ-loop
 loop-again c =
@@ -110,9 +83,6 @@ loop-again c =
       ),
     )
 
-no-path-requires-4 : tie.Need-no-path-requires-4 Inv-loop μ-loop
-no-path-requires-4 c κs = search needs
-
 returns-5 : tie.Need-returns-5 Inv-loop μ-loop
 returns-5 c =
     let l = c .before .before in
@@ -127,19 +97,19 @@ read-path-spec =
     Inv-loop
     μ-loop
     loop-holds
-    shared-slice-read-b
-    add-t12
+    (λ c. omega arith)
+    (λ c. omega arith)
     returns
-    no-path-requires
+    (λ c κs. search needs)
     returns-2
-    no-path-requires-2
+    (λ c κs. search needs)
     returns-3
-    no-path-requires-3
+    (λ c κs. search needs)
     returns-4
-    array-write-path
-    add-len
-    add-i
-    loop-less
+    (λ c. omega arith)
+    (λ c. omega arith)
+    (λ c. omega arith)
+    (λ c. omega arith)
     loop-again
-    no-path-requires-4
+    (λ c κs. search needs)
     returns-5)

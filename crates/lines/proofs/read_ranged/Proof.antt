@@ -17,22 +17,10 @@ told c r e =
     let a = c .before .before .before .args in
     subst (λ (x : LineRead). LineSays (a .s .now) (a .at) x (parseLimited (a .key .now) (a .greatest) (drop (a .at) (a .s .now)))) e (c .read-limited .ensures)
 
-read-limited-requires : tie.Need-read-limited-requires
-read-limited-requires c κs = search needs
-
-enum-known-n : tie.Need-enum-known-n
-enum-known-n c = search needs
-
 returns : tie.Need-returns
 returns c =
     let k = c .before .before in
     at-least-below _ _ _ _ (told (k .before .before) _ (k .n .given .1) .0) (c .if1 .taken)
-
-enum-told : tie.Need-enum-told
-enum-told c = search needs
-
-enum-told-2 : tie.Need-enum-told-2
-enum-told-2 c = search needs
 
 returns-2 : tie.Need-returns-2
 returns-2 c =
@@ -50,11 +38,11 @@ pub read-ranged-spec : {M : Type 1} → statement M
 read-ranged-spec =
     tie.close
     (tie.spec
-    read-limited-requires
-    enum-known-n
+    (λ c κs. search needs)
+    (λ c. search needs)
     returns
-    enum-told
-    enum-told-2
+    (λ c. search needs)
+    (λ c. search needs)
     returns-2
     returns-3
     returns-4)

@@ -32,29 +32,17 @@ keyed : (c : tie.Else2) →
     begins scopeKey (drop (a .c .at) (a .s .now)) ≡ true
 keyed c = sym (c .before .has-key .ensures) ∙ not-false _ (c .if2 .left)
 
-goes-on-requires : tie.Need-goes-on-requires
-goes-on-requires c κs = search needs
-
-no-scope-requires : tie.Need-no-scope-requires
-no-scope-requires c κs = search needs
-
 returns : tie.Need-returns
 returns c =
     let t = c .before in
     let a = t .before .before .before .args in
     scope-off (a .s .now) (a .c) (c .no-scope .result) (sym (t .before .goes-on .ensures) ∙ not-true _ (t .if1 .taken)) (c .no-scope .ensures)
 
-slice-aggregate-has-key : tie.Need-slice-aggregate-has-key
-slice-aggregate-has-key c = search needs
-
 has-key-requires : tie.Need-has-key-requires
 has-key-requires c κs = let a = c .before .before .before .before .args in on-within (a .s .now) (a .c) (on (c .before))
 
 failing-requires : tie.Need-failing-requires
 failing-requires c κs = omega (arith, line-fits (c .before .before .before))
-
-no-scope-requires-2 : tie.Need-no-scope-requires-2
-no-scope-requires-2 c κs = search needs
 
 returns-2 : tie.Need-returns-2
 returns-2 c =
@@ -81,9 +69,6 @@ read-path-requires c κs =
 
 failing-requires-2 : tie.Need-failing-requires-2
 failing-requires-2 c κs = omega (arith, line-fits (c .before .before .before .before .before .before .before))
-
-no-scope-requires-3 : tie.Need-no-scope-requires-3
-no-scope-requires-3 c κs = search needs
 
 returns-3 : tie.Need-returns-3
 returns-3 c =
@@ -115,18 +100,18 @@ pub read-scope-spec : {M : Type 1} → statement M
 read-scope-spec =
     tie.close
     (tie.spec
-    goes-on-requires
-    no-scope-requires
+    (λ c κs. search needs)
+    (λ c κs. search needs)
     returns
-    slice-aggregate-has-key
+    (λ c. search needs)
     has-key-requires
     failing-requires
-    no-scope-requires-2
+    (λ c κs. search needs)
     returns-2
     add-read-path
     read-path-requires
     failing-requires-2
-    no-scope-requires-3
+    (λ c κs. search needs)
     returns-3
     add-t12
     returns-4)

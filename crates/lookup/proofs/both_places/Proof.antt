@@ -23,60 +23,18 @@ Inv-loop column n wanted other m none below table long top places₀ i₀ places
 abbrev μ-loop : tie.MeasureT-loop
 μ-loop column n wanted other m none below table long top places₀ i₀ places i = top - i
 
-least-requires : tie.Need-least-requires Inv-loop μ-loop
-least-requires c κs = search needs
-
-tabulate-requires : tie.Need-tabulate-requires Inv-loop μ-loop
-tabulate-requires c κs = search needs
-
-least-requires-2 : tie.Need-least-requires-2 Inv-loop μ-loop
-least-requires-2 c κs = search needs
-
-least-requires-3 : tie.Need-least-requires-3 Inv-loop μ-loop
-least-requires-3 c κs = search needs
-
-least-requires-4 : tie.Need-least-requires-4 Inv-loop μ-loop
-least-requires-4 c κs = search needs
-
 loop-holds : tie.Need-loop-holds Inv-loop μ-loop
 loop-holds c = (empty (omega arith) refl, empty (omega arith) refl, refl)
-
-mul-seek : tie.Need-mul-seek Inv-loop μ-loop
-mul-seek c = search needs
-
-shared-slice-read-seek : tie.Need-shared-slice-read-seek Inv-loop μ-loop
-shared-slice-read-seek c = omega arith
 
 seek-requires : tie.Need-seek-requires Inv-loop μ-loop
 seek-requires c κs =
     let made = c .before .before .before .before .before .before .before .before .before .before .before in
     sought-below (made .tabulate .ensures .0) (omega arith) (omega arith)
 
-mul-places : tie.Need-mul-places Inv-loop μ-loop
-mul-places c = search needs
-
-element-write-places : tie.Need-element-write-places Inv-loop μ-loop
-element-write-places c = omega arith
-
-mul-seek-2 : tie.Need-mul-seek-2 Inv-loop μ-loop
-mul-seek-2 c = search needs
-
-shared-slice-read-seek-2 : tie.Need-shared-slice-read-seek-2 Inv-loop μ-loop
-shared-slice-read-seek-2 c = omega arith
-
 seek-requires-2 : tie.Need-seek-requires-2 Inv-loop μ-loop
 seek-requires-2 c κs =
     let made = c .before .before .before .before .before .before .before .before .before .before .before .before .before .before .before .before .before .before in
     sought-below (made .tabulate .ensures .0) (omega arith) (omega arith)
-
-mul-places-2 : tie.Need-mul-places-2 Inv-loop μ-loop
-mul-places-2 c = search needs
-
-element-write-places-2 : tie.Need-element-write-places-2 Inv-loop μ-loop
-element-write-places-2 c = omega arith
-
-add-i : tie.Need-add-i Inv-loop μ-loop
-add-i c = search needs
 
 loop-less : tie.Need-loop-less Inv-loop μ-loop
 loop-less c = less _ _ (c .before .before .before .before .before .before .before .before .before .before .before .before .before .before .loop-test .taken)
@@ -109,23 +67,23 @@ both-places-spec =
     (tie.spec
     Inv-loop
     μ-loop
-    least-requires
-    tabulate-requires
-    least-requires-2
-    least-requires-3
-    least-requires-4
+    (λ c κs. search needs)
+    (λ c κs. search needs)
+    (λ c κs. search needs)
+    (λ c κs. search needs)
+    (λ c κs. search needs)
     loop-holds
-    mul-seek
-    shared-slice-read-seek
+    (λ c. search needs)
+    (λ c. omega arith)
     seek-requires
-    mul-places
-    element-write-places
-    mul-seek-2
-    shared-slice-read-seek-2
+    (λ c. search needs)
+    (λ c. omega arith)
+    (λ c. search needs)
+    (λ c. omega arith)
     seek-requires-2
-    mul-places-2
-    element-write-places-2
-    add-i
+    (λ c. search needs)
+    (λ c. omega arith)
+    (λ c. search needs)
     loop-less
     loop-again
     returns)

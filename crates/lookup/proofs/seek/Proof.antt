@@ -14,41 +14,14 @@ Inv-loop heads nexts column below x none link₀ link = Seeking column heads nex
 abbrev μ-loop : tie.MeasureT-loop
 μ-loop heads nexts column below x none link₀ link = link
 
-bucket-of-requires : tie.Need-bucket-of-requires Inv-loop μ-loop
-bucket-of-requires c κs = search needs
-
-mul-link : tie.Need-mul-link Inv-loop μ-loop
-mul-link c = search needs
-
-shared-slice-read-link : tie.Need-shared-slice-read-link Inv-loop μ-loop
-shared-slice-read-link c = search needs
-
 loop-holds : tie.Need-loop-holds Inv-loop μ-loop
 loop-holds c = rw (c .before .bucket-of .ensures) (seeking-start (c .before .before .before .before .before .pre))
-
-sub-place : tie.Need-sub-place Inv-loop μ-loop
-sub-place c = search needs
-
-cast-at : tie.Need-cast-at Inv-loop μ-loop
-cast-at c = search needs
-
-mul-if1 : tie.Need-mul-if1 Inv-loop μ-loop
-mul-if1 c = search needs
-
-shared-slice-read-if1 : tie.Need-shared-slice-read-if1 Inv-loop μ-loop
-shared-slice-read-if1 c = search needs
 
 returns : tie.Need-returns Inv-loop μ-loop
 returns c =
     let turn = c .before .before in
     let entry = turn .before .before .before .before .before .before .before .args in
     sym (ap (placeNumber (entry .none)) (seeking-hit (seeking-linked (turn .loop-test .taken) (turn .before .loop .inv)) (c .if1 .taken)))
-
-mul-link-2 : tie.Need-mul-link-2 Inv-loop μ-loop
-mul-link-2 c = search needs
-
-shared-slice-read-link-2 : tie.Need-shared-slice-read-link-2 Inv-loop μ-loop
-shared-slice-read-link-2 c = search needs
 
 loop-less : tie.Need-loop-less Inv-loop μ-loop
 loop-less c =
@@ -72,17 +45,17 @@ seek-spec =
     (tie.spec
     Inv-loop
     μ-loop
-    bucket-of-requires
-    mul-link
-    shared-slice-read-link
+    (λ c κs. search needs)
+    (λ c. search needs)
+    (λ c. search needs)
     loop-holds
-    sub-place
-    cast-at
-    mul-if1
-    shared-slice-read-if1
+    (λ c. search needs)
+    (λ c. search needs)
+    (λ c. search needs)
+    (λ c. search needs)
     returns
-    mul-link-2
-    shared-slice-read-link-2
+    (λ c. search needs)
+    (λ c. search needs)
     loop-less
     loop-again
     returns-2)

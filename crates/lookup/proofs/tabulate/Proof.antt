@@ -20,63 +20,12 @@ Inv-loop column n count table₀ apart₀ i₀ table apart i =
 abbrev μ-loop : tie.MeasureT-loop
 μ-loop column n count table₀ apart₀ i₀ table apart i = count - i
 
-least-requires : tie.Need-least-requires Inv-loop μ-loop
-least-requires c κs = search needs
-
-least-requires-2 : tie.Need-least-requires-2 Inv-loop μ-loop
-least-requires-2 c κs = search needs
-
 loop-holds : tie.Need-loop-holds Inv-loop μ-loop
 unfolding distinct
 loop-holds c = (omega arith, indexing-none (c .before .before .before .args .column .now), refl)
 
-mul-seek : tie.Need-mul-seek Inv-loop μ-loop
-mul-seek c = search needs
-
-shared-slice-read-seek : tie.Need-shared-slice-read-seek Inv-loop μ-loop
-shared-slice-read-seek c = search needs
-
 seek-requires : tie.Need-seek-requires Inv-loop μ-loop
 seek-requires c κs = sought-all (c .before .before .before .before .before .before .before .loop .inv .1)
-
-mul-bucket-of : tie.Need-mul-bucket-of Inv-loop μ-loop
-mul-bucket-of c = search needs
-
-shared-slice-read-bucket-of : tie.Need-shared-slice-read-bucket-of Inv-loop μ-loop
-shared-slice-read-bucket-of c = search needs
-
-bucket-of-requires : tie.Need-bucket-of-requires Inv-loop μ-loop
-bucket-of-requires c κs = search needs
-
-mul-table : tie.Need-mul-table Inv-loop μ-loop
-mul-table c = search needs
-
-element-copy-out-table : tie.Need-element-copy-out-table Inv-loop μ-loop
-element-copy-out-table c = search needs
-
-mul-table-2 : tie.Need-mul-table-2 Inv-loop μ-loop
-mul-table-2 c = search needs
-
-element-write-table : tie.Need-element-write-table Inv-loop μ-loop
-element-write-table c = search needs
-
-add-table : tie.Need-add-table Inv-loop μ-loop
-add-table c = search needs
-
-cast-table : tie.Need-cast-table Inv-loop μ-loop
-cast-table c = search needs
-
-mul-table-3 : tie.Need-mul-table-3 Inv-loop μ-loop
-mul-table-3 c = search needs
-
-element-write-table-2 : tie.Need-element-write-table-2 Inv-loop μ-loop
-element-write-table-2 c = search needs
-
-add-i : tie.Need-add-i Inv-loop μ-loop
-add-i c = search needs
-
-loop-less : tie.Need-loop-less Inv-loop μ-loop
-loop-less c = search needs
 
 loop-again : tie.Need-loop-again Inv-loop μ-loop
 loop-again c =
@@ -103,24 +52,24 @@ tabulate-spec =
     (tie.spec
     Inv-loop
     μ-loop
-    least-requires
-    least-requires-2
+    (λ c κs. search needs)
+    (λ c κs. search needs)
     loop-holds
-    mul-seek
-    shared-slice-read-seek
+    (λ c. search needs)
+    (λ c. search needs)
     seek-requires
-    mul-bucket-of
-    shared-slice-read-bucket-of
-    bucket-of-requires
-    mul-table
-    element-copy-out-table
-    mul-table-2
-    element-write-table
-    add-table
-    cast-table
-    mul-table-3
-    element-write-table-2
-    add-i
-    loop-less
+    (λ c. search needs)
+    (λ c. search needs)
+    (λ c κs. search needs)
+    (λ c. search needs)
+    (λ c. search needs)
+    (λ c. search needs)
+    (λ c. search needs)
+    (λ c. search needs)
+    (λ c. search needs)
+    (λ c. search needs)
+    (λ c. search needs)
+    (λ c. search needs)
+    (λ c. search needs)
     loop-again
     returns)

@@ -6,17 +6,8 @@ use Rattle.paths.proofs.Pairs.{paired-clean}
 use Rattle.paths.proofs.climbs.Statement.{statement}
 use Rattle.paths.proofs.climbs.Tie as tie
 
-has-paired-dots-requires : tie.Need-has-paired-dots-requires
-has-paired-dots-requires c κs = search needs
-
-walk-components-requires : tie.Need-walk-components-requires
-walk-components-requires c κs = search needs
-
-returns : tie.Need-returns
-returns c = search needs
-
 returns-2 : tie.Need-returns-2
 returns-2 c = sym (paired-clean (c .before .before .before .args .p .now) (sym (c .before .has-paired-dots .ensures) ∙ c .if1 .left))
 
 pub climbs-spec : {M : Type 1} → statement M
-climbs-spec = tie.close (tie.spec has-paired-dots-requires walk-components-requires returns returns-2)
+climbs-spec = tie.close (tie.spec (λ c κs. search needs) (λ c κs. search needs) (λ c. search needs) returns-2)

@@ -6,18 +6,6 @@ use Rattle.paths.proofs.Verdicts.{elsewhere, climbs-out, stays-in}
 use Rattle.paths.proofs.contains.Statement.{statement}
 use Rattle.paths.proofs.contains.Tie as tie
 
-reach-beneath-requires : tie.Need-reach-beneath-requires
-reach-beneath-requires c κs = search needs
-
-enum-told : tie.Need-enum-told
-enum-told c = search needs
-
-enum-known-length : tie.Need-enum-known-length
-enum-known-length c = search needs
-
-climbs-requires : tie.Need-climbs-requires
-climbs-requires c κs = search needs
-
 returns : tie.Need-returns
 returns c =
     let a = c .before .before .before .before .before .args in
@@ -41,4 +29,4 @@ returns-3 c =
 
 pub contains-spec : {M : Type 1} → statement M
 contains-spec =
-    tie.close (tie.spec reach-beneath-requires enum-told enum-known-length climbs-requires returns returns-2 returns-3)
+    tie.close (tie.spec (λ c κs. search needs) (λ c. search needs) (λ c. search needs) (λ c κs. search needs) returns returns-2 returns-3)

@@ -8,9 +8,6 @@ use Rattle.paths.proofs.dots_with.Tie as tie
 returns : tie.Need-returns
 returns c = simp (ne-eqb _ _ (c .if1 .taken))
 
-add-result : tie.Need-add-result
-add-result c = search needs
-
 returns-2 : tie.Need-returns-2
 returns-2 c = simp (eq-eqb _ _ (c .before .if1 .left), lt-ltb _ _ (c .if2 .taken))
 
@@ -18,4 +15,4 @@ returns-3 : tie.Need-returns-3
 returns-3 c = simp (eq-eqb _ _ (c .before .if1 .left), le-ltb _ _ (c .if2 .left))
 
 pub dots-with-spec : {M : Type 1} → statement M
-dots-with-spec = tie.close (tie.spec returns add-result returns-2 returns-3)
+dots-with-spec = tie.close (tie.spec returns (λ c. search needs) returns-2 returns-3)

@@ -8,11 +8,8 @@ use Rattle.paths.proofs.follows.Tie as tie
 returns : tie.Need-returns
 returns c = sym (follows-nothing (c .before .args .tail .now) (c .if1 .taken))
 
-shared-slice-read-result : tie.Need-shared-slice-read-result
-shared-slice-read-result c = search needs
-
 returns-2 : tie.Need-returns-2
 returns-2 c = sym (follows-first (c .before .before .args .tail .now) (c .before .if1 .left))
 
 pub follows-spec : {M : Type 1} → statement M
-follows-spec = tie.close (tie.spec returns shared-slice-read-result returns-2)
+follows-spec = tie.close (tie.spec returns (λ c. search needs) returns-2)

@@ -12,9 +12,6 @@ returns c =
     let a = c .before .before .before .args in
     sym (outer-empty (a .outer .now) (a .inner .now) (c .if1 .taken))
 
-trimmed-len-requires : tie.Need-trimmed-len-requires
-trimmed-len-requires c κs = search needs
-
 returns-2 : tie.Need-returns-2
 returns-2 c =
     let trim = c .before .trimmed-len in
@@ -23,26 +20,11 @@ returns-2 c =
     (too-short (a .outer .now) (a .inner .now) (trim .result) (c .before .before .if1 .left) (trim .ensures .0) (trim .ensures .1)
     (c .if2 .taken))
 
-sub-follows : tie.Need-sub-follows
-sub-follows c = search needs
-
-part-follows-start : tie.Need-part-follows-start
-part-follows-start c = search needs
-
-part-follows-end : tie.Need-part-follows-end
-part-follows-end c = search needs
-
-follows-requires : tie.Need-follows-requires
-follows-requires c κs = search needs
-
 slice-aggregate-starts : tie.Need-slice-aggregate-starts
 slice-aggregate-starts c =
     let trimming = c .before .before .before .before .before in
     let a = trimming .before .before .before .before .args in
     sym (length-take-le (trimming .trimmed-len .result) (a .outer .now) (trimming .trimmed-len .ensures .1))
-
-starts-requires : tie.Need-starts-requires
-starts-requires c κs = search needs
 
 returns-3 : tie.Need-returns-3
 returns-3 c =
@@ -84,14 +66,14 @@ reach-beneath-spec =
     tie.close
     (tie.spec
     returns
-    trimmed-len-requires
+    (λ c κs. search needs)
     returns-2
-    sub-follows
-    part-follows-start
-    part-follows-end
-    follows-requires
+    (λ c. search needs)
+    (λ c. search needs)
+    (λ c. search needs)
+    (λ c κs. search needs)
     slice-aggregate-starts
-    starts-requires
+    (λ c κs. search needs)
     returns-3
     returns-4
     returns-5)

@@ -23,9 +23,6 @@ abbrev μ-loop : tie.MeasureT-loop
 loop-holds : tie.Need-loop-holds Inv-loop μ-loop
 loop-holds c = (omega arith, omega arith, refl)
 
-shared-slice-read-b : tie.Need-shared-slice-read-b Inv-loop μ-loop
-shared-slice-read-b c = search needs
-
 returns : tie.Need-returns Inv-loop μ-loop
 returns c =
     let l = c .before .before .before .before in
@@ -33,12 +30,6 @@ returns c =
     sym
     (l .loop .inv .2 ∙ climbing-slash p (l .loop .dots) (l .loop .i) (l .loop .inv .0) (omega arith) (c .before .if1 .taken)
     ∙ rw (eq-eqb (l .loop .dots) 2 (c .if2 .taken)))
-
-add-i : tie.Need-add-i Inv-loop μ-loop
-add-i c = search needs
-
-loop-less : tie.Need-loop-less Inv-loop μ-loop
-loop-less c = search needs
 
 loop-again : tie.Need-loop-again Inv-loop μ-loop
 loop-again c =
@@ -50,15 +41,6 @@ loop-again c =
           ∙ climbing-slash p (l .loop .dots) (l .loop .i) (l .loop .inv .0) (omega arith) (c .before .if1 .taken)
           ∙ rw (ne-eqb (l .loop .dots) 2 (c .if2 .left)),
     )
-
-dots-with-requires : tie.Need-dots-with-requires Inv-loop μ-loop
-dots-with-requires c κs = search needs
-
-add-i-2 : tie.Need-add-i-2 Inv-loop μ-loop
-add-i-2 c = search needs
-
-loop-less-2 : tie.Need-loop-less-2 Inv-loop μ-loop
-loop-less-2 c = search needs
 
 loop-again-2 : tie.Need-loop-again-2 Inv-loop μ-loop
 loop-again-2 c =
@@ -85,13 +67,13 @@ walk-components-spec =
     Inv-loop
     μ-loop
     loop-holds
-    shared-slice-read-b
+    (λ c. search needs)
     returns
-    add-i
-    loop-less
+    (λ c. search needs)
+    (λ c. search needs)
     loop-again
-    dots-with-requires
-    add-i-2
-    loop-less-2
+    (λ c κs. search needs)
+    (λ c. search needs)
+    (λ c. search needs)
     loop-again-2
     returns-2)

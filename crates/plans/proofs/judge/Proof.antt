@@ -10,9 +10,6 @@ use Rattle.plans.proofs.judge.Tie as tie
 returns : tie.Need-returns
 returns c = rw (c .if1 .taken)
 
-judge-by-requires : tie.Need-judge-by-requires
-judge-by-requires c κs = search needs
-
 returns-2 : tie.Need-returns-2
 returns-2 c =
     let asked = c .before in
@@ -26,4 +23,4 @@ returns-3 c =
     (judged-some (asked .judge-by .result .violations .count) (c .if2 .left) ∙ ap (λ y. judgedAs (y .violations .count)) (asked .judge-by .ensures))
 
 pub judge-spec : {M : Type 1} → statement M
-judge-spec = tie.close (tie.spec returns judge-by-requires returns-2 returns-3)
+judge-spec = tie.close (tie.spec returns (λ c κs. search needs) returns-2 returns-3)

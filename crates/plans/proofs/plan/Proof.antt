@@ -29,33 +29,15 @@ claims-long s = search (needs, length-mapped)
 shaped : (s : tie.Start) → All (λ o. length (o .path) ≡ pathLimit) (s .args .r .resources .list) → Shaped (s .args .r)
 shaped s sized = record { actors = actors-long s; resources = resources-long s; claims = claims-long s; paths = sized }
 
-slice-aggregate-put-claims : tie.Need-slice-aggregate-put-claims
-slice-aggregate-put-claims c = search needs
-
-put-claims-requires : tie.Need-put-claims-requires
-put-claims-requires c κs = search needs
-
-slice-aggregate-judged : tie.Need-slice-aggregate-judged
-slice-aggregate-judged c = search needs
-
-judged-requires : tie.Need-judged-requires
-judged-requires c κs = search needs
-
-stopped-requires : tie.Need-stopped-requires
-stopped-requires c κs = search needs
-
 returns : tie.Need-returns
 returns c =
     let asked = c .before .before .before in
     let filled = asked .before .before .before in
     let s = filled .before .before .before .before .before in
     let a = s .args in
-    let soundly = known-sound (a .r) (filled .put-claims .ensures) (asked .judged .ensures) in
+    let soundly = known-sound (a .r) (claims-long s) (filled .put-claims .ensures) (asked .judged .ensures) in
     c .stopped .ensures ∙ stop-unsound (sheeted (a .r)) (a .p) (sym soundly ∙ not-true (asked .judged .result .sound) (c .before .if1 .taken))
     ∙ planned-sheeted (a .r) (claims-long s) (a .p)
-
-stopped-requires-2 : tie.Need-stopped-requires-2
-stopped-requires-2 c κs = search needs
 
 returns-2 : tie.Need-returns-2
 returns-2 c =
@@ -63,46 +45,16 @@ returns-2 c =
     let filled = asked .before .before .before in
     let s = filled .before .before .before .before .before in
     let a = s .args in
-    let soundly = known-sound (a .r) (filled .put-claims .ensures) (asked .judged .ensures) in
+    let soundly = known-sound (a .r) (claims-long s) (filled .put-claims .ensures) (asked .judged .ensures) in
     c .stopped2 .ensures
     ∙ stop-many (sheeted (a .r)) (a .p) (sym soundly ∙ not-false (asked .judged .result .sound) (c .before .before .before .if1 .left)) (c .before .if2 .taken)
     ∙ planned-sheeted (a .r) (claims-long s) (a .p)
-
-slice-aggregate-lay : tie.Need-slice-aggregate-lay
-slice-aggregate-lay c = search needs
-
-lay-requires : tie.Need-lay-requires
-lay-requires c κs = search needs
-
-slice-aggregate-view-of : tie.Need-slice-aggregate-view-of
-slice-aggregate-view-of c = search needs
-
-view-of-requires : tie.Need-view-of-requires
-view-of-requires c κs = search needs
-
-first-stop-requires : tie.Need-first-stop-requires
-first-stop-requires c κs = search needs
-
-enum-known-outcome : tie.Need-enum-known-outcome
-enum-known-outcome c = search needs
-
-stopped-requires-3 : tie.Need-stopped-requires-3
-stopped-requires-3 c κs = search needs
-
-enum-told : tie.Need-enum-told
-enum-told c = search needs
 
 slice-aggregate-judge-all : tie.Need-slice-aggregate-judge-all
 -- the sheet is as long as it was made, and filling it keeps that
 slice-aggregate-judge-all c =
     let filled = c .before .before .before .before .before .before .before .before .before .before .before .before .before .before .before .before .before .before in
     search (needs, filled .sheet2 .given, filled .before .put-claims)
-
-slice-aggregate-judge-all-2 : tie.Need-slice-aggregate-judge-all-2
-slice-aggregate-judge-all-2 c = search needs
-
-judge-all-requires : tie.Need-judge-all-requires
-judge-all-requires c κs = search needs
 
 returns-3 : tie.Need-returns-3
 returns-3 c =
@@ -114,9 +66,9 @@ returns-3 c =
     let s = filled .before .before .before .before .before in
     let a = s .args in
     let put = filled .put-claims .ensures in
-    let h = sym (known-sound (a .r) put (asked .judged .ensures)) ∙ not-false (asked .judged .result .sound) (laying .before .before .before .before .if1 .left) in
+    let h = sym (known-sound (a .r) (claims-long s) put (asked .judged .ensures)) ∙ not-false (asked .judged .result .sound) (laying .before .before .before .before .if1 .left) in
     let paths = laid-zeros (a .r .resources) (laying .lay .ensures .0) (laying .lay .ensures .1 .0) in
-    let seen = view-told (a .r) put (asked .judged .ensures) (paths .1) (looking .view-of .ensures) in
+    let seen = view-told (a .r) (claims-long s) put (asked .judged .ensures) (paths .1) (looking .view-of .ensures) in
     let same = stop-found (a .r) (a .p) h (laying .before .before .if2 .left) seen (found .first-stop .ensures) in
     c .stopped3 .ensures ∙ found-halts (sheeted (a .r)) (a .p) same (c .before .before .outcome .given .0 .0) (c .before .before .outcome .given .1)
     ∙ planned-sheeted (a .r) (claims-long s) (a .p)
@@ -131,9 +83,9 @@ returns-4 c =
     let s = filled .before .before .before .before .before in
     let a = s .args in
     let put = filled .put-claims .ensures in
-    let h = sym (known-sound (a .r) put (asked .judged .ensures)) ∙ not-false (asked .judged .result .sound) (laying .before .before .before .before .if1 .left) in
+    let h = sym (known-sound (a .r) (claims-long s) put (asked .judged .ensures)) ∙ not-false (asked .judged .result .sound) (laying .before .before .before .before .if1 .left) in
     let paths = laid-zeros (a .r .resources) (laying .lay .ensures .0) (laying .lay .ensures .1 .0) in
-    let seen = view-told (a .r) put (asked .judged .ensures) (paths .1) (looking .view-of .ensures) in
+    let seen = view-told (a .r) (claims-long s) put (asked .judged .ensures) (paths .1) (looking .view-of .ensures) in
     let same = stop-found (a .r) (a .p) h (laying .before .before .if2 .left) seen (found .first-stop .ensures) in
     planned-lent (a .r) (a .p) (shaped s (laying .lay .ensures .1 .1)) (found-runs (sheeted (a .r)) (a .p) same (c .before .before .before .enum-told .given .1))
     seen put (paths .0) (c .judge-all .ensures)
@@ -143,24 +95,24 @@ pub plan-spec : {M : Type 1} → statement M
 plan-spec =
     tie.close
     (tie.spec
-    slice-aggregate-put-claims
-    put-claims-requires
-    slice-aggregate-judged
-    judged-requires
-    stopped-requires
+    (λ c. search needs)
+    (λ c κs. search needs)
+    (λ c. search needs)
+    (λ c κs. search needs)
+    (λ c κs. search needs)
     returns
-    stopped-requires-2
+    (λ c κs. search needs)
     returns-2
-    slice-aggregate-lay
-    lay-requires
-    slice-aggregate-view-of
-    view-of-requires
-    first-stop-requires
-    enum-known-outcome
-    stopped-requires-3
-    enum-told
+    (λ c. search needs)
+    (λ c κs. search needs)
+    (λ c. search needs)
+    (λ c κs. search needs)
+    (λ c κs. search needs)
+    (λ c. search needs)
+    (λ c κs. search needs)
+    (λ c. search needs)
     slice-aggregate-judge-all
-    slice-aggregate-judge-all-2
-    judge-all-requires
+    (λ c. search needs)
+    (λ c κs. search needs)
     returns-3
     returns-4)

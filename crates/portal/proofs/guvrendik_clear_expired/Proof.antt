@@ -6,16 +6,10 @@ use Rattle.answers.specs.Laws.{withdrawnAnswer, withdrawn-natural}
 use Rattle.portal.proofs.guvrendik_clear_expired.Statement.{statement}
 use Rattle.portal.proofs.guvrendik_clear_expired.Tie as tie
 
-clear-expired-requires : tie.Need-clear-expired-requires
-clear-expired-requires c κs = search needs
-
-withdrawn-requires : tie.Need-withdrawn-requires
-withdrawn-requires c κs = search needs
-
 returns : tie.Need-returns
 returns c =
     let given = c .before .before .args in
     c .withdrawn .ensures ∙ ap (withdrawnAnswer (given .r)) (c .before .clear-expired .ensures) ∙ withdrawn-natural (given .r) (clearExpired (given .caller) (given .moment))
 
 pub guvrendik-clear-expired-spec : {M : Type 1} → statement M
-guvrendik-clear-expired-spec = tie.close (tie.spec clear-expired-requires withdrawn-requires returns)
+guvrendik-clear-expired-spec = tie.close (tie.spec (λ c κs. search needs) (λ c κs. search needs) returns)

@@ -6,16 +6,10 @@ use Rattle.answers.specs.Laws.{withdrawnAnswer, withdrawn-natural}
 use Rattle.portal.proofs.guvrendik_clear_resource.Statement.{statement}
 use Rattle.portal.proofs.guvrendik_clear_resource.Tie as tie
 
-clear-resource-requires : tie.Need-clear-resource-requires
-clear-resource-requires c κs = search needs
-
-withdrawn-requires : tie.Need-withdrawn-requires
-withdrawn-requires c κs = search needs
-
 returns : tie.Need-returns
 returns c =
     let given = c .before .before .args in
     c .withdrawn .ensures ∙ ap (withdrawnAnswer (given .r)) (c .before .clear-resource .ensures) ∙ withdrawn-natural (given .r) (clearResource (given .caller) (given .resource))
 
 pub guvrendik-clear-resource-spec : {M : Type 1} → statement M
-guvrendik-clear-resource-spec = tie.close (tie.spec clear-resource-requires withdrawn-requires returns)
+guvrendik-clear-resource-spec = tie.close (tie.spec (λ c κs. search needs) (λ c κs. search needs) returns)

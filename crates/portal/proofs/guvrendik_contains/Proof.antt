@@ -5,14 +5,8 @@ use Rattle.answers.specs.Laws.{containment-told, containmentOf}
 use Rattle.portal.proofs.guvrendik_contains.Statement.{statement}
 use Rattle.portal.proofs.guvrendik_contains.Tie as tie
 
-contains-requires : tie.Need-contains-requires
-contains-requires c κs = search needs
-
-contained-requires : tie.Need-contained-requires
-contained-requires c κs = search needs
-
 returns : tie.Need-returns
 returns c = c .contained .ensures ∙ ap containmentOf (c .before .contains .ensures) ∙ containment-told _ _
 
 pub guvrendik-contains-spec : {M : Type 1} → statement M
-guvrendik-contains-spec = tie.close (tie.spec contains-requires contained-requires returns)
+guvrendik-contains-spec = tie.close (tie.spec (λ c κs. search needs) (λ c κs. search needs) returns)

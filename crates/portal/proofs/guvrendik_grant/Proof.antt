@@ -5,12 +5,6 @@ use Rattle.answers.specs.Laws.{grantedAnswer, granted-natural}
 use Rattle.portal.proofs.guvrendik_grant.Statement.{statement}
 use Rattle.portal.proofs.guvrendik_grant.Tie as tie
 
-grant-outcome-requires : tie.Need-grant-outcome-requires
-grant-outcome-requires c κs = search needs
-
-granted-requires : tie.Need-granted-requires
-granted-requires c κs = search needs
-
 returns : tie.Need-returns
 returns c =
     let given = c .before .before .args in
@@ -19,4 +13,4 @@ returns c =
     ∙ granted-natural (given .r) (given .c) (given .moment)
 
 pub guvrendik-grant-spec : {M : Type 1} → statement M
-guvrendik-grant-spec = tie.close (tie.spec grant-outcome-requires granted-requires returns)
+guvrendik-grant-spec = tie.close (tie.spec (λ c κs. search needs) (λ c κs. search needs) returns)

@@ -4,20 +4,8 @@ use Rattle.answers.specs.Laws.{plan-told}
 use Rattle.portal.proofs.guvrendik_judge_plan.Statement.{statement}
 use Rattle.portal.proofs.guvrendik_judge_plan.Tie as tie
 
-plan-requires : tie.Need-plan-requires
-plan-requires c κs = search needs
-
-accepted-requires : tie.Need-accepted-requires
-accepted-requires c κs = search needs
-
-refusal-requires : tie.Need-refusal-requires
-refusal-requires c κs = search needs
-
-judgements-requires : tie.Need-judgements-requires
-judgements-requires c κs = search needs
-
 returns : tie.Need-returns
 returns c = plan-told (c .before .before .before .plan .ensures) (c .before .before .accepted .ensures) (c .before .refusal .ensures) (c .judgements .ensures)
 
 pub guvrendik-judge-plan-spec : {M : Type 1} → statement M
-guvrendik-judge-plan-spec = tie.close (tie.spec plan-requires accepted-requires refusal-requires judgements-requires returns)
+guvrendik-judge-plan-spec = tie.close (tie.spec (λ c κs. search needs) (λ c κs. search needs) (λ c κs. search needs) (λ c κs. search needs) returns)

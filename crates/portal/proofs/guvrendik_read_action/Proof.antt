@@ -4,17 +4,8 @@ use Rattle.answers.specs.Laws.{action-told}
 use Rattle.portal.proofs.guvrendik_read_action.Statement.{statement}
 use Rattle.portal.proofs.guvrendik_read_action.Tie as tie
 
-read-action-requires : tie.Need-read-action-requires
-read-action-requires c κs = search needs
-
-accepted-requires : tie.Need-accepted-requires
-accepted-requires c κs = search needs
-
-refusal-requires : tie.Need-refusal-requires
-refusal-requires c κs = search needs
-
 returns : tie.Need-returns
 returns c = action-told (c .before .before .before .read-action .ensures) (c .before .accepted .ensures) (c .refusal .ensures)
 
 pub guvrendik-read-action-spec : {M : Type 1} → statement M
-guvrendik-read-action-spec = tie.close (tie.spec read-action-requires accepted-requires refusal-requires returns)
+guvrendik-read-action-spec = tie.close (tie.spec (λ c κs. search needs) (λ c κs. search needs) (λ c κs. search needs) returns)

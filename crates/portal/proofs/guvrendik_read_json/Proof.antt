@@ -4,17 +4,8 @@ use Rattle.answers.specs.Laws.{json-told}
 use Rattle.portal.proofs.guvrendik_read_json.Statement.{statement}
 use Rattle.portal.proofs.guvrendik_read_json.Tie as tie
 
-read-json-requires : tie.Need-read-json-requires
-read-json-requires c κs = search needs
-
-accepted-requires : tie.Need-accepted-requires
-accepted-requires c κs = search needs
-
-refusal-requires : tie.Need-refusal-requires
-refusal-requires c κs = search needs
-
 returns : tie.Need-returns
 returns c = json-told (c .before .before .before .before .read-json .ensures) (c .before .accepted .ensures) (c .refusal .ensures)
 
 pub guvrendik-read-json-spec : {M : Type 1} → statement M
-guvrendik-read-json-spec = tie.close (tie.spec read-json-requires accepted-requires refusal-requires returns)
+guvrendik-read-json-spec = tie.close (tie.spec (λ c κs. search needs) (λ c κs. search needs) (λ c κs. search needs) returns)

@@ -6,16 +6,10 @@ use Rattle.answers.specs.Laws.{withdrawnAnswer, withdrawn-natural}
 use Rattle.portal.proofs.guvrendik_revoke.Statement.{statement}
 use Rattle.portal.proofs.guvrendik_revoke.Tie as tie
 
-revoke-requires : tie.Need-revoke-requires
-revoke-requires c κs = search needs
-
-withdrawn-requires : tie.Need-withdrawn-requires
-withdrawn-requires c κs = search needs
-
 returns : tie.Need-returns
 returns c =
     let given = c .before .before .args in
     c .withdrawn .ensures ∙ ap (withdrawnAnswer (given .r)) (c .before .revoke .ensures) ∙ withdrawn-natural (given .r) (revoke (given .revoker) (given .claim))
 
 pub guvrendik-revoke-spec : {M : Type 1} → statement M
-guvrendik-revoke-spec = tie.close (tie.spec revoke-requires withdrawn-requires returns)
+guvrendik-revoke-spec = tie.close (tie.spec (λ c κs. search needs) (λ c κs. search needs) returns)

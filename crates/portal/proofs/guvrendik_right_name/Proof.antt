@@ -5,19 +5,10 @@ use Rattle.answers.specs.Answers.{writtenAnswer}
 use Rattle.portal.proofs.guvrendik_right_name.Statement.{statement}
 use Rattle.portal.proofs.guvrendik_right_name.Tie as tie
 
-right-name-requires : tie.Need-right-name-requires
-right-name-requires c κs = search needs
-
-written-requires : tie.Need-written-requires
-written-requires c κs = search needs
-
-same-length : tie.Need-same-length
-same-length c = search needs
-
 returns : tie.Need-returns
 returns c =
     let call = c .before .before .before .right-name in
     (c .written .ensures ∙ ap writtenAnswer (call .ensures .0), call .ensures .1)
 
 pub guvrendik-right-name-spec : {M : Type 1} → statement M
-guvrendik-right-name-spec = tie.close (tie.spec right-name-requires written-requires same-length returns)
+guvrendik-right-name-spec = tie.close (tie.spec (λ c κs. search needs) (λ c κs. search needs) (λ c. search needs) returns)

@@ -5,19 +5,10 @@ use Rattle.answers.specs.Answers.{writtenAnswer}
 use Rattle.portal.proofs.guvrendik_verdict_text.Statement.{statement}
 use Rattle.portal.proofs.guvrendik_verdict_text.Tie as tie
 
-verdict-text-requires : tie.Need-verdict-text-requires
-verdict-text-requires c κs = search needs
-
-written-requires : tie.Need-written-requires
-written-requires c κs = search needs
-
-same-length : tie.Need-same-length
-same-length c = search needs
-
 returns : tie.Need-returns
 returns c =
     let call = c .before .before .before .verdict-text in
     (c .written .ensures ∙ ap writtenAnswer (call .ensures .0), call .ensures .1)
 
 pub guvrendik-verdict-text-spec : {M : Type 1} → statement M
-guvrendik-verdict-text-spec = tie.close (tie.spec verdict-text-requires written-requires same-length returns)
+guvrendik-verdict-text-spec = tie.close (tie.spec (λ c κs. search needs) (λ c κs. search needs) (λ c. search needs) returns)

@@ -5,19 +5,10 @@ use Rattle.answers.specs.Answers.{writtenAnswer}
 use Rattle.portal.proofs.guvrendik_write_register.Statement.{statement}
 use Rattle.portal.proofs.guvrendik_write_register.Tie as tie
 
-write-requires : tie.Need-write-requires
-write-requires c κs = search needs
-
-written-requires : tie.Need-written-requires
-written-requires c κs = search needs
-
-same-length : tie.Need-same-length
-same-length c = search needs
-
 returns : tie.Need-returns
 returns c =
     let call = c .before .before .before .write in
     (c .written .ensures ∙ ap writtenAnswer (call .ensures .0), call .ensures .1)
 
 pub guvrendik-write-register-spec : {M : Type 1} → statement M
-guvrendik-write-register-spec = tie.close (tie.spec write-requires written-requires same-length returns)
+guvrendik-write-register-spec = tie.close (tie.spec (λ c κs. search needs) (λ c κs. search needs) (λ c. search needs) returns)

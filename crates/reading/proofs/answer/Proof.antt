@@ -7,26 +7,11 @@ use Rattle.reading.specs.Runs.{stands-failed, stands-going}
 use Rattle.reading.proofs.answer.Statement.{statement}
 use Rattle.reading.proofs.answer.Tie as tie
 
-goes-on-requires : tie.Need-goes-on-requires
-goes-on-requires c κs = search needs
-
-refusal-of-requires : tie.Need-refusal-of-requires
-refusal-of-requires c κs = search needs
-
-refused-requires : tie.Need-refused-requires
-refused-requires c κs = search needs
-
 returns : tie.Need-returns
 returns c =
     let args = c .before .before .before .before .before .args in
     let halted = sym (c .before .before .before .goes-on .ensures) ∙ not-true _ (c .before .before .if1 .taken) in
     c .refused .ensures ∙ rw (c .before .refusal-of .ensures, stands-failed (args .s .now) (args .c) halted)
-
-is-sound-requires : tie.Need-is-sound-requires
-is-sound-requires c κs = search needs
-
-refused-requires-2 : tie.Need-refused-requires-2
-refused-requires-2 c κs = search needs
 
 returns-2 : tie.Need-returns-2
 returns-2 c =
@@ -46,11 +31,11 @@ pub answer-spec : {M : Type 1} → statement M
 answer-spec =
     tie.close
     (tie.spec
-    goes-on-requires
-    refusal-of-requires
-    refused-requires
+    (λ c κs. search needs)
+    (λ c κs. search needs)
+    (λ c κs. search needs)
     returns
-    is-sound-requires
-    refused-requires-2
+    (λ c κs. search needs)
+    (λ c κs. search needs)
     returns-2
     returns-3)

@@ -1,37 +1,15 @@
 -- `reading::read_actor` meets its contract: three lines one behind the other, and each number is within its range. Assumes nothing.
 use borrow.Author.Needs.{needs}
 use native.Mathlib.Omega.{arith}
-use mathlib.Core.List.{[], _∷_}
-use mathlib.Core.Path.{ap, sym}
+use mathlib.Core.List.{[]}
+use mathlib.Core.Path.{sym}
 use Rattle.register.specs.Limits.{idLimit}
 use Rattle.lines.specs.Reading.{number, kind, formRefusal}
 use Rattle.lines.specs.Answers.{stateOf}
 use Rattle.texts.specs.Keys.{actorKey, ownerKey}
-use Rattle.texts.specs.Registers.{actorForms, actorFrom}
-use Rattle.reading.specs.Runs.{Run, run-none, run-next, field-bound, kind-field-bound}
+use Rattle.reading.specs.Runs.{run-none, run-next, field-bound, kind-field-bound}
 use Rattle.reading.proofs.read_actor.Statement.{statement}
 use Rattle.reading.proofs.read_actor.Tie as tie
-
-slice-aggregate-read-number : tie.Need-slice-aggregate-read-number
-slice-aggregate-read-number c = search needs
-
-cast-read-number : tie.Need-cast-read-number
-cast-read-number c = search needs
-
-read-number-requires : tie.Need-read-number-requires
-read-number-requires c κs = search needs
-
-read-kind-requires : tie.Need-read-kind-requires
-read-kind-requires c κs = search needs
-
-slice-aggregate-read-number-2 : tie.Need-slice-aggregate-read-number-2
-slice-aggregate-read-number-2 c = search needs
-
-cast-read-number-2 : tie.Need-cast-read-number-2
-cast-read-number-2 c = search needs
-
-read-number-requires-2 : tie.Need-read-number-requires-2
-read-number-requires-2 c κs = search needs
 
 cast-t15 : tie.Need-cast-t15
 cast-t15 c =
@@ -71,13 +49,13 @@ pub read-actor-spec : {M : Type 1} → statement M
 read-actor-spec =
     tie.close
     (tie.spec
-    slice-aggregate-read-number
-    cast-read-number
-    read-number-requires
-    read-kind-requires
-    slice-aggregate-read-number-2
-    cast-read-number-2
-    read-number-requires-2
+    (λ c. search needs)
+    (λ c. search needs)
+    (λ c κs. search needs)
+    (λ c κs. search needs)
+    (λ c. search needs)
+    (λ c. search needs)
+    (λ c κs. search needs)
     cast-t15
     cast-t16
     cast-t17

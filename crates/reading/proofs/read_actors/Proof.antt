@@ -30,17 +30,8 @@ count-bound c =
     let args = c .before .before .before .args in
     field-bound (args .s .now) actorsKey 0 actorLimit countRefusal (stateOf (args .s .now) (args .c)) (c .read-count .result) (c .read-count .ensures)
 
-slice-aggregate-read-count : tie.Need-slice-aggregate-read-count Inv-loop μ-loop
-slice-aggregate-read-count c = search needs
-
-read-count-requires : tie.Need-read-count-requires Inv-loop μ-loop
-read-count-requires c κs = search needs
-
 loop-holds : tie.Need-loop-holds Inv-loop μ-loop
 loop-holds c = listing-start _ _ refl refl
-
-read-actor-requires : tie.Need-read-actor-requires Inv-loop μ-loop
-read-actor-requires c κs = search needs
 
 mul-list : tie.Need-mul-list Inv-loop μ-loop
 mul-list c = omega (arith, count-bound (c .before .before .before .before .before .before), c .before .before .before .loop-test .taken)
@@ -81,10 +72,10 @@ read-actors-spec =
     (tie.spec
     Inv-loop
     μ-loop
-    slice-aggregate-read-count
-    read-count-requires
+    (λ c. search needs)
+    (λ c κs. search needs)
     loop-holds
-    read-actor-requires
+    (λ c κs. search needs)
     mul-list
     array-set-from-list
     add-i

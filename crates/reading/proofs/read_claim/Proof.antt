@@ -70,75 +70,6 @@ weight-bound c =
     let weight = c .before .before .read-number7 in
     field-bound s weightKey 0 weightLimit formRefusal (stateOf s (rights .result .cursor)) (weight .result) (weight .ensures)
 
-slice-aggregate-read-number : tie.Need-slice-aggregate-read-number
-slice-aggregate-read-number c = search needs
-
-cast-read-number : tie.Need-cast-read-number
-cast-read-number c = search needs
-
-read-number-requires : tie.Need-read-number-requires
-read-number-requires c κs = search needs
-
-slice-aggregate-read-number-2 : tie.Need-slice-aggregate-read-number-2
-slice-aggregate-read-number-2 c = search needs
-
-cast-read-number-2 : tie.Need-cast-read-number-2
-cast-read-number-2 c = search needs
-
-read-number-requires-2 : tie.Need-read-number-requires-2
-read-number-requires-2 c κs = search needs
-
-slice-aggregate-read-number-3 : tie.Need-slice-aggregate-read-number-3
-slice-aggregate-read-number-3 c = search needs
-
-cast-read-number-3 : tie.Need-cast-read-number-3
-cast-read-number-3 c = search needs
-
-read-number-requires-3 : tie.Need-read-number-requires-3
-read-number-requires-3 c κs = search needs
-
-slice-aggregate-read-number-4 : tie.Need-slice-aggregate-read-number-4
-slice-aggregate-read-number-4 c = search needs
-
-cast-read-number-4 : tie.Need-cast-read-number-4
-cast-read-number-4 c = search needs
-
-read-number-requires-4 : tie.Need-read-number-requires-4
-read-number-requires-4 c κs = search needs
-
-slice-aggregate-read-number-5 : tie.Need-slice-aggregate-read-number-5
-slice-aggregate-read-number-5 c = search needs
-
-cast-read-number-5 : tie.Need-cast-read-number-5
-cast-read-number-5 c = search needs
-
-read-number-requires-5 : tie.Need-read-number-requires-5
-read-number-requires-5 c κs = search needs
-
-slice-aggregate-read-number-6 : tie.Need-slice-aggregate-read-number-6
-slice-aggregate-read-number-6 c = search needs
-
-read-number-requires-6 : tie.Need-read-number-requires-6
-read-number-requires-6 c κs = search needs
-
-slice-aggregate-read-number-7 : tie.Need-slice-aggregate-read-number-7
-slice-aggregate-read-number-7 c = search needs
-
-cast-read-number-6 : tie.Need-cast-read-number-6
-cast-read-number-6 c = search needs
-
-read-number-requires-7 : tie.Need-read-number-requires-7
-read-number-requires-7 c κs = search needs
-
-slice-aggregate-read-number-8 : tie.Need-slice-aggregate-read-number-8
-slice-aggregate-read-number-8 c = search needs
-
-sub-read-number : tie.Need-sub-read-number
-sub-read-number c = search needs
-
-read-number-requires-8 : tie.Need-read-number-requires-8
-read-number-requires-8 c κs = search needs
-
 cast-t38 : tie.Need-cast-t38
 cast-t38 c = omega (arith, id-bound (c .before))
 
@@ -191,29 +122,29 @@ pub read-claim-spec : {M : Type 1} → statement M
 read-claim-spec =
     tie.close
     (tie.spec
-    slice-aggregate-read-number
-    cast-read-number
-    read-number-requires
-    slice-aggregate-read-number-2
-    cast-read-number-2
-    read-number-requires-2
-    slice-aggregate-read-number-3
-    cast-read-number-3
-    read-number-requires-3
-    slice-aggregate-read-number-4
-    cast-read-number-4
-    read-number-requires-4
-    slice-aggregate-read-number-5
-    cast-read-number-5
-    read-number-requires-5
-    slice-aggregate-read-number-6
-    read-number-requires-6
-    slice-aggregate-read-number-7
-    cast-read-number-6
-    read-number-requires-7
-    slice-aggregate-read-number-8
-    sub-read-number
-    read-number-requires-8
+    (λ c. search needs)
+    (λ c. search needs)
+    (λ c κs. search needs)
+    (λ c. search needs)
+    (λ c. search needs)
+    (λ c κs. search needs)
+    (λ c. search needs)
+    (λ c. search needs)
+    (λ c κs. search needs)
+    (λ c. search needs)
+    (λ c. search needs)
+    (λ c κs. search needs)
+    (λ c. search needs)
+    (λ c. search needs)
+    (λ c κs. search needs)
+    (λ c. search needs)
+    (λ c κs. search needs)
+    (λ c. search needs)
+    (λ c. search needs)
+    (λ c κs. search needs)
+    (λ c. search needs)
+    (λ c. search needs)
+    (λ c κs. search needs)
     cast-t38
     cast-t39
     cast-t40

@@ -30,20 +30,8 @@ count-bound c =
     let args = c .before .before .before .args in
     field-bound (args .s .now) claimsKey 0 claimLimit countRefusal (stateOf (args .s .now) (args .c)) (c .read-count .result) (c .read-count .ensures)
 
-slice-aggregate-read-count : tie.Need-slice-aggregate-read-count Inv-loop μ-loop
-slice-aggregate-read-count c = search needs
-
-read-count-requires : tie.Need-read-count-requires Inv-loop μ-loop
-read-count-requires c κs = search needs
-
-none-requires : tie.Need-none-requires Inv-loop μ-loop
-none-requires c κs = search needs
-
 loop-holds : tie.Need-loop-holds Inv-loop μ-loop
 loop-holds c = rw (c .before .none .ensures) (listing-start _ _ refl refl)
-
-read-claim-requires : tie.Need-read-claim-requires Inv-loop μ-loop
-read-claim-requires c κs = search needs
 
 mul-list : tie.Need-mul-list Inv-loop μ-loop
 mul-list c = omega (arith, count-bound (c .before .before .before .before .before .before .before), c .before .before .before .loop-test .taken)
@@ -84,11 +72,11 @@ read-claims-spec =
     (tie.spec
     Inv-loop
     μ-loop
-    slice-aggregate-read-count
-    read-count-requires
-    none-requires
+    (λ c. search needs)
+    (λ c κs. search needs)
+    (λ c κs. search needs)
     loop-holds
-    read-claim-requires
+    (λ c κs. search needs)
     mul-list
     array-set-from-list
     add-i

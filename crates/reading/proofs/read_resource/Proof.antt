@@ -4,7 +4,6 @@ use Prim.Native.Nat.{_≤_}
 use borrow.Author.Needs.{needs}
 use native.Mathlib.Omega.{arith}
 use mathlib.Core.List.{[], _∷_}
-use mathlib.Core.Path.{sym}
 use Rattle.register.specs.Limits.{idLimit}
 use Rattle.lines.specs.Reading.{number, formRefusal}
 use Rattle.lines.specs.Answers.{stateOf}
@@ -53,33 +52,6 @@ lines-read c =
     (run-next s (number publicKey 0 1) _ (stateOf s (id .result .cursor)) (public .result) _ end (public .ensures)
     (run-next s (number keeperKey 1 idLimit) [] (stateOf s (public .result .cursor)) (keeper .result) [] end (keeper .ensures) (run-none s end)))
 
-slice-aggregate-read-number : tie.Need-slice-aggregate-read-number
-slice-aggregate-read-number c = search needs
-
-cast-read-number : tie.Need-cast-read-number
-cast-read-number c = search needs
-
-read-number-requires : tie.Need-read-number-requires
-read-number-requires c κs = search needs
-
-slice-aggregate-read-number-2 : tie.Need-slice-aggregate-read-number-2
-slice-aggregate-read-number-2 c = search needs
-
-read-number-requires-2 : tie.Need-read-number-requires-2
-read-number-requires-2 c κs = search needs
-
-slice-aggregate-read-number-3 : tie.Need-slice-aggregate-read-number-3
-slice-aggregate-read-number-3 c = search needs
-
-cast-read-number-2 : tie.Need-cast-read-number-2
-cast-read-number-2 c = search needs
-
-read-number-requires-3 : tie.Need-read-number-requires-3
-read-number-requires-3 c κs = search needs
-
-read-scope-requires : tie.Need-read-scope-requires
-read-scope-requires c κs = search needs
-
 cast-t20 : tie.Need-cast-t20
 cast-t20 c = omega (arith, id-bound (c .before .before .before))
 
@@ -102,15 +74,15 @@ pub read-resource-spec : {M : Type 1} → statement M
 read-resource-spec =
     tie.close
     (tie.spec
-    slice-aggregate-read-number
-    cast-read-number
-    read-number-requires
-    slice-aggregate-read-number-2
-    read-number-requires-2
-    slice-aggregate-read-number-3
-    cast-read-number-2
-    read-number-requires-3
-    read-scope-requires
+    (λ c. search needs)
+    (λ c. search needs)
+    (λ c κs. search needs)
+    (λ c. search needs)
+    (λ c κs. search needs)
+    (λ c. search needs)
+    (λ c. search needs)
+    (λ c κs. search needs)
+    (λ c κs. search needs)
     cast-t20
     cast-t21
     cast-t22

@@ -34,29 +34,11 @@ abbrev μ-loop : tie.MeasureT-loop
 loop-holds : tie.Need-loop-holds Inv-loop μ-loop
 loop-holds c = (refl, summing-start)
 
-mul-if1 : tie.Need-mul-if1 Inv-loop μ-loop
-mul-if1 c = search needs
-
-element-copy-out-if1 : tie.Need-element-copy-out-if1 Inv-loop μ-loop
-element-copy-out-if1 c = search needs
-
-add-b : tie.Need-add-b Inv-loop μ-loop
-add-b c = search needs
-
-loop-less : tie.Need-loop-less Inv-loop μ-loop
-loop-less c = search needs
-
 loop-again : tie.Need-loop-again Inv-loop μ-loop
 loop-again c =
     let inv = c .before .before .loop .inv in
     let h = c .before .loop-test .taken in
     (inv .0, summing-free (inv .1) h (machine-at (inv .0) h (c .if1 .taken)))
-
-mul-kept : tie.Need-mul-kept Inv-loop μ-loop
-mul-kept c = search needs
-
-element-copy-out-kept : tie.Need-element-copy-out-kept Inv-loop μ-loop
-element-copy-out-kept c = search needs
 
 add-kept : tie.Need-add-kept Inv-loop μ-loop
 add-kept c =
@@ -64,12 +46,6 @@ add-kept c =
     let h = c .before .loop-test .taken in
     let fits = summing-fits (inv .1) h (machine-at (inv .0) h (c .if1 .left)) (worth-at (inv .0) h) in
     search needs
-
-add-b-2 : tie.Need-add-b-2 Inv-loop μ-loop
-add-b-2 c = search needs
-
-loop-less-2 : tie.Need-loop-less-2 Inv-loop μ-loop
-loop-less-2 c = search needs
 
 loop-again-2 : tie.Need-loop-again-2 Inv-loop μ-loop
 loop-again-2 c =
@@ -89,15 +65,15 @@ bars-machine-spec =
     Inv-loop
     μ-loop
     loop-holds
-    mul-if1
-    element-copy-out-if1
-    add-b
-    loop-less
+    (λ c. search needs)
+    (λ c. search needs)
+    (λ c. search needs)
+    (λ c. search needs)
     loop-again
-    mul-kept
-    element-copy-out-kept
+    (λ c. search needs)
+    (λ c. search needs)
     add-kept
-    add-b-2
-    loop-less-2
+    (λ c. search needs)
+    (λ c. search needs)
     loop-again-2
     returns)

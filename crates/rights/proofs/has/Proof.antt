@@ -7,9 +7,6 @@ use Rattle.rights.specs.Rights.{rightCount, hasRight}
 use Rattle.rights.proofs.has.Statement.{statement}
 use Rattle.rights.proofs.has.Tie as tie
 
-shr-result : tie.Need-shr-result
-shr-result c = search needs
-
 returns : tie.Need-returns
 unfolding hasRight
 returns c = rw (lt-ltb (c .before .args .b) rightCount (omega arith))
@@ -19,4 +16,4 @@ unfolding hasRight
 returns-2 c = rw (le-ltb (c .before .args .b) rightCount (omega arith))
 
 pub has-spec : {M : Type 1} → statement M
-has-spec = tie.close (tie.spec shr-result returns returns-2)
+has-spec = tie.close (tie.spec (λ c. search needs) returns returns-2)

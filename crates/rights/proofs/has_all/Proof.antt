@@ -10,15 +10,6 @@ use Rattle.rights.proofs.Masks.{has-rights-mask}
 use Rattle.rights.proofs.has_all.Statement.{statement}
 use Rattle.rights.proofs.has_all.Tie as tie
 
-worth-requires : tie.Need-worth-requires
-worth-requires c κs = search needs
-
-mul-asked : tie.Need-mul-asked
-mul-asked c = search needs
-
-sub-asked : tie.Need-sub-asked
-sub-asked c = search needs
-
 returns : tie.Need-returns
 returns c =
     ap (λ (a : ℕ). eqb (bitAnd a (c .before .args .n)) a)
@@ -26,4 +17,4 @@ returns c =
     ∙ has-rights-mask (c .before .args .n) (c .before .args .m)
 
 pub has-all-spec : {M : Type 1} → statement M
-has-all-spec = tie.close (tie.spec worth-requires mul-asked sub-asked returns)
+has-all-spec = tie.close (tie.spec (λ c κs. search needs) (λ c. search needs) (λ c. search needs) returns)

@@ -6,17 +6,11 @@ use borrow.Author.Tests.{lt-ltb}
 use Rattle.rights.proofs.in_range.Statement.{statement}
 use Rattle.rights.proofs.in_range.Tie as tie
 
-worth-requires : tie.Need-worth-requires
-worth-requires c κs = search needs
-
 returns : tie.Need-returns
 returns c = rw (c .if1 .taken)
-
-mul-result : tie.Need-mul-result
-mul-result c = search needs
 
 returns-2 : tie.Need-returns-2
 returns-2 c = rw (c .before .worth .ensures, lt-ltb 0 (c .before .before .args .n) (omega (arith, c .if1 .left)))
 
 pub in-range-spec : {M : Type 1} → statement M
-in-range-spec = tie.close (tie.spec worth-requires returns mul-result returns-2)
+in-range-spec = tie.close (tie.spec (λ c κs. search needs) returns (λ c. search needs) returns-2)

@@ -7,12 +7,6 @@ use Rattle.rights.proofs.Table.{table-machine}
 use Rattle.rights.proofs.machine_grants.Statement.{statement}
 use Rattle.rights.proofs.machine_grants.Tie as tie
 
-mul-result : tie.Need-mul-result
-mul-result c = search needs
-
-element-copy-out-result : tie.Need-element-copy-out-result
-element-copy-out-result c = search needs
-
 returns : tie.Need-returns
 returns c = table-machine (c .before .args .b) (c .if1 .taken)
 
@@ -20,4 +14,4 @@ returns-2 : tie.Need-returns-2
 returns-2 c = rw (le-ltb (c .before .args .b) rightCount (c .if1 .left))
 
 pub machine-grants-spec : {M : Type 1} → statement M
-machine-grants-spec = tie.close (tie.spec mul-result element-copy-out-result returns returns-2)
+machine-grants-spec = tie.close (tie.spec (λ c. search needs) (λ c. search needs) returns returns-2)

@@ -15,15 +15,6 @@ Inv-loop n m₀ k₀ m k = (k + m ≤ n + 1) × (k + length (digits m) ≡ 1 + l
 abbrev μ-loop : tie.MeasureT-loop
 μ-loop n m₀ k₀ m k = m
 
-loop-holds : tie.Need-loop-holds Inv-loop μ-loop
-loop-holds c = omega arith
-
-add-k : tie.Need-add-k Inv-loop μ-loop
-add-k c = omega arith
-
-loop-less : tie.Need-loop-less Inv-loop μ-loop
-loop-less c = omega arith
-
 loop-again : tie.Need-loop-again Inv-loop μ-loop
 loop-again c = omega (arith, length-step (c .before .loop .m) (c .loop-test .taken))
 
@@ -34,4 +25,4 @@ returns c =
 
 pub digit-count-spec : {M : Type 1} → statement M
 digit-count-spec =
-    tie.close (tie.spec Inv-loop μ-loop loop-holds add-k loop-less loop-again returns)
+    tie.close (tie.spec Inv-loop μ-loop (λ c. omega arith) (λ c. omega arith) (λ c. omega arith) loop-again returns)

@@ -23,13 +23,10 @@ returns c =
     let a = c .before .args in
     sym (lt-leb (a .at + a .n) (length (a .buf .now)) (omega arith))
 
-sub-result : tie.Need-sub-result
-sub-result c = search needs
-
 returns-2 : tie.Need-returns-2
 returns-2 c =
     let a = c .before .args in
     room-left (a .at) (a .n) (length (a .buf .now)) (c .if1 .left)
 
 pub has-room-spec : {M : Type 1} → statement M
-has-room-spec = tie.close (tie.spec returns sub-result returns-2)
+has-room-spec = tie.close (tie.spec returns (λ c. search needs) returns-2)

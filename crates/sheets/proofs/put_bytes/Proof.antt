@@ -6,12 +6,6 @@ use Rattle.sheets.specs.Laws.{put-fits}
 use Rattle.sheets.proofs.put_bytes.Statement.{statement}
 use Rattle.sheets.proofs.put_bytes.Tie as tie
 
-has-room-requires : tie.Need-has-room-requires
-has-room-requires c κs = search needs
-
-same-length : tie.Need-same-length
-same-length c = search needs
-
 -- no room
 returns : tie.Need-returns
 returns c =
@@ -20,9 +14,6 @@ returns c =
 
 copy-requires : tie.Need-copy-requires
 copy-requires c κs = leb-true _ _ (sym (c .before .before .has-room .ensures) ∙ not-false _ (c .before .if1 .left))
-
-same-length-2 : tie.Need-same-length-2
-same-length-2 c = search needs
 
 returns-2 : tie.Need-returns-2
 returns-2 c =
@@ -36,4 +27,4 @@ returns-2 c =
 pub put-bytes-spec : {M : Type 1} → statement M
 put-bytes-spec =
     tie.close
-    (tie.spec has-room-requires same-length returns copy-requires same-length-2 returns-2)
+    (tie.spec (λ c κs. search needs) (λ c. search needs) returns copy-requires (λ c. search needs) returns-2)

@@ -51,12 +51,6 @@ last-room c =
     let begun = c .before .before .before .before in
     omega (arith, writing-room (10 ∷ []) [] (room (begun .before .before)) (numbered c))
 
-has-room-requires : tie.Need-has-room-requires
-has-room-requires c κs = search needs
-
-same-length : tie.Need-same-length
-same-length c = search needs
-
 -- no room for the key
 returns : tie.Need-returns
 returns c =
@@ -72,18 +66,6 @@ add-begun c =
     let fit : a .at + length (a .key .now) ≤ length (a .buf .now) =
     leb-true _ _ (sym (c .before .has-room .ensures) ∙ not-false _ (c .if1 .left)) in
     omega (arith, fit)
-
-digit-count-requires : tie.Need-digit-count-requires
-digit-count-requires c κs = search needs
-
-add-has-room : tie.Need-add-has-room
-add-has-room c = search needs
-
-has-room-requires-2 : tie.Need-has-room-requires-2
-has-room-requires-2 c κs = search needs
-
-same-length-2 : tie.Need-same-length-2
-same-length-2 c = search needs
 
 -- no room for the digits and LF
 returns-2 : tie.Need-returns-2
@@ -132,14 +114,14 @@ pub put-line-spec : {M : Type 1} → statement M
 put-line-spec =
     tie.close
     (tie.spec
-    has-room-requires
-    same-length
+    (λ c κs. search needs)
+    (λ c. search needs)
     returns
     add-begun
-    digit-count-requires
-    add-has-room
-    has-room-requires-2
-    same-length-2
+    (λ c κs. search needs)
+    (λ c. search needs)
+    (λ c κs. search needs)
+    (λ c. search needs)
     returns-2
     copy-requires
     write-digits-requires

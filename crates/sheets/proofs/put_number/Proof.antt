@@ -10,15 +10,6 @@ use Rattle.sheets.specs.Laws.{put-fits, put-short}
 use Rattle.sheets.proofs.put_number.Statement.{statement}
 use Rattle.sheets.proofs.put_number.Tie as tie
 
-digit-count-requires : tie.Need-digit-count-requires
-digit-count-requires c κs = search needs
-
-has-room-requires : tie.Need-has-room-requires
-has-room-requires c κs = search needs
-
-same-length : tie.Need-same-length
-same-length c = search needs
-
 -- no room
 returns : tie.Need-returns
 returns c =
@@ -41,9 +32,6 @@ room c =
 write-digits-requires : tie.Need-write-digits-requires
 write-digits-requires c κs = room (c .before)
 
-same-length-2 : tie.Need-same-length-2
-same-length-2 c = search needs
-
 returns-2 : tie.Need-returns-2
 returns-2 c =
     let call = c .before .before .write-digits in
@@ -56,10 +44,10 @@ pub put-number-spec : {M : Type 1} → statement M
 put-number-spec =
     tie.close
     (tie.spec
-    digit-count-requires
-    has-room-requires
-    same-length
+    (λ c κs. search needs)
+    (λ c κs. search needs)
+    (λ c. search needs)
     returns
     write-digits-requires
-    same-length-2
+    (λ c. search needs)
     returns-2)

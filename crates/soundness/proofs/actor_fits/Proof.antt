@@ -6,9 +6,6 @@ use borrow.Author.Tests.{not-true, not-false}
 use Rattle.soundness.proofs.actor_fits.Statement.{statement}
 use Rattle.soundness.proofs.actor_fits.Tie as tie
 
-is-id-requires : tie.Need-is-id-requires
-is-id-requires c κs = search needs
-
 returns : tie.Need-returns
 returns c = sym (actor-unnumbered _ _ (sym (c .before .is-id .ensures) ∙ not-true _ (c .if1 .taken)))
 
@@ -33,9 +30,6 @@ returns-5 c =
     let numbered = owned .before .before in
     sym (actor-owned-other _ _ (sym (numbered .before .is-id .ensures) ∙ not-false _ (numbered .if1 .left)) (owned .if2 .left) (c .if5 .taken))
 
-is-beside-requires : tie.Need-is-beside-requires
-is-beside-requires c κs = search needs
-
 returns-6 : tie.Need-returns-6
 returns-6 c =
     let owned = c .before .before .before .before .before in
@@ -47,11 +41,11 @@ pub actor-fits-spec : {M : Type 1} → statement M
 actor-fits-spec =
     tie.close
     (tie.spec
-    is-id-requires
+    (λ c κs. search needs)
     returns
     returns-2
     returns-3
     returns-4
     returns-5
-    is-beside-requires
+    (λ c κs. search needs)
     returns-6)

@@ -17,20 +17,11 @@ use Rattle.soundness.proofs.claims_alone.Tie as tie
 
 abbrev Inv-loop : tie.InvT-loop
 Inv-loop h keepers spots sheet n actors named stand₀ i₀ stand i =
-    Asked (distinct (take (min h claimLimit) (actors .ids)))
+    Asked (distinct (take (min h claimLimit) (actors .names)))
     (λ j. aloneAt (claimAt sheet j) (foundAt actors keepers (named .first) (named .second) spots j)) n i stand
 
 abbrev μ-loop : tie.MeasureT-loop
 μ-loop h keepers spots sheet n actors named stand₀ i₀ stand i = n - i
-
-column-requires : tie.Need-column-requires Inv-loop μ-loop
-column-requires c κs = search needs
-
-column-requires-2 : tie.Need-column-requires-2 Inv-loop μ-loop
-column-requires-2 c κs = search needs
-
-both-places-requires : tie.Need-both-places-requires Inv-loop μ-loop
-both-places-requires c κs = search needs
 
 loop-holds : tie.Need-loop-holds Inv-loop μ-loop
 loop-holds c =
@@ -38,56 +29,14 @@ loop-holds c =
     asked-none (ids-told (start .args .t1) (start .args .h) (start .args .sheet .now) (start .args .n) (start .pre .0) (start .pre .1)
     (c .both-places .ensures ∙ rw (c .before .before .before .before .before .column .ensures, c .before .before .before .before .column2 .ensures)))
 
-claim-at-requires : tie.Need-claim-at-requires Inv-loop μ-loop
-claim-at-requires c κs = search needs
-
-mul-grantor : tie.Need-mul-grantor Inv-loop μ-loop
-mul-grantor c = search needs
-
-element-copy-out-grantor : tie.Need-element-copy-out-grantor Inv-loop μ-loop
-element-copy-out-grantor c = search needs
-
-cast-grantor : tie.Need-cast-grantor Inv-loop μ-loop
-cast-grantor c = search needs
-
-mul-holder : tie.Need-mul-holder Inv-loop μ-loop
-mul-holder c = search needs
-
-element-copy-out-holder : tie.Need-element-copy-out-holder Inv-loop μ-loop
-element-copy-out-holder c = search needs
-
-cast-holder : tie.Need-cast-holder Inv-loop μ-loop
-cast-holder c = search needs
-
-mul-report : tie.Need-mul-report Inv-loop μ-loop
-mul-report c = search needs
-
-shared-slice-read-report : tie.Need-shared-slice-read-report Inv-loop μ-loop
-shared-slice-read-report c = search needs
-
 cast-report : tie.Need-cast-report Inv-loop μ-loop
 cast-report c = fits-widen tt (c .shared-slice-known4 .given (c .before .before .before .before .before .loop .i))
-
-number-at-requires : tie.Need-number-at-requires Inv-loop μ-loop
-number-at-requires c κs = search needs
-
-number-at-requires-2 : tie.Need-number-at-requires-2 Inv-loop μ-loop
-number-at-requires-2 c κs = search needs
-
-number-at-requires-3 : tie.Need-number-at-requires-3 Inv-loop μ-loop
-number-at-requires-3 c κs = search needs
-
-stands-alone-requires : tie.Need-stands-alone-requires Inv-loop μ-loop
-stands-alone-requires c κs = search needs
 
 add-i : tie.Need-add-i Inv-loop μ-loop
 add-i c =
     let short = c .before .before .before .before .before .before .before .before .before .before .before .before .before .before .before .before .before .before .before .before .before .before .before .before .before .pre .0 in
     let inside = c .before .before .before .before .before .before .before .before .before .before .before .before .before .before .loop-test .taken in
     fits-below {n = claimLimit} tt (omega (arith, short, inside))
-
-loop-less : tie.Need-loop-less Inv-loop μ-loop
-loop-less c = search needs
 
 loop-again : tie.Need-loop-again Inv-loop μ-loop
 loop-again c =
@@ -109,25 +58,25 @@ claims-alone-spec =
     (tie.spec
     Inv-loop
     μ-loop
-    column-requires
-    column-requires-2
-    both-places-requires
+    (λ c κs. search needs)
+    (λ c κs. search needs)
+    (λ c κs. search needs)
     loop-holds
-    claim-at-requires
-    mul-grantor
-    element-copy-out-grantor
-    cast-grantor
-    mul-holder
-    element-copy-out-holder
-    cast-holder
-    mul-report
-    shared-slice-read-report
+    (λ c κs. search needs)
+    (λ c. search needs)
+    (λ c. search needs)
+    (λ c. search needs)
+    (λ c. search needs)
+    (λ c. search needs)
+    (λ c. search needs)
+    (λ c. search needs)
+    (λ c. search needs)
     cast-report
-    number-at-requires
-    number-at-requires-2
-    number-at-requires-3
-    stands-alone-requires
+    (λ c κs. search needs)
+    (λ c κs. search needs)
+    (λ c κs. search needs)
+    (λ c κs. search needs)
     add-i
-    loop-less
+    (λ c. search needs)
     loop-again
     returns)

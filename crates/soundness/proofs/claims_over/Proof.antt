@@ -22,12 +22,6 @@ Inv-loop ups sheet n grantors holders hops₀ i₀ hops i = Tables (claimsIn she
 abbrev μ-loop : tie.MeasureT-loop
 μ-loop ups sheet n grantors holders hops₀ i₀ hops i = n - i
 
-column-requires : tie.Need-column-requires Inv-loop μ-loop
-column-requires c κs = search needs
-
-column-requires-2 : tie.Need-column-requires-2 Inv-loop μ-loop
-column-requires-2 c κs = search needs
-
 loop-holds : tie.Need-loop-holds Inv-loop μ-loop
 loop-holds c =
     let start = c .before .before .before .before in
@@ -36,18 +30,6 @@ loop-holds c =
       climbed-none (claimsIn (start .args .sheet .now)) (start .args .n) _ (search needs),
     )
 
-claim-at-requires : tie.Need-claim-at-requires Inv-loop μ-loop
-claim-at-requires c κs = search needs
-
-array-write-hops : tie.Need-array-write-hops Inv-loop μ-loop
-array-write-hops c = search needs
-
-add-i : tie.Need-add-i Inv-loop μ-loop
-add-i c = search needs
-
-loop-less : tie.Need-loop-less Inv-loop μ-loop
-loop-less c = search needs
-
 loop-again : tie.Need-loop-again Inv-loop μ-loop
 loop-again c =
     let turn = c .before .before .before .before in (
@@ -55,9 +37,6 @@ loop-again c =
       root-passed (turn .loop .inv .0) (c .before .before .before .loop-test .taken) (turn .loop .inv .1)
           (parent-read (turn .before .before .before .before .before .args .sheet .now) (turn .loop .i) (c .before .before .claim-at .ensures) ∙ c .if1 .taken),
     )
-
-mul-up : tie.Need-mul-up Inv-loop μ-loop
-mul-up c = search needs
 
 shared-slice-read-up : tie.Need-shared-slice-read-up Inv-loop μ-loop
 shared-slice-read-up c = let wide = c .before .before .before .before .before .loop .inv .0 .wide in search needs
@@ -71,21 +50,12 @@ returns c =
     sym (parent-failed (turn .loop .inv .0) (c .before .before .before .before .before .loop-test .taken)
     (λ root. c .before .before .if1 .left (sym (parent-read (turn .before .before .before .before .before .args .sheet .now) (turn .loop .i) (c .before .before .before .before .claim-at .ensures)) ∙ root)) (c .if2 .taken))
 
-claim-at-requires-2 : tie.Need-claim-at-requires-2 Inv-loop μ-loop
-claim-at-requires-2 c κs = search needs
-
-array-read-steps : tie.Need-array-read-steps Inv-loop μ-loop
-array-read-steps c = search needs
-
 cast-steps : tie.Need-cast-steps Inv-loop μ-loop
 cast-steps c =
     let s = c .before .before .before .before .before .before .before .before .before .before .before .before .args .sheet .now in
     let turn = c .before .before .before .before .before .before .before in
     fits-below tt (parent-low (turn .loop .inv .0) (c .before .before .before .before .before .before .loop-test .taken)
     (λ root. c .before .before .before .if1 .left (sym (parent-read s (turn .loop .i) (c .before .before .before .before .before .claim-at .ensures)) ∙ root)) (c .before .if2 .left) (turn .loop .inv .1))
-
-stands-over-requires : tie.Need-stands-over-requires Inv-loop μ-loop
-stands-over-requires c κs = search needs
 
 -- the claim is not a root, and what it is asked over its parent is asked of those in the sheet
 child : (e : tie.After-stands-over Inv-loop μ-loop) →
@@ -130,15 +100,6 @@ add-hops c = let few = below c in search needs
 cast-hops : tie.Need-cast-hops Inv-loop μ-loop
 cast-hops c = let few = below c in search needs
 
-array-write-hops-2 : tie.Need-array-write-hops-2 Inv-loop μ-loop
-array-write-hops-2 c = search needs
-
-add-i-2 : tie.Need-add-i-2 Inv-loop μ-loop
-add-i-2 c = search needs
-
-loop-less-2 : tie.Need-loop-less-2 Inv-loop μ-loop
-loop-less-2 c = search needs
-
 loop-again-2 : tie.Need-loop-again-2 Inv-loop μ-loop
 loop-again-2 c =
     let turn = c .before .before .before .before .before .before .before .before .before in (
@@ -159,27 +120,27 @@ claims-over-spec =
     (tie.spec
     Inv-loop
     μ-loop
-    column-requires
-    column-requires-2
+    (λ c κs. search needs)
+    (λ c κs. search needs)
     loop-holds
-    claim-at-requires
-    array-write-hops
-    add-i
-    loop-less
+    (λ c κs. search needs)
+    (λ c. search needs)
+    (λ c. search needs)
+    (λ c. search needs)
     loop-again
-    mul-up
+    (λ c. search needs)
     shared-slice-read-up
     cast-up
     returns
-    claim-at-requires-2
-    array-read-steps
+    (λ c κs. search needs)
+    (λ c. search needs)
     cast-steps
-    stands-over-requires
+    (λ c κs. search needs)
     returns-2
     add-hops
     cast-hops
-    array-write-hops-2
-    add-i-2
-    loop-less-2
+    (λ c. search needs)
+    (λ c. search needs)
+    (λ c. search needs)
     loop-again-2
     returns-3)

@@ -13,41 +13,8 @@ Inv-loop ids kinds n long top humans₀ i₀ humans i = Naming ids kinds n top i
 abbrev μ-loop : tie.MeasureT-loop
 μ-loop ids kinds n long top humans₀ i₀ humans i = top - i
 
-least-requires : tie.Need-least-requires Inv-loop μ-loop
-least-requires c κs = search needs
-
-least-requires-2 : tie.Need-least-requires-2 Inv-loop μ-loop
-least-requires-2 c κs = search needs
-
-least-requires-3 : tie.Need-least-requires-3 Inv-loop μ-loop
-least-requires-3 c κs = search needs
-
 loop-holds : tie.Need-loop-holds Inv-loop μ-loop
 loop-holds c = naming-start (c .least3 .ensures ∙ rw (c .before .least2 .ensures, c .before .before .least .ensures))
-
-mul-human-id : tie.Need-mul-human-id Inv-loop μ-loop
-mul-human-id c = search needs
-
-shared-slice-read-human-id : tie.Need-shared-slice-read-human-id Inv-loop μ-loop
-shared-slice-read-human-id c = search needs
-
-mul-human-id-2 : tie.Need-mul-human-id-2 Inv-loop μ-loop
-mul-human-id-2 c = search needs
-
-shared-slice-read-human-id-2 : tie.Need-shared-slice-read-human-id-2 Inv-loop μ-loop
-shared-slice-read-human-id-2 c = search needs
-
-human-id-requires : tie.Need-human-id-requires Inv-loop μ-loop
-human-id-requires c κs = search needs
-
-mul-humans : tie.Need-mul-humans Inv-loop μ-loop
-mul-humans c = search needs
-
-array-write-humans : tie.Need-array-write-humans Inv-loop μ-loop
-array-write-humans c = search needs
-
-add-i : tie.Need-add-i Inv-loop μ-loop
-add-i c = search needs
 
 loop-less : tie.Need-loop-less Inv-loop μ-loop
 loop-less c = less _ (c .before .before .before .before .loop .i) (c .before .before .before .loop-test .taken)
@@ -64,18 +31,18 @@ human-ids-spec =
     (tie.spec
     Inv-loop
     μ-loop
-    least-requires
-    least-requires-2
-    least-requires-3
+    (λ c κs. search needs)
+    (λ c κs. search needs)
+    (λ c κs. search needs)
     loop-holds
-    mul-human-id
-    shared-slice-read-human-id
-    mul-human-id-2
-    shared-slice-read-human-id-2
-    human-id-requires
-    mul-humans
-    array-write-humans
-    add-i
+    (λ c. search needs)
+    (λ c. search needs)
+    (λ c. search needs)
+    (λ c. search needs)
+    (λ c κs. search needs)
+    (λ c. search needs)
+    (λ c. search needs)
+    (λ c. search needs)
     loop-less
     loop-again
     returns)

@@ -9,18 +9,6 @@ use Rattle.soundness.specs.Laws.{judged-same}
 use Rattle.soundness.proofs.is_sound.Statement.{statement}
 use Rattle.soundness.proofs.is_sound.Tie as tie
 
-slice-aggregate-put-claims : tie.Need-slice-aggregate-put-claims
-slice-aggregate-put-claims c = search needs
-
-put-claims-requires : tie.Need-put-claims-requires
-put-claims-requires c κs = search needs
-
-slice-aggregate-judged : tie.Need-slice-aggregate-judged
-slice-aggregate-judged c = search needs
-
-judged-requires : tie.Need-judged-requires
-judged-requires c κs = search needs
-
 claims-long : (e : tie.Start) → length (e .args .r .claims .list) ≡ claimLimit
 claims-long e = search (needs, length-mapped)
 
@@ -35,8 +23,8 @@ pub is-sound-spec : {M : Type 1} → statement M
 is-sound-spec =
     tie.close
     (tie.spec
-    slice-aggregate-put-claims
-    put-claims-requires
-    slice-aggregate-judged
-    judged-requires
+    (λ c. search needs)
+    (λ c κs. search needs)
+    (λ c. search needs)
+    (λ c κs. search needs)
     returns)

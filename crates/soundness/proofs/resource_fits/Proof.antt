@@ -6,9 +6,6 @@ use borrow.Author.Tests.{not-true, not-false}
 use Rattle.soundness.proofs.resource_fits.Statement.{statement}
 use Rattle.soundness.proofs.resource_fits.Tie as tie
 
-is-id-requires : tie.Need-is-id-requires
-is-id-requires c κs = search needs
-
 returns : tie.Need-returns
 returns c = sym (resource-unnumbered _ _ (sym (c .before .is-id .ensures) ∙ not-true _ (c .if1 .taken)))
 
@@ -16,9 +13,6 @@ returns-2 : tie.Need-returns-2
 returns-2 c =
     let numbered = c .before .before in
     sym (resource-beyond-public _ _ (sym (numbered .before .is-id .ensures) ∙ not-false _ (numbered .if1 .left)) (c .if2 .taken))
-
-is-id-requires-2 : tie.Need-is-id-requires-2
-is-id-requires-2 c κs = search needs
 
 returns-3 : tie.Need-returns-3
 returns-3 c =
@@ -42,9 +36,6 @@ returns-5 c =
     sym (resource-kept-by-other _ _ (sym (numbered .before .is-id .ensures) ∙ not-false _ (numbered .if1 .left)) (flagged .if2 .left) (sym (kept .before .is-id2 .ensures) ∙ not-false _ (kept .if3 .left)) (roomy .if4 .left)
     (not-true _ (c .if5 .taken)))
 
-path-fits-requires : tie.Need-path-fits-requires
-path-fits-requires c κs = search needs
-
 returns-6 : tie.Need-returns-6
 returns-6 c =
     let roomy = c .before .before in
@@ -59,12 +50,12 @@ pub resource-fits-spec : {M : Type 1} → statement M
 resource-fits-spec =
     tie.close
     (tie.spec
-    is-id-requires
+    (λ c κs. search needs)
     returns
     returns-2
-    is-id-requires-2
+    (λ c κs. search needs)
     returns-3
     returns-4
     returns-5
-    path-fits-requires
+    (λ c κs. search needs)
     returns-6)

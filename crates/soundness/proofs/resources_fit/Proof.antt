@@ -14,47 +14,14 @@ Inv-loop humans h keepers o top keeping i₀ i = Kept (o .list) (keeping .places
 abbrev μ-loop : tie.MeasureT-loop
 μ-loop humans h keepers o top keeping i₀ i = top - i
 
-least-requires : tie.Need-least-requires Inv-loop μ-loop
-least-requires c κs = search needs
-
-cast-places-of : tie.Need-cast-places-of Inv-loop μ-loop
-cast-places-of c = search needs
-
-places-of-requires : tie.Need-places-of-requires Inv-loop μ-loop
-places-of-requires c κs = search needs
-
 loop-holds : tie.Need-loop-holds Inv-loop μ-loop
 loop-holds c = kept-none
-
-mul-x : tie.Need-mul-x Inv-loop μ-loop
-mul-x c = search needs
-
-element-copy-out-x : tie.Need-element-copy-out-x Inv-loop μ-loop
-element-copy-out-x c = search needs
-
-mul-resource-fits : tie.Need-mul-resource-fits Inv-loop μ-loop
-mul-resource-fits c = search needs
-
-element-copy-out-resource-fits : tie.Need-element-copy-out-resource-fits Inv-loop μ-loop
-element-copy-out-resource-fits c = search needs
-
-cast-resource-fits : tie.Need-cast-resource-fits Inv-loop μ-loop
-cast-resource-fits c = search needs
-
-resource-fits-requires : tie.Need-resource-fits-requires Inv-loop μ-loop
-resource-fits-requires c κs = search needs
 
 returns : tie.Need-returns Inv-loop μ-loop
 returns c =
     let given = c .before .before .before .before .before .before .before .before .before .before .args in
     sym (kept-failed (given .humans .now) (given .h) (given .keepers .now) (given .t4) (c .before .before .before .before .before .before .before .least .ensures) (c .before .before .before .before .before .before .places-of .ensures) (c .before .before .before .before .before .loop .i)
     (c .before .before .before .before .loop-test .taken) (sym (c .before .resource-fits .ensures) ∙ not-true _ (c .if1 .taken)))
-
-add-i : tie.Need-add-i Inv-loop μ-loop
-add-i c = search needs
-
-loop-less : tie.Need-loop-less Inv-loop μ-loop
-loop-less c = search needs
 
 loop-again : tie.Need-loop-again Inv-loop μ-loop
 loop-again c = kept-next (c .before .before .before .before .before .loop .inv) (c .before .before .before .before .loop-test .taken) (sym (c .before .resource-fits .ensures) ∙ not-false _ (c .if1 .left))
@@ -70,18 +37,18 @@ resources-fit-spec =
     (tie.spec
     Inv-loop
     μ-loop
-    least-requires
-    cast-places-of
-    places-of-requires
+    (λ c κs. search needs)
+    (λ c. search needs)
+    (λ c κs. search needs)
     loop-holds
-    mul-x
-    element-copy-out-x
-    mul-resource-fits
-    element-copy-out-resource-fits
-    cast-resource-fits
-    resource-fits-requires
+    (λ c. search needs)
+    (λ c. search needs)
+    (λ c. search needs)
+    (λ c. search needs)
+    (λ c. search needs)
+    (λ c κs. search needs)
     returns
-    add-i
-    loop-less
+    (λ c. search needs)
+    (λ c. search needs)
     loop-again
     returns-2)

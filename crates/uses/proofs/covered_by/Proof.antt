@@ -20,44 +20,8 @@ abbrev μ-loop : tie.MeasureT-loop
 μ-loop theirs has rights spots bytes lens uses top covering₀ i₀ covering i =
     top - i
 
-least-requires : tie.Need-least-requires Inv-loop μ-loop
-least-requires c κs = search needs
-
 loop-holds : tie.Need-loop-holds Inv-loop μ-loop
 loop-holds c = filling-start (omega (arith, c .least .ensures))
-
-mul-spot : tie.Need-mul-spot Inv-loop μ-loop
-mul-spot c = search needs
-
-element-copy-out-spot : tie.Need-element-copy-out-spot Inv-loop μ-loop
-element-copy-out-spot c = search needs
-
-cast-spot : tie.Need-cast-spot Inv-loop μ-loop
-cast-spot c = search needs
-
-mul-first-covering : tie.Need-mul-first-covering Inv-loop μ-loop
-mul-first-covering c = search needs
-
-element-copy-out-first-covering : tie.Need-element-copy-out-first-covering Inv-loop μ-loop
-element-copy-out-first-covering c = search needs
-
-first-covering-requires : tie.Need-first-covering-requires Inv-loop μ-loop
-first-covering-requires c κs = search needs
-
-claim-number-requires : tie.Need-claim-number-requires Inv-loop μ-loop
-claim-number-requires c κs = search needs
-
-mul-covering : tie.Need-mul-covering Inv-loop μ-loop
-mul-covering c = search needs
-
-array-write-covering : tie.Need-array-write-covering Inv-loop μ-loop
-array-write-covering c = search needs
-
-add-i : tie.Need-add-i Inv-loop μ-loop
-add-i c = search needs
-
-loop-less : tie.Need-loop-less Inv-loop μ-loop
-loop-less c = search needs
 
 loop-again : tie.Need-loop-again Inv-loop μ-loop
 loop-again c =
@@ -74,18 +38,18 @@ covered-by-spec =
     (tie.spec
     Inv-loop
     μ-loop
-    least-requires
+    (λ c κs. search needs)
     loop-holds
-    mul-spot
-    element-copy-out-spot
-    cast-spot
-    mul-first-covering
-    element-copy-out-first-covering
-    first-covering-requires
-    claim-number-requires
-    mul-covering
-    array-write-covering
-    add-i
-    loop-less
+    (λ c. search needs)
+    (λ c. search needs)
+    (λ c. search needs)
+    (λ c. search needs)
+    (λ c. search needs)
+    (λ c κs. search needs)
+    (λ c κs. search needs)
+    (λ c. search needs)
+    (λ c. search needs)
+    (λ c. search needs)
+    (λ c. search needs)
     loop-again
     returns)

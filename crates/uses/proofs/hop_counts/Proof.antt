@@ -19,17 +19,8 @@ abbrev μ-loop : tie.MeasureT-loop
 μ-loop ups relied n top hops₀ i₀ hops i =
     top - i
 
-least-requires : tie.Need-least-requires Inv-loop μ-loop
-least-requires c κs = search needs
-
-least-requires-2 : tie.Need-least-requires-2 Inv-loop μ-loop
-least-requires-2 c κs = search needs
-
 loop-holds : tie.Need-loop-holds Inv-loop μ-loop
 loop-holds c = filling-start (omega (arith, c .least2 .ensures, c .before .least .ensures))
-
-mul-hops-at : tie.Need-mul-hops-at Inv-loop μ-loop
-mul-hops-at c = search needs
 
 shared-slice-read-hops-at : tie.Need-shared-slice-read-hops-at Inv-loop μ-loop
 shared-slice-read-hops-at c =
@@ -38,21 +29,6 @@ shared-slice-read-hops-at c =
 
 cast-hops-at : tie.Need-cast-hops-at Inv-loop μ-loop
 cast-hops-at c = fits-widen tt (c .shared-slice-known3 .given (c .before .before .loop .i))
-
-hops-at-requires : tie.Need-hops-at-requires Inv-loop μ-loop
-hops-at-requires c κs = search needs
-
-mul-hops : tie.Need-mul-hops Inv-loop μ-loop
-mul-hops c = search needs
-
-array-write-hops : tie.Need-array-write-hops Inv-loop μ-loop
-array-write-hops c = search needs
-
-add-i : tie.Need-add-i Inv-loop μ-loop
-add-i c = search needs
-
-loop-less : tie.Need-loop-less Inv-loop μ-loop
-loop-less c = search needs
 
 loop-again : tie.Need-loop-again Inv-loop μ-loop
 loop-again c = filling-next (c .before .before .before .loop .inv) _ (c .before .before .loop-test .taken) (c .hops-at .ensures)
@@ -69,16 +45,16 @@ hop-counts-spec =
     (tie.spec
     Inv-loop
     μ-loop
-    least-requires
-    least-requires-2
+    (λ c κs. search needs)
+    (λ c κs. search needs)
     loop-holds
-    mul-hops-at
+    (λ c. search needs)
     shared-slice-read-hops-at
     cast-hops-at
-    hops-at-requires
-    mul-hops
-    array-write-hops
-    add-i
-    loop-less
+    (λ c κs. search needs)
+    (λ c. search needs)
+    (λ c. search needs)
+    (λ c. search needs)
+    (λ c. search needs)
     loop-again
     returns)

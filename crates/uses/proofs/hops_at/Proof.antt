@@ -6,12 +6,6 @@ use Rattle.uses.specs.Uses.{stepsTold}
 use Rattle.uses.proofs.hops_at.Statement.{statement}
 use Rattle.uses.proofs.hops_at.Tie as tie
 
-hop-count-requires : tie.Need-hop-count-requires
-hop-count-requires c κs = search needs
-
-steps-told-requires : tie.Need-steps-told-requires
-steps-told-requires c κs = search needs
-
 returns : tie.Need-returns
 returns c = rw (lt-ltb _ _ (c .before .before .if1 .taken)) (c .steps-told .ensures ∙ ap stepsTold (c .before .hop-count .ensures))
 
@@ -19,4 +13,4 @@ returns-2 : tie.Need-returns-2
 returns-2 c = rw (le-ltb _ _ (c .if1 .left))
 
 pub hops-at-spec : {M : Type 1} → statement M
-hops-at-spec = tie.close (tie.spec hop-count-requires steps-told-requires returns returns-2)
+hops-at-spec = tie.close (tie.spec (λ c κs. search needs) (λ c κs. search needs) returns returns-2)

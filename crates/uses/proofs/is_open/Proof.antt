@@ -10,11 +10,8 @@ use Rattle.uses.proofs.is_open.Tie as tie
 returns : tie.Need-returns
 returns c = rw (ne-eqb _ _ (c .if1 .taken))
 
-number-at-requires : tie.Need-number-at-requires
-number-at-requires c κs = search needs
-
 returns-2 : tie.Need-returns-2
 returns-2 c = rw (eq-eqb _ _ (c .before .if1 .left)) (ap (λ (x : ℕ). eqb x 1) (c .number-at .ensures))
 
 pub is-open-spec : {M : Type 1} → statement M
-is-open-spec = tie.close (tie.spec returns number-at-requires returns-2)
+is-open-spec = tie.close (tie.spec returns (λ c κs. search needs) returns-2)

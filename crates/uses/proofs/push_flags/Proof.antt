@@ -20,9 +20,6 @@ abbrev μ-loop : tie.MeasureT-loop
 loop-holds : tie.Need-loop-holds Inv-loop μ-loop
 loop-holds c = begin (omega arith)
 
-shr-if1 : tie.Need-shr-if1 Inv-loop μ-loop
-shr-if1 c = search needs
-
 mul-v : tie.Need-mul-v Inv-loop μ-loop
 mul-v c =
     let room = place-left (isSet (c .before .before .before .args .flags) (c .before .before .loop .flag)) (c .before .before .loop .vs) (c .if1 .taken) in
@@ -37,12 +34,6 @@ add-vs c =
     let room = place-left (isSet (c .before .before .before .args .flags) (c .before .before .loop .flag)) (c .before .before .loop .vs) (c .if1 .taken) in
     search needs
 
-add-flag : tie.Need-add-flag Inv-loop μ-loop
-add-flag c = search needs
-
-loop-less : tie.Need-loop-less Inv-loop μ-loop
-loop-less c = search needs
-
 -- a set flag, and a place for it
 loop-again : tie.Need-loop-again Inv-loop μ-loop
 loop-again c =
@@ -50,12 +41,6 @@ loop-again c =
     let flags = c .before .before .before .args .flags in
     next (loop .inv) _ (c .before .loop-test .taken) (flag-next flags (loop .flag))
     (stored (isSet flags (loop .flag)) (FlagSet (loop .flag)) (loop .vs) (c .if1 .taken))
-
-add-flag-2 : tie.Need-add-flag-2 Inv-loop μ-loop
-add-flag-2 c = search needs
-
-loop-less-2 : tie.Need-loop-less-2 Inv-loop μ-loop
-loop-less-2 c = search needs
 
 -- one that is not set, or no place
 loop-again-2 : tie.Need-loop-again-2 Inv-loop μ-loop
@@ -76,14 +61,14 @@ push-flags-spec =
     Inv-loop
     μ-loop
     loop-holds
-    shr-if1
+    (λ c. search needs)
     mul-v
     element-set-from-v
     add-vs
-    add-flag
-    loop-less
+    (λ c. search needs)
+    (λ c. search needs)
     loop-again
-    add-flag-2
-    loop-less-2
+    (λ c. search needs)
+    (λ c. search needs)
     loop-again-2
     returns)

@@ -21,29 +21,8 @@ Inv-loop vs₀ top position₀ vs position = (top ≤ governLimit) × Pushing go
 abbrev μ-loop : tie.MeasureT-loop
 μ-loop vs₀ top position₀ vs position = top - position
 
-least-requires : tie.Need-least-requires Inv-loop μ-loop
-least-requires c κs = search needs
-
 loop-holds : tie.Need-loop-holds Inv-loop μ-loop
 loop-holds c = (omega (arith, c .least .ensures), begin (omega arith))
-
-cast-loop : tie.Need-cast-loop Inv-loop μ-loop
-cast-loop c = search needs
-
-mul-v : tie.Need-mul-v Inv-loop μ-loop
-mul-v c = search needs
-
-element-set-from-v : tie.Need-element-set-from-v Inv-loop μ-loop
-element-set-from-v c = search needs
-
-add-vs : tie.Need-add-vs Inv-loop μ-loop
-add-vs c = search needs
-
-add-position : tie.Need-add-position Inv-loop μ-loop
-add-position c = omega arith
-
-loop-less : tie.Need-loop-less Inv-loop μ-loop
-loop-less c = omega arith
 
 loop-again : tie.Need-loop-again Inv-loop μ-loop
 loop-again c =
@@ -52,12 +31,6 @@ loop-again c =
       next (loop .inv .1) _ (c .before .loop-test .taken) (λ l. refl)
           (stored true (MachineGoverns (loop .position)) (loop .vs) (lt-ltb (loop .vs .count) violationLimit (c .if1 .taken))),
     )
-
-add-position-2 : tie.Need-add-position-2 Inv-loop μ-loop
-add-position-2 c = omega arith
-
-loop-less-2 : tie.Need-loop-less-2 Inv-loop μ-loop
-loop-less-2 c = omega arith
 
 -- no place is left
 loop-again-2 : tie.Need-loop-again-2 Inv-loop μ-loop
@@ -83,16 +56,16 @@ push-governs-spec =
     (tie.spec
     Inv-loop
     μ-loop
-    least-requires
+    (λ c κs. search needs)
     loop-holds
-    cast-loop
-    mul-v
-    element-set-from-v
-    add-vs
-    add-position
-    loop-less
+    (λ c. search needs)
+    (λ c. search needs)
+    (λ c. search needs)
+    (λ c. search needs)
+    (λ c. omega arith)
+    (λ c. omega arith)
     loop-again
-    add-position-2
-    loop-less-2
+    (λ c. omega arith)
+    (λ c. omega arith)
     loop-again-2
     returns)

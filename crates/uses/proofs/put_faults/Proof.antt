@@ -19,44 +19,8 @@ abbrev μ-loop : tie.MeasureT-loop
 μ-loop relied theirs owned publics vs₀ uses long top position₀ vs position =
     top - position
 
-least-requires : tie.Need-least-requires Inv-loop μ-loop
-least-requires c κs = search needs
-
-least-requires-2 : tie.Need-least-requires-2 Inv-loop μ-loop
-least-requires-2 c κs = search needs
-
-least-requires-3 : tie.Need-least-requires-3 Inv-loop μ-loop
-least-requires-3 c κs = search needs
-
 loop-holds : tie.Need-loop-holds Inv-loop μ-loop
 loop-holds c = faulting-start (c .least3 .ensures ∙ rw (c .before .least2 .ensures, c .before .before .least .ensures)) (omega arith)
-
-cast-loop : tie.Need-cast-loop Inv-loop μ-loop
-cast-loop c = search needs
-
-cast-i : tie.Need-cast-i Inv-loop μ-loop
-cast-i c = search needs
-
-mul-is-open : tie.Need-mul-is-open Inv-loop μ-loop
-mul-is-open c = search needs
-
-element-copy-out-is-open : tie.Need-element-copy-out-is-open Inv-loop μ-loop
-element-copy-out-is-open c = search needs
-
-cast-is-open : tie.Need-cast-is-open Inv-loop μ-loop
-cast-is-open c = search needs
-
-mul-is-open-2 : tie.Need-mul-is-open-2 Inv-loop μ-loop
-mul-is-open-2 c = search needs
-
-element-copy-out-is-open-2 : tie.Need-element-copy-out-is-open-2 Inv-loop μ-loop
-element-copy-out-is-open-2 c = search needs
-
-is-open-requires : tie.Need-is-open-requires Inv-loop μ-loop
-is-open-requires c κs = search needs
-
-mul-covered : tie.Need-mul-covered Inv-loop μ-loop
-mul-covered c = search needs
 
 shared-slice-read-covered : tie.Need-shared-slice-read-covered Inv-loop μ-loop
 shared-slice-read-covered c =
@@ -66,9 +30,6 @@ shared-slice-read-covered c =
 cast-covered : tie.Need-cast-covered Inv-loop μ-loop
 cast-covered c = fits-widen tt (c .shared-slice-known4 .given (c .before .before .before .before .before .loop .position))
 
-mul-lacking : tie.Need-mul-lacking Inv-loop μ-loop
-mul-lacking c = search needs
-
 shared-slice-read-lacking : tie.Need-shared-slice-read-lacking Inv-loop μ-loop
 shared-slice-read-lacking c =
     let turn = c .before .before .before .before .before in
@@ -76,9 +37,6 @@ shared-slice-read-lacking c =
 
 cast-lacking : tie.Need-cast-lacking Inv-loop μ-loop
 cast-lacking c = fits-widen tt (c .shared-slice-known5 .given (c .before .before .before .before .before .before .loop .position))
-
-fault-told-requires : tie.Need-fault-told-requires Inv-loop μ-loop
-fault-told-requires c κs = search needs
 
 mul-v : tie.Need-mul-v Inv-loop μ-loop
 mul-v c =
@@ -103,12 +61,6 @@ add-vs c =
     let room = place-left (faulty freely (a .relied .now) (a .theirs .now) (a .owned) (loop .position)) (loop .vs) (c .before .if1 .taken) in
     search needs
 
-add-position : tie.Need-add-position Inv-loop μ-loop
-add-position c = omega arith
-
-loop-less : tie.Need-loop-less Inv-loop μ-loop
-loop-less c = omega arith
-
 -- a use with a fault, and a place for its violation
 loop-again : tie.Need-loop-again Inv-loop μ-loop
 loop-again c =
@@ -120,12 +72,6 @@ loop-again c =
     let covered = coveredTo freely (a .relied .now) (loop .position) in
     faulting-next (loop .inv) freely (turn .loop-test .taken) (c .before .before .before .before .is-open .ensures)
     (rw (c .fault-told .ensures) (stored here (faultTold covered (loop .position)) (loop .vs) (c .before .if1 .taken)))
-
-add-position-2 : tie.Need-add-position-2 Inv-loop μ-loop
-add-position-2 c = omega arith
-
-loop-less-2 : tie.Need-loop-less-2 Inv-loop μ-loop
-loop-less-2 c = omega arith
 
 -- one without, or no place
 loop-again-2 : tie.Need-loop-again-2 Inv-loop μ-loop
@@ -151,32 +97,32 @@ put-faults-spec =
     (tie.spec
     Inv-loop
     μ-loop
-    least-requires
-    least-requires-2
-    least-requires-3
+    (λ c κs. search needs)
+    (λ c κs. search needs)
+    (λ c κs. search needs)
     loop-holds
-    cast-loop
-    cast-i
-    mul-is-open
-    element-copy-out-is-open
-    cast-is-open
-    mul-is-open-2
-    element-copy-out-is-open-2
-    is-open-requires
-    mul-covered
+    (λ c. search needs)
+    (λ c. search needs)
+    (λ c. search needs)
+    (λ c. search needs)
+    (λ c. search needs)
+    (λ c. search needs)
+    (λ c. search needs)
+    (λ c κs. search needs)
+    (λ c. search needs)
     shared-slice-read-covered
     cast-covered
-    mul-lacking
+    (λ c. search needs)
     shared-slice-read-lacking
     cast-lacking
-    fault-told-requires
+    (λ c κs. search needs)
     mul-v
     element-set-from-v
     add-vs
-    add-position
-    loop-less
+    (λ c. omega arith)
+    (λ c. omega arith)
     loop-again
-    add-position-2
-    loop-less-2
+    (λ c. omega arith)
+    (λ c. omega arith)
     loop-again-2
     returns)

@@ -20,44 +20,8 @@ abbrev μ-loop : tie.MeasureT-loop
 μ-loop own owns rights spots bytes lens uses top relied₀ i₀ relied i =
     top - i
 
-least-requires : tie.Need-least-requires Inv-loop μ-loop
-least-requires c κs = search needs
-
 loop-holds : tie.Need-loop-holds Inv-loop μ-loop
 loop-holds c = filling-start (omega (arith, c .least .ensures))
-
-mul-spot : tie.Need-mul-spot Inv-loop μ-loop
-mul-spot c = search needs
-
-element-copy-out-spot : tie.Need-element-copy-out-spot Inv-loop μ-loop
-element-copy-out-spot c = search needs
-
-cast-spot : tie.Need-cast-spot Inv-loop μ-loop
-cast-spot c = search needs
-
-mul-nearest-covering : tie.Need-mul-nearest-covering Inv-loop μ-loop
-mul-nearest-covering c = search needs
-
-element-copy-out-nearest-covering : tie.Need-element-copy-out-nearest-covering Inv-loop μ-loop
-element-copy-out-nearest-covering c = search needs
-
-nearest-covering-requires : tie.Need-nearest-covering-requires Inv-loop μ-loop
-nearest-covering-requires c κs = search needs
-
-claim-number-requires : tie.Need-claim-number-requires Inv-loop μ-loop
-claim-number-requires c κs = search needs
-
-mul-relied : tie.Need-mul-relied Inv-loop μ-loop
-mul-relied c = search needs
-
-array-write-relied : tie.Need-array-write-relied Inv-loop μ-loop
-array-write-relied c = search needs
-
-add-i : tie.Need-add-i Inv-loop μ-loop
-add-i c = search needs
-
-loop-less : tie.Need-loop-less Inv-loop μ-loop
-loop-less c = search needs
 
 loop-again : tie.Need-loop-again Inv-loop μ-loop
 loop-again c =
@@ -74,18 +38,18 @@ relied-on-spec =
     (tie.spec
     Inv-loop
     μ-loop
-    least-requires
+    (λ c κs. search needs)
     loop-holds
-    mul-spot
-    element-copy-out-spot
-    cast-spot
-    mul-nearest-covering
-    element-copy-out-nearest-covering
-    nearest-covering-requires
-    claim-number-requires
-    mul-relied
-    array-write-relied
-    add-i
-    loop-less
+    (λ c. search needs)
+    (λ c. search needs)
+    (λ c. search needs)
+    (λ c. search needs)
+    (λ c. search needs)
+    (λ c κs. search needs)
+    (λ c κs. search needs)
+    (λ c. search needs)
+    (λ c. search needs)
+    (λ c. search needs)
+    (λ c. search needs)
     loop-again
     returns)

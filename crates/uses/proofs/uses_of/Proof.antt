@@ -29,44 +29,11 @@ abbrev μ-loop : tie.MeasureT-loop
 μ-loop reports m a top uses₀ i₀ uses i =
     top - i
 
-least-requires : tie.Need-least-requires Inv-loop μ-loop
-least-requires c κs = search needs
-
 loop-holds : tie.Need-loop-holds Inv-loop μ-loop
 loop-holds c = (refl, filling-start (omega (arith, c .least .ensures)), filling-start (omega (arith, c .least .ensures)))
 
-mul-u : tie.Need-mul-u Inv-loop μ-loop
-mul-u c = search needs
-
-element-copy-out-u : tie.Need-element-copy-out-u Inv-loop μ-loop
-element-copy-out-u c = search needs
-
-spot-requires : tie.Need-spot-requires Inv-loop μ-loop
-spot-requires c κs = search needs
-
-mul-uses : tie.Need-mul-uses Inv-loop μ-loop
-mul-uses c = search needs
-
-element-write-uses : tie.Need-element-write-uses Inv-loop μ-loop
-element-write-uses c = search needs
-
-least-requires-2 : tie.Need-least-requires-2 Inv-loop μ-loop
-least-requires-2 c κs = search needs
-
 cast-uses : tie.Need-cast-uses Inv-loop μ-loop
 cast-uses c = omega (arith, c .least2 .ensures)
-
-mul-uses-2 : tie.Need-mul-uses-2 Inv-loop μ-loop
-mul-uses-2 c = search needs
-
-element-write-uses-2 : tie.Need-element-write-uses-2 Inv-loop μ-loop
-element-write-uses-2 c = search needs
-
-add-i : tie.Need-add-i Inv-loop μ-loop
-add-i c = search needs
-
-loop-less : tie.Need-loop-less Inv-loop μ-loop
-loop-less c = search needs
 
 loop-again : tie.Need-loop-again Inv-loop μ-loop
 loop-again c =
@@ -90,18 +57,18 @@ uses-of-spec =
     (tie.spec
     Inv-loop
     μ-loop
-    least-requires
+    (λ c κs. search needs)
     loop-holds
-    mul-u
-    element-copy-out-u
-    spot-requires
-    mul-uses
-    element-write-uses
-    least-requires-2
+    (λ c. search needs)
+    (λ c. search needs)
+    (λ c κs. search needs)
+    (λ c. search needs)
+    (λ c. search needs)
+    (λ c κs. search needs)
     cast-uses
-    mul-uses-2
-    element-write-uses-2
-    add-i
-    loop-less
+    (λ c. search needs)
+    (λ c. search needs)
+    (λ c. search needs)
+    (λ c. search needs)
     loop-again
     returns)

@@ -22,10 +22,10 @@ use Rattle.verdict_text.proofs.compose_clock.Tie as tie
 
 -- the moment that is read, and where the reading of the clock ends
 begun : (c : tie.After-read-count) →
-    let clock = c .before .before .before .before .before .before .args .clock .now in
+    let clock = c .before .before .before .before .before .before .before .args .clock .now in
     (c .read-count .result .value ≡ clockRead clock .value) × (stateOf clock (c .read-count .result .cursor) ≡ clockRead clock .state)
 begun c =
-    let clock = c .before .before .before .before .before .before .args .clock .now in
+    let clock = c .before .before .before .before .before .before .before .args .clock .now in
     let start = c .before .before .start in
     let first = run-start clock (start .result) (start .ensures) in (
       c .read-count .ensures .value ∙ ap (λ (st : State). readForm (count nowKey (momentEnd - 1)) st .value) first,
@@ -33,7 +33,7 @@ begun c =
     )
 
 ended : (c : tie.After-finish) →
-    let clock = c .before .before .before .before .before .before .before .args .clock .now in
+    let clock = c .before .before .before .before .before .before .before .before .args .clock .now in
     stateOf clock (c .finish .result) ≡ closed (clockRead clock .state)
 ended c = c .finish .ensures ∙ ap closed (begun (c .before) .1)
 
@@ -44,34 +44,13 @@ other why h = ap (λ b. cond b OutOfRange BadForm) (ne-eqb why countRefusal h)
 large : (why : ℕ) → why ≡ countRefusal → clockRefusal why ≡ OutOfRange
 large why h = ap (λ b. cond b OutOfRange BadForm) (eq-eqb why countRefusal h)
 
-start-requires : tie.Need-start-requires
-start-requires c κs = search needs
-
-slice-aggregate-read-count : tie.Need-slice-aggregate-read-count
-slice-aggregate-read-count c = search needs
-
-read-count-requires : tie.Need-read-count-requires
-read-count-requires c κs = search needs
-
-finish-requires : tie.Need-finish-requires
-finish-requires c κs = search needs
-
-goes-on-requires : tie.Need-goes-on-requires
-goes-on-requires c κs = search needs
-
-compose-json-requires : tie.Need-compose-json-requires
-compose-json-requires c κs = search needs
-
-same-length : tie.Need-same-length
-same-length c = search needs
-
 returns : tie.Need-returns
 returns c =
     let call = c .before .before .compose-json in
     let test = c .before .before .before .before in
     let end = test .before .before in
     let read = end .before in
-    let a = read .before .before .before .before .before .before .args in
+    let a = read .before .before .before .before .before .before .before .args in
     let moment = read .read-count .result .value in
     let going = stands-going (a .clock .now) (end .finish .result) (sym (test .before .goes-on .ensures) ∙ test .if1 .taken) in
     same-written (jsonLines (a .register) (jsonRead (a .action .now) moment .outcome) (jsonRead (a .action .now) moment .action))
@@ -81,10 +60,7 @@ returns c =
 
 put-stopped-requires : tie.Need-put-stopped-requires
 put-stopped-requires c κs =
-    omega (arith, stopped-length OutOfRange, c .before .before .before .before .before .before .before .before .before .before .before .before .pre)
-
-same-length-2 : tie.Need-same-length-2
-same-length-2 c = search needs
+    omega (arith, stopped-length OutOfRange, c .before .before .before .before .before .before .before .before .before .before .before .before .before .pre .0)
 
 returns-2 : tie.Need-returns-2
 returns-2 c =
@@ -92,7 +68,7 @@ returns-2 c =
     let which = c .before .before .before .before in
     let test = which .before .before in
     let end = test .before .before in
-    let a = end .before .before .before .before .before .before .before .args in
+    let a = end .before .before .before .before .before .before .before .before .args in
     let why = end .finish .result .refusal in
     let failed = stands-failed (a .clock .now) (end .finish .result) (sym (test .before .goes-on .ensures) ∙ test .if1 .left) in
     same-written (stoppedText OutOfRange)
@@ -103,10 +79,7 @@ returns-2 c =
 
 put-stopped-requires-2 : tie.Need-put-stopped-requires-2
 put-stopped-requires-2 c κs =
-    omega (arith, stopped-length BadForm, c .before .before .before .before .before .before .before .before .before .before .before .before .pre)
-
-same-length-3 : tie.Need-same-length-3
-same-length-3 c = search needs
+    omega (arith, stopped-length BadForm, c .before .before .before .before .before .before .before .before .before .before .before .before .before .pre .0)
 
 returns-3 : tie.Need-returns-3
 returns-3 c =
@@ -114,7 +87,7 @@ returns-3 c =
     let which = c .before .before .before .before in
     let test = which .before .before in
     let end = test .before .before in
-    let a = end .before .before .before .before .before .before .before .args in
+    let a = end .before .before .before .before .before .before .before .before .args in
     let why = end .finish .result .refusal in
     let failed = stands-failed (a .clock .now) (end .finish .result) (sym (test .before .goes-on .ensures) ∙ test .if1 .left) in
     same-written (stoppedText BadForm)
@@ -127,17 +100,17 @@ pub compose-clock-spec : {M : Type 1} → statement M
 compose-clock-spec =
     tie.close
     (tie.spec
-    start-requires
-    slice-aggregate-read-count
-    read-count-requires
-    finish-requires
-    goes-on-requires
-    compose-json-requires
-    same-length
+    (λ c κs. search needs)
+    (λ c. search needs)
+    (λ c κs. search needs)
+    (λ c κs. search needs)
+    (λ c κs. search needs)
+    (λ c κs. search needs)
+    (λ c. search needs)
     returns
     put-stopped-requires
-    same-length-2
+    (λ c. search needs)
     returns-2
     put-stopped-requires-2
-    same-length-3
+    (λ c. search needs)
     returns-3)

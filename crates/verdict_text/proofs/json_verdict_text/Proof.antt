@@ -19,14 +19,8 @@ use Rattle.verdict_text.proofs.json_verdict_text.Tie as tie
 blank-room : (n : ℕ) → n ≤ length {A = ℕ} (replicate n 0)
 blank-room n = omega (arith, length-replicate {A = ℕ} n 0)
 
-slice-aggregate-compose-texts : tie.Need-slice-aggregate-compose-texts
-slice-aggregate-compose-texts c = search needs
-
 compose-texts-requires : tie.Need-compose-texts-requires
 compose-texts-requires c κs = blank-room 1103
-
-slice-aggregate-text : tie.Need-slice-aggregate-text
-slice-aggregate-text c = search needs
 
 -- the sheet's front is the text
 front : (c : tie.After-compose-texts) →
@@ -40,12 +34,6 @@ slice-aggregate-deliver c =
     let a = composed .before .before .before .before .before .before .args in
     let full : length (composed .compose-texts .last .0) ≡ printedLimit = composed .compose-texts .kept .0 ∙ length-replicate {A = ℕ} 1103 0 in
     sym (length-take-le _ (composed .compose-texts .last .0) (omega (arith, full, composed .compose-texts .ensures .0, json-printed-length (a .register .now) (a .clock .now) (a .action .now))))
-
-deliver-requires : tie.Need-deliver-requires
-deliver-requires c κs = search needs
-
-same-length : tie.Need-same-length
-same-length c = search needs
 
 returns : tie.Need-returns
 returns c =
@@ -61,10 +49,10 @@ pub json-verdict-text-spec : {M : Type 1} → statement M
 json-verdict-text-spec =
     tie.close
     (tie.spec
-    slice-aggregate-compose-texts
+    (λ c. search needs)
     compose-texts-requires
-    slice-aggregate-text
+    (λ c. search needs)
     slice-aggregate-deliver
-    deliver-requires
-    same-length
+    (λ c κs. search needs)
+    (λ c. search needs)
     returns)

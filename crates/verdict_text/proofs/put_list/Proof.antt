@@ -39,17 +39,8 @@ counted c =
     let st = c .before .before .before .before in
     list-start (st .args .t3) (st .pre .0) (c .put-line .ensures .0) (c .put-line .ensures .1)
 
-slice-aggregate-put-line : tie.Need-slice-aggregate-put-line Inv-loop μ-loop
-slice-aggregate-put-line c = search needs
-
-put-line-requires : tie.Need-put-line-requires Inv-loop μ-loop
-put-line-requires c κs = search needs
-
 loop-holds : tie.Need-loop-holds Inv-loop μ-loop
 loop-holds c = (omega arith, writing-start _ _ _)
-
-mul-entry : tie.Need-mul-entry Inv-loop μ-loop
-mul-entry c = search needs
 
 element-copy-out-entry : tie.Need-element-copy-out-entry Inv-loop μ-loop
 element-copy-out-entry c = omega (arith, full (c .before .before .before .before .before .before .before .before), c .before .before .before .before .before .before .before .before .pre .1)
@@ -62,12 +53,6 @@ put-pair-requires c κs =
     let vs = st .args .t3 in
     going-room entryText (vs .list) (vs .count) beyond (omega (arith, full st, st .pre .1)) (writing-left (st .pre .0) (counted head))
     (c .before .before .loop-test .taken) (l .loop .inv .1)
-
-add-i : tie.Need-add-i Inv-loop μ-loop
-add-i c = search needs
-
-loop-less : tie.Need-loop-less Inv-loop μ-loop
-loop-less c = omega arith
 
 loop-again : tie.Need-loop-again Inv-loop μ-loop
 loop-again c =
@@ -101,14 +86,14 @@ put-list-spec =
     (tie.spec
     Inv-loop
     μ-loop
-    slice-aggregate-put-line
-    put-line-requires
+    (λ c. search needs)
+    (λ c κs. search needs)
     loop-holds
-    mul-entry
+    (λ c. search needs)
     element-copy-out-entry
     put-pair-requires
-    add-i
-    loop-less
+    (λ c. search needs)
+    (λ c. omega arith)
     loop-again
     same-length
     returns)

@@ -10,15 +10,6 @@ use Rattle.verdict_text.proofs.Joining.{verdict-lines, headed-room, hea
 use Rattle.verdict_text.proofs.put_verdict.Statement.{statement}
 use Rattle.verdict_text.proofs.put_verdict.Tie as tie
 
-enum-told : tie.Need-enum-told
-enum-told c = search needs
-
-slice-aggregate-put-bytes : tie.Need-slice-aggregate-put-bytes
-slice-aggregate-put-bytes c = search needs
-
-put-bytes-requires : tie.Need-put-bytes-requires
-put-bytes-requires c κs = search needs
-
 -- permitted
 put-list-requires : tie.Need-put-list-requires
 put-list-requires c κs =
@@ -30,15 +21,6 @@ put-list-requires c κs =
           (headed .put-bytes .ensures .0) (headed .put-bytes .ensures .1),
       st .pre .1,
     )
-
-enum-told-2 : tie.Need-enum-told-2
-enum-told-2 c = search needs
-
-slice-aggregate-put-bytes-2 : tie.Need-slice-aggregate-put-bytes-2
-slice-aggregate-put-bytes-2 c = search needs
-
-put-bytes-requires-2 : tie.Need-put-bytes-requires-2
-put-bytes-requires-2 c κs = search needs
 
 -- refused
 put-list-requires-2 : tie.Need-put-list-requires-2
@@ -52,9 +34,6 @@ put-list-requires-2 c κs =
       st .pre .1,
     )
 
-enum-known-decision : tie.Need-enum-known-decision
-enum-known-decision c = search needs
-
 -- stopped
 put-stopped-requires : tie.Need-put-stopped-requires
 put-stopped-requires c κs =
@@ -62,9 +41,6 @@ put-stopped-requires c κs =
     let st = told .before .before .before .before in
     let why = told .decision .given .0 .0 in
     omega (arith, st .pre .0, ap length (verdict-lines (st .args .v) (Stopped why) (told .decision .given .1)))
-
-same-length : tie.Need-same-length
-same-length c = search needs
 
 returns : tie.Need-returns
 returns c =
@@ -76,9 +52,6 @@ returns c =
     headed-written (verdictText v) permittedLine (v .violations) (st .args .buf .now) (verdict-lines v Permitted (told .enum-told .given .1)) (st .pre .0)
     (headed .put-bytes .ensures .0) (headed .put-bytes .ensures .1) (call .ensures .0) (call .ensures .1)
 
-same-length-2 : tie.Need-same-length-2
-same-length-2 c = search needs
-
 returns-2 : tie.Need-returns-2
 returns-2 c =
     let call = c .before .before .put-list2 in
@@ -88,9 +61,6 @@ returns-2 c =
     let v = st .args .v in
     headed-written (verdictText v) refusedLine (v .violations) (st .args .buf .now) (verdict-lines v Refused (told .enum-told2 .given .1)) (st .pre .0)
     (headed .put-bytes2 .ensures .0) (headed .put-bytes2 .ensures .1) (call .ensures .0) (call .ensures .1)
-
-same-length-3 : tie.Need-same-length-3
-same-length-3 c = search needs
 
 returns-3 : tie.Need-returns-3
 returns-3 c =
@@ -105,19 +75,19 @@ pub put-verdict-spec : {M : Type 1} → statement M
 put-verdict-spec =
     tie.close
     (tie.spec
-    enum-told
-    slice-aggregate-put-bytes
-    put-bytes-requires
+    (λ c. search needs)
+    (λ c. search needs)
+    (λ c κs. search needs)
     put-list-requires
-    enum-told-2
-    slice-aggregate-put-bytes-2
-    put-bytes-requires-2
+    (λ c. search needs)
+    (λ c. search needs)
+    (λ c κs. search needs)
     put-list-requires-2
-    enum-known-decision
+    (λ c. search needs)
     put-stopped-requires
-    same-length
+    (λ c. search needs)
     returns
-    same-length-2
+    (λ c. search needs)
     returns-2
-    same-length-3
+    (λ c. search needs)
     returns-3)

@@ -19,14 +19,8 @@ use Rattle.verdict_text.proofs.verdict_text.Tie as tie
 blank-room : (n : ℕ) → n ≤ length {A = ℕ} (replicate n 0)
 blank-room n = omega (arith, length-replicate {A = ℕ} n 0)
 
-slice-aggregate-compose : tie.Need-slice-aggregate-compose
-slice-aggregate-compose c = search needs
-
 compose-requires : tie.Need-compose-requires
 compose-requires c κs = blank-room 1103
-
-slice-aggregate-text : tie.Need-slice-aggregate-text
-slice-aggregate-text c = search needs
 
 -- the sheet's front is the text
 front : (c : tie.After-compose) →
@@ -40,12 +34,6 @@ slice-aggregate-deliver c =
     let a = composed .before .before .before .before .before .args in
     let full : length (composed .compose .last .0) ≡ printedLimit = composed .compose .kept .0 ∙ length-replicate {A = ℕ} 1103 0 in
     sym (length-take-le _ (composed .compose .last .0) (omega (arith, full, composed .compose .ensures .0, printed-length (a .register .now) (a .action .now))))
-
-deliver-requires : tie.Need-deliver-requires
-deliver-requires c κs = search needs
-
-same-length : tie.Need-same-length
-same-length c = search needs
 
 returns : tie.Need-returns
 returns c =
@@ -61,10 +49,10 @@ pub verdict-text-spec : {M : Type 1} → statement M
 verdict-text-spec =
     tie.close
     (tie.spec
-    slice-aggregate-compose
+    (λ c. search needs)
     compose-requires
-    slice-aggregate-text
+    (λ c. search needs)
     slice-aggregate-deliver
-    deliver-requires
-    same-length
+    (λ c κs. search needs)
+    (λ c. search needs)
     returns)

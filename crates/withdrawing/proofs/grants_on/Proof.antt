@@ -1,5 +1,5 @@
 -- `withdrawing::grants_on` meets its contract: where the number stands the walk up begins, and where it stands nowhere there is none. Assumes nothing.
-use mathlib.Core.Path.{_≡_, sym, ap, _∙_}
+use mathlib.Core.Path.{sym, ap, _∙_}
 use borrow.Author.Needs.{needs}
 use lib.Dec.{eqb}
 use lib.ListN.{getD}
@@ -7,18 +7,6 @@ use Rattle.lists.specs.Lists.{any}
 use Rattle.lookup.specs.Walks.{upFrom}
 use Rattle.withdrawing.proofs.grants_on.Statement.{statement}
 use Rattle.withdrawing.proofs.grants_on.Tie as tie
-
-latest-place-requires : tie.Need-latest-place-requires
-latest-place-requires c κs = search needs
-
-enum-known-place : tie.Need-enum-known-place
-enum-known-place c = search needs
-
-grants-up-requires : tie.Need-grants-up-requires
-grants-up-requires c κs = search needs
-
-enum-told : tie.Need-enum-told
-enum-told c = search needs
 
 returns : tie.Need-returns
 returns c =
@@ -39,9 +27,9 @@ pub grants-on-spec : {M : Type 1} → statement M
 grants-on-spec =
     tie.close
     (tie.spec
-    latest-place-requires
-    enum-known-place
-    grants-up-requires
-    enum-told
+    (λ c κs. search needs)
+    (λ c. search needs)
+    (λ c κs. search needs)
+    (λ c. search needs)
     returns
     returns-2)

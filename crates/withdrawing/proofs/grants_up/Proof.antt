@@ -1,6 +1,6 @@
 -- `withdrawing::grants_up` meets its contract. The loop's invariant: what is asked of all is what is asked of the place and of those still above
 -- (Going). The measure is the place. Assumes nothing.
-use mathlib.Core.Path.{_≡_, refl, sym, ap, _∙_}
+use mathlib.Core.Path.{refl, sym, ap, _∙_}
 use mathlib.Core.List.{_∷_}
 use borrow.Author.Tests.{eq-eqb, ne-eqb}
 use borrow.Author.Needs.{needs}
@@ -19,34 +19,19 @@ Inv-loop ups grantors from who member₀ up₀ member up =
 abbrev μ-loop : tie.MeasureT-loop
 μ-loop ups grantors from who member₀ up₀ member up = member
 
-place-above-requires : tie.Need-place-above-requires Inv-loop μ-loop
-place-above-requires c κs = search needs
-
 loop-holds : tie.Need-loop-holds Inv-loop μ-loop
 loop-holds c = record { next = c .place-above .ensures; ahead = refl }
-
-number-at-requires : tie.Need-number-at-requires Inv-loop μ-loop
-number-at-requires c κs = search needs
 
 returns : tie.Need-returns Inv-loop μ-loop
 returns c =
     let turn = c .before .before .before in
     sym (walk-here (turn .loop .inv) (eq-eqb _ _ (sym (c .before .number-at .ensures) ∙ c .if1 .taken)))
 
-place-above-requires-2 : tie.Need-place-above-requires-2 Inv-loop μ-loop
-place-above-requires-2 c κs = search needs
-
-loop-less : tie.Need-loop-less Inv-loop μ-loop
-loop-less c = search needs
-
 loop-again : tie.Need-loop-again Inv-loop μ-loop
 loop-again c =
     let turn = c .before .before .before .before in
     walk-above (turn .loop .inv) (c .before .before .before .loop-test .taken)
     (ne-eqb _ _ (λ same. c .before .if1 .left (c .before .before .number-at .ensures ∙ same))) (c .place-above2 .ensures)
-
-number-at-requires-2 : tie.Need-number-at-requires-2 Inv-loop μ-loop
-number-at-requires-2 c κs = search needs
 
 returns-2 : tie.Need-returns-2 Inv-loop μ-loop
 returns-2 c =
@@ -59,12 +44,12 @@ grants-up-spec =
     (tie.spec
     Inv-loop
     μ-loop
-    place-above-requires
+    (λ c κs. search needs)
     loop-holds
-    number-at-requires
+    (λ c κs. search needs)
     returns
-    place-above-requires-2
-    loop-less
+    (λ c κs. search needs)
+    (λ c. search needs)
     loop-again
-    number-at-requires-2
+    (λ c κs. search needs)
     returns-2)

@@ -1,7 +1,6 @@
 -- `withdrawing::outcome` meets its contract: the first test that fails decides. Assumes nothing.
 use mathlib.Core.Path.{_∙_, sym}
 use borrow.Author.Tests.{not-true, not-false}
-use borrow.Author.Needs.{needs}
 use Rattle.refusals.specs.Laws.{outcome-nil, outcome-pass, outcome-fail}
 use Rattle.withdrawing.proofs.outcome.Statement.{statement}
 use Rattle.withdrawing.proofs.outcome.Tie as tie

@@ -7,18 +7,6 @@ use Rattle.words.proofs.Delivering.{delivering}
 use Rattle.words.proofs.write_text.Statement.{statement}
 use Rattle.words.proofs.write_text.Tie as tie
 
-least-requires : tie.Need-least-requires
-least-requires c κs = search needs
-
-text-at-requires : tie.Need-text-at-requires
-text-at-requires c κs = search needs
-
-deliver-requires : tie.Need-deliver-requires
-deliver-requires c κs = search needs
-
-same-length : tie.Need-same-length
-same-length c = search needs
-
 returns : tie.Need-returns
 returns c =
     let call = c .before .before .deliver in
@@ -29,4 +17,4 @@ returns c =
 
 pub write-text-spec : {M : Type 1} → statement M
 write-text-spec =
-    tie.close (tie.spec least-requires text-at-requires deliver-requires same-length returns)
+    tie.close (tie.spec (λ c κs. search needs) (λ c κs. search needs) (λ c κs. search needs) (λ c. search needs) returns)

@@ -56,12 +56,6 @@ furnished c =
     let st = c .before .before .before .before .before .before .before .before .before .before .before .before in
     writing-next (resources st) (claims st) (room st) (peopled (c .before .before .before .before)) (c .put-resources .ensures .0) (c .put-resources .ensures .1)
 
-slice-aggregate-put-line : tie.Need-slice-aggregate-put-line
-slice-aggregate-put-line c = search needs
-
-put-line-requires : tie.Need-put-line-requires
-put-line-requires c κs = search needs
-
 put-actors-requires : tie.Need-put-actors-requires
 put-actors-requires c κs =
     let st = c .before .before .before .before .before .before .before in
@@ -80,9 +74,6 @@ put-claims-requires c κs =
     let st = c .before .before .before .before .before .before .before .before .before .before .before .before .before .before .before in
     (writing-left (room st) (furnished (c .before .before .before)), sound-out (st .args .r) (st .pre .0) .limits .claimCount)
 
-same-length : tie.Need-same-length
-same-length c = search needs
-
 returns : tie.Need-returns
 returns c =
     let call = c .before .before .put-claims in
@@ -93,10 +84,10 @@ pub compose-spec : {M : Type 1} → statement M
 compose-spec =
     tie.close
     (tie.spec
-    slice-aggregate-put-line
-    put-line-requires
+    (λ c. search needs)
+    (λ c κs. search needs)
     put-actors-requires
     put-resources-requires
     put-claims-requires
-    same-length
+    (λ c. search needs)
     returns)

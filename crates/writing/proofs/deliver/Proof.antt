@@ -13,12 +13,6 @@ returns c =
     let a = c .before .before .before .args in
     (delivered-short (a .t .now) (a .buf .now) (c .if1 .taken), sym (put-short 0 (a .t .now) (a .buf .now) (omega arith) .0))
 
-put-bytes-requires : tie.Need-put-bytes-requires
-put-bytes-requires c κs = search needs
-
-same-length : tie.Need-same-length
-same-length c = search needs
-
 returns-2 : tie.Need-returns-2
 returns-2 c =
     let call = c .before .before .put-bytes in
@@ -28,4 +22,4 @@ returns-2 c =
     (delivered-fits (a .t .now) (a .buf .now) (call .result) (test .if1 .left) (omega (arith, call .ensures .0, fit .1)), call .ensures .1)
 
 pub deliver-spec : {M : Type 1} → statement M
-deliver-spec = tie.close (tie.spec returns put-bytes-requires same-length returns-2)
+deliver-spec = tie.close (tie.spec returns (λ c κs. search needs) (λ c. search needs) returns-2)

@@ -5,30 +5,6 @@ use Rattle.writing.proofs.Lining.{lining-start, lining-next, lining-don
 use Rattle.writing.proofs.put_actor.Statement.{statement}
 use Rattle.writing.proofs.put_actor.Tie as tie
 
-slice-aggregate-put-line : tie.Need-slice-aggregate-put-line
-slice-aggregate-put-line c = search needs
-
-cast-put-line : tie.Need-cast-put-line
-cast-put-line c = search needs
-
-put-line-requires : tie.Need-put-line-requires
-put-line-requires c κs = search needs
-
-put-kind-requires : tie.Need-put-kind-requires
-put-kind-requires c κs = search needs
-
-slice-aggregate-put-line-2 : tie.Need-slice-aggregate-put-line-2
-slice-aggregate-put-line-2 c = search needs
-
-cast-put-line-2 : tie.Need-cast-put-line-2
-cast-put-line-2 c = search needs
-
-put-line-requires-2 : tie.Need-put-line-requires-2
-put-line-requires-2 c κs = search needs
-
-same-length : tie.Need-same-length
-same-length c = search needs
-
 returns : tie.Need-returns
 returns c =
     let owned = c .before .before in
@@ -45,12 +21,12 @@ pub put-actor-spec : {M : Type 1} → statement M
 put-actor-spec =
     tie.close
     (tie.spec
-    slice-aggregate-put-line
-    cast-put-line
-    put-line-requires
-    put-kind-requires
-    slice-aggregate-put-line-2
-    cast-put-line-2
-    put-line-requires-2
-    same-length
+    (λ c. search needs)
+    (λ c. search needs)
+    (λ c κs. search needs)
+    (λ c κs. search needs)
+    (λ c. search needs)
+    (λ c. search needs)
+    (λ c κs. search needs)
+    (λ c. search needs)
     returns)

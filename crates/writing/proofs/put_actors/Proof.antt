@@ -36,17 +36,8 @@ counted c =
     section-start actorText (k .list) (k .count) actorsKey actorLimit (st .args .at) (omega (arith, full st, st .pre .1)) (st .pre .0)
     (c .put-line .ensures .0) (c .put-line .ensures .1)
 
-slice-aggregate-put-line : tie.Need-slice-aggregate-put-line Inv-loop μ-loop
-slice-aggregate-put-line c = search needs
-
-put-line-requires : tie.Need-put-line-requires Inv-loop μ-loop
-put-line-requires c κs = search needs
-
 loop-holds : tie.Need-loop-holds Inv-loop μ-loop
 loop-holds c = (omega arith, writing-start _ _ _)
-
-mul-a : tie.Need-mul-a Inv-loop μ-loop
-mul-a c = search needs
 
 element-copy-out-a : tie.Need-element-copy-out-a Inv-loop μ-loop
 element-copy-out-a c = omega (arith, full (c .before .before .before .before .before .before .before .before), c .before .before .before .before .before .before .before .before .pre .1)
@@ -59,12 +50,6 @@ put-actor-requires c κs =
     let k = st .args .t3 in
     going-room actorText (k .list) (k .count) noActor (omega (arith, full st, st .pre .1)) (writing-left (st .pre .0) (counted head))
     (c .before .before .loop-test .taken) (l .loop .inv .1)
-
-add-i : tie.Need-add-i Inv-loop μ-loop
-add-i c = search needs
-
-loop-less : tie.Need-loop-less Inv-loop μ-loop
-loop-less c = omega arith
 
 loop-again : tie.Need-loop-again Inv-loop μ-loop
 loop-again c =
@@ -98,14 +83,14 @@ put-actors-spec =
     (tie.spec
     Inv-loop
     μ-loop
-    slice-aggregate-put-line
-    put-line-requires
+    (λ c. search needs)
+    (λ c κs. search needs)
     loop-holds
-    mul-a
+    (λ c. search needs)
     element-copy-out-a
     put-actor-requires
-    add-i
-    loop-less
+    (λ c. search needs)
+    (λ c. omega arith)
     loop-again
     same-length
     returns)

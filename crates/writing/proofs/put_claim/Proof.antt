@@ -6,75 +6,6 @@ use Rattle.writing.proofs.Lining.{lining-start, lining-next, lining-don
 use Rattle.writing.proofs.put_claim.Statement.{statement}
 use Rattle.writing.proofs.put_claim.Tie as tie
 
-slice-aggregate-put-line : tie.Need-slice-aggregate-put-line
-slice-aggregate-put-line c = search needs
-
-cast-put-line : tie.Need-cast-put-line
-cast-put-line c = search needs
-
-put-line-requires : tie.Need-put-line-requires
-put-line-requires c κs = search needs
-
-slice-aggregate-put-line-2 : tie.Need-slice-aggregate-put-line-2
-slice-aggregate-put-line-2 c = search needs
-
-cast-put-line-2 : tie.Need-cast-put-line-2
-cast-put-line-2 c = search needs
-
-put-line-requires-2 : tie.Need-put-line-requires-2
-put-line-requires-2 c κs = search needs
-
-slice-aggregate-put-line-3 : tie.Need-slice-aggregate-put-line-3
-slice-aggregate-put-line-3 c = search needs
-
-cast-put-line-3 : tie.Need-cast-put-line-3
-cast-put-line-3 c = search needs
-
-put-line-requires-3 : tie.Need-put-line-requires-3
-put-line-requires-3 c κs = search needs
-
-slice-aggregate-put-line-4 : tie.Need-slice-aggregate-put-line-4
-slice-aggregate-put-line-4 c = search needs
-
-cast-put-line-4 : tie.Need-cast-put-line-4
-cast-put-line-4 c = search needs
-
-put-line-requires-4 : tie.Need-put-line-requires-4
-put-line-requires-4 c κs = search needs
-
-slice-aggregate-put-line-5 : tie.Need-slice-aggregate-put-line-5
-slice-aggregate-put-line-5 c = search needs
-
-cast-put-line-5 : tie.Need-cast-put-line-5
-cast-put-line-5 c = search needs
-
-put-line-requires-5 : tie.Need-put-line-requires-5
-put-line-requires-5 c κs = search needs
-
-slice-aggregate-put-line-6 : tie.Need-slice-aggregate-put-line-6
-slice-aggregate-put-line-6 c = search needs
-
-cast-put-line-6 : tie.Need-cast-put-line-6
-cast-put-line-6 c = search needs
-
-put-line-requires-6 : tie.Need-put-line-requires-6
-put-line-requires-6 c κs = search needs
-
-slice-aggregate-put-line-7 : tie.Need-slice-aggregate-put-line-7
-slice-aggregate-put-line-7 c = search needs
-
-cast-put-line-7 : tie.Need-cast-put-line-7
-cast-put-line-7 c = search needs
-
-put-line-requires-7 : tie.Need-put-line-requires-7
-put-line-requires-7 c κs = search needs
-
-slice-aggregate-put-line-8 : tie.Need-slice-aggregate-put-line-8
-slice-aggregate-put-line-8 c = search needs
-
-put-line-requires-8 : tie.Need-put-line-requires-8
-put-line-requires-8 c κs = search needs
-
 same-length : tie.Need-same-length
 same-length c =
     let ended = c .before .before in
@@ -120,28 +51,28 @@ pub put-claim-spec : {M : Type 1} → statement M
 put-claim-spec =
     tie.close
     (tie.spec
-    slice-aggregate-put-line
-    cast-put-line
-    put-line-requires
-    slice-aggregate-put-line-2
-    cast-put-line-2
-    put-line-requires-2
-    slice-aggregate-put-line-3
-    cast-put-line-3
-    put-line-requires-3
-    slice-aggregate-put-line-4
-    cast-put-line-4
-    put-line-requires-4
-    slice-aggregate-put-line-5
-    cast-put-line-5
-    put-line-requires-5
-    slice-aggregate-put-line-6
-    cast-put-line-6
-    put-line-requires-6
-    slice-aggregate-put-line-7
-    cast-put-line-7
-    put-line-requires-7
-    slice-aggregate-put-line-8
-    put-line-requires-8
+    (λ c. search needs)
+    (λ c. search needs)
+    (λ c κs. search needs)
+    (λ c. search needs)
+    (λ c. search needs)
+    (λ c κs. search needs)
+    (λ c. search needs)
+    (λ c. search needs)
+    (λ c κs. search needs)
+    (λ c. search needs)
+    (λ c. search needs)
+    (λ c κs. search needs)
+    (λ c. search needs)
+    (λ c. search needs)
+    (λ c κs. search needs)
+    (λ c. search needs)
+    (λ c. search needs)
+    (λ c κs. search needs)
+    (λ c. search needs)
+    (λ c. search needs)
+    (λ c κs. search needs)
+    (λ c. search needs)
+    (λ c κs. search needs)
     same-length
     returns)

@@ -36,17 +36,8 @@ counted c =
     section-start claimText (k .list) (k .count) claimsKey claimLimit (st .args .at) (omega (arith, full st, st .pre .1)) (st .pre .0)
     (c .put-line .ensures .0) (c .put-line .ensures .1)
 
-slice-aggregate-put-line : tie.Need-slice-aggregate-put-line Inv-loop μ-loop
-slice-aggregate-put-line c = search needs
-
-put-line-requires : tie.Need-put-line-requires Inv-loop μ-loop
-put-line-requires c κs = search needs
-
 loop-holds : tie.Need-loop-holds Inv-loop μ-loop
 loop-holds c = (omega arith, writing-start _ _ _)
-
-mul-c : tie.Need-mul-c Inv-loop μ-loop
-mul-c c = search needs
 
 element-copy-out-c : tie.Need-element-copy-out-c Inv-loop μ-loop
 element-copy-out-c c = omega (arith, full (c .before .before .before .before .before .before .before .before), c .before .before .before .before .before .before .before .before .pre .1)
@@ -59,12 +50,6 @@ put-claim-requires c κs =
     let k = st .args .t3 in
     going-room claimText (k .list) (k .count) noClaim (omega (arith, full st, st .pre .1)) (writing-left (st .pre .0) (counted head))
     (c .before .before .loop-test .taken) (l .loop .inv .1)
-
-add-i : tie.Need-add-i Inv-loop μ-loop
-add-i c = search needs
-
-loop-less : tie.Need-loop-less Inv-loop μ-loop
-loop-less c = omega arith
 
 loop-again : tie.Need-loop-again Inv-loop μ-loop
 loop-again c =
@@ -98,14 +83,14 @@ put-claims-spec =
     (tie.spec
     Inv-loop
     μ-loop
-    slice-aggregate-put-line
-    put-line-requires
+    (λ c. search needs)
+    (λ c κs. search needs)
     loop-holds
-    mul-c
+    (λ c. search needs)
     element-copy-out-c
     put-claim-requires
-    add-i
-    loop-less
+    (λ c. search needs)
+    (λ c. omega arith)
     loop-again
     same-length
     returns)

@@ -31,41 +31,11 @@ numbered c =
     let all = lining-done (lining-next room second (c .put-line3 .ensures .0) (c .put-line3 .ensures .1)) in
     writing-next lines scope (st .pre .0) (writing-start (a .at) (resourceText (a .o)) (a .buf .now)) (all .0) (all .1)
 
-slice-aggregate-put-line : tie.Need-slice-aggregate-put-line
-slice-aggregate-put-line c = search needs
-
-cast-put-line : tie.Need-cast-put-line
-cast-put-line c = search needs
-
-put-line-requires : tie.Need-put-line-requires
-put-line-requires c κs = search needs
-
-slice-aggregate-put-line-2 : tie.Need-slice-aggregate-put-line-2
-slice-aggregate-put-line-2 c = search needs
-
-cast-put-line-2 : tie.Need-cast-put-line-2
-cast-put-line-2 c = search needs
-
-put-line-requires-2 : tie.Need-put-line-requires-2
-put-line-requires-2 c κs = search needs
-
-slice-aggregate-put-line-3 : tie.Need-slice-aggregate-put-line-3
-slice-aggregate-put-line-3 c = search needs
-
-cast-put-line-3 : tie.Need-cast-put-line-3
-cast-put-line-3 c = search needs
-
-put-line-requires-3 : tie.Need-put-line-requires-3
-put-line-requires-3 c κs = search needs
-
 put-scope-requires : tie.Need-put-scope-requires
 put-scope-requires c κs =
     let kept = c .before .before .before in
     let st = kept .before .before .before .before .before .before .before .before .before .before .before .before .before .before .before .before .before in
     (writing-left (st .pre .0) (numbered kept), st .pre .1)
-
-same-length : tie.Need-same-length
-same-length c = search needs
 
 returns : tie.Need-returns
 returns c =
@@ -78,15 +48,15 @@ pub put-resource-spec : {M : Type 1} → statement M
 put-resource-spec =
     tie.close
     (tie.spec
-    slice-aggregate-put-line
-    cast-put-line
-    put-line-requires
-    slice-aggregate-put-line-2
-    cast-put-line-2
-    put-line-requires-2
-    slice-aggregate-put-line-3
-    cast-put-line-3
-    put-line-requires-3
+    (λ c. search needs)
+    (λ c. search needs)
+    (λ c κs. search needs)
+    (λ c. search needs)
+    (λ c. search needs)
+    (λ c κs. search needs)
+    (λ c. search needs)
+    (λ c. search needs)
+    (λ c κs. search needs)
     put-scope-requires
-    same-length
+    (λ c. search needs)
     returns)

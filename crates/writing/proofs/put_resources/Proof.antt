@@ -43,17 +43,8 @@ counted c =
     section-start resourceText (k .list) (k .count) resourcesKey resourceLimit (st .args .at) (omega (arith, full st, st .pre .1)) (st .pre .0)
     (c .put-line .ensures .0) (c .put-line .ensures .1)
 
-slice-aggregate-put-line : tie.Need-slice-aggregate-put-line Inv-loop μ-loop
-slice-aggregate-put-line c = search needs
-
-put-line-requires : tie.Need-put-line-requires Inv-loop μ-loop
-put-line-requires c κs = search needs
-
 loop-holds : tie.Need-loop-holds Inv-loop μ-loop
 loop-holds c = (omega arith, writing-start _ _ _)
-
-mul-o : tie.Need-mul-o Inv-loop μ-loop
-mul-o c = search needs
 
 element-copy-out-o : tie.Need-element-copy-out-o Inv-loop μ-loop
 element-copy-out-o c = omega (arith, full (c .before .before .before .before .before .before .before .before), c .before .before .before .before .before .before .before .before .pre .1)
@@ -69,12 +60,6 @@ put-resource-requires c κs =
       going-room resourceText (k .list) (k .count) beyond inside (writing-left (st .pre .0) (counted head)) more (l .loop .inv .1),
       path-fits k (st .pre .2) beyond (l .loop .i) inside more,
     )
-
-add-i : tie.Need-add-i Inv-loop μ-loop
-add-i c = search needs
-
-loop-less : tie.Need-loop-less Inv-loop μ-loop
-loop-less c = omega arith
 
 loop-again : tie.Need-loop-again Inv-loop μ-loop
 loop-again c =
@@ -108,14 +93,14 @@ put-resources-spec =
     (tie.spec
     Inv-loop
     μ-loop
-    slice-aggregate-put-line
-    put-line-requires
+    (λ c. search needs)
+    (λ c κs. search needs)
     loop-holds
-    mul-o
+    (λ c. search needs)
     element-copy-out-o
     put-resource-requires
-    add-i
-    loop-less
+    (λ c. search needs)
+    (λ c. omega arith)
     loop-again
     same-length
     returns)

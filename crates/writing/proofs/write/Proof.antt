@@ -21,22 +21,13 @@ use Rattle.writing.proofs.write.Tie as tie
 blank-room : (n : ℕ) → n ≤ length {A = ℕ} (replicate n 0)
 blank-room n = omega (arith, length-replicate {A = ℕ} n 0)
 
-is-sound-requires : tie.Need-is-sound-requires
-is-sound-requires c κs = search needs
-
 returns : tie.Need-returns
 returns c =
     let a = c .before .before .before .args in
     register-unsound (a .r) (a .buf .now) (sym (c .before .is-sound .ensures) ∙ not-true _ (c .if1 .taken))
 
-slice-aggregate-compose : tie.Need-slice-aggregate-compose
-slice-aggregate-compose c = search needs
-
 compose-requires : tie.Need-compose-requires
 compose-requires c κs = (sym (c .before .before .is-sound .ensures) ∙ not-false _ (c .before .if1 .left), blank-room 37741)
-
-slice-aggregate-text : tie.Need-slice-aggregate-text
-slice-aggregate-text c = search needs
 
 -- the sheet's front is the text
 front : (c : tie.After-compose) → take (c .compose .result) (c .compose .last .0) ≡ registerText (c .before .before .before .before .before .args .r)
@@ -49,12 +40,6 @@ slice-aggregate-deliver c =
     let sound = sym (composed .before .before .before .is-sound .ensures) ∙ not-false _ (composed .before .before .if1 .left) in
     let full : length (composed .compose .last .0) ≡ textLimit = composed .compose .kept .0 ∙ length-replicate {A = ℕ} 37741 0 in
     sym (length-take-le _ (composed .compose .last .0) (omega (arith, full, composed .compose .ensures .0, text-length r sound)))
-
-deliver-requires : tie.Need-deliver-requires
-deliver-requires c κs = search needs
-
-same-length : tie.Need-same-length
-same-length c = search needs
 
 returns-2 : tie.Need-returns-2
 returns-2 c =
@@ -71,12 +56,12 @@ pub write-spec : {M : Type 1} → statement M
 write-spec =
     tie.close
     (tie.spec
-    is-sound-requires
+    (λ c κs. search needs)
     returns
-    slice-aggregate-compose
+    (λ c. search needs)
     compose-requires
-    slice-aggregate-text
+    (λ c. search needs)
     slice-aggregate-deliver
-    deliver-requires
-    same-length
+    (λ c κs. search needs)
+    (λ c. search needs)
     returns-2)

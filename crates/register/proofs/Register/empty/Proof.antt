@@ -5,12 +5,9 @@ use Rattle.register.specs.Register.{emptyRegister}
 use Rattle.register.proofs.Register.empty.Statement.{statement}
 use Rattle.register.proofs.Register.empty.Tie as tie
 
-none-requires : tie.Need-none-requires
-none-requires c κs = search needs
-
 returns : tie.Need-returns
 unfolding emptyRegister
 returns c = rw (c .none .ensures)
 
 pub empty-spec : {M : Type 1} → statement M
-empty-spec = tie.close (tie.spec none-requires returns)
+empty-spec = tie.close (tie.spec (λ c κs. search needs) returns)
