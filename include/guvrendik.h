@@ -377,7 +377,7 @@ typedef struct guvrendik_plan_verdict {
  *  p  the plan
  * Refusals, the first that applies: 1 register not sound; 2 more than 16 actions; then the first action that is refused with 2
  * or 3, as by guvrendik_gate, stops the whole plan, also one that would be cancelled. Then there are no judgements.
- * Stack: 77,000 bytes. */
+ * Stack: 78,000 bytes. */
 guvrendik_plan_verdict guvrendik_judge_plan(guvrendik_register r, guvrendik_plan p);
 
 /* ---- Paths ---- */

@@ -6,7 +6,7 @@ A file of specs/ (Lib.antt aside) says on its first line what it is, and then wh
                       it to
     -- Laws: ..       what is proved of either, for other crates
 
-Roots are the `ensures` of the exported calls (crates/portal/src) and of the public calls that the printing programs print (crates/verdict_text/src),
+Roots are the `ensures` of the exported calls (crates/portal/src) and of the public calls that the printing programs print (crates/verdict_printing/src),
 `History`, `Authority` and `Traced`, and the statements of the files proofs/Theorems*.antt. From them the closure is taken by name and import: a
 name in the type or the body of a definition leads to what it names. `specs.declared` is written by rattle from the structs and enums of src/:
 these are listed as types of the code. Modules outside crates/ (`lib`, `mathlib`, `Prim`, `native`, `borrow`) are the language's own, and end it.
@@ -17,8 +17,8 @@ is that of a definition.
 
 A public name of specs/ stands once there, and what stands in specs/ has a user: another definition of its file, or a file that imports and names it.
 
-docs/RULES.md names a definition or a theorem, in backticks, as `crate/File: name` (`rules/Sound: drawnFrom`, `verdicts/TheoremsPlans: plan-gated`), several
-with commas between (`rules/Sound: alone, over`), and a file alone as `crate/File`. The word crate itself stands for any. What runs a rule is a folder
+docs/RULES.md names a definition or a theorem, in backticks, as `crate/File: name` (`soundness_rules/Sound: drawnFrom`, `gate_rules/TheoremsPlans: plan-gated`), several
+with commas between (`soundness_rules/Sound: alone, over`), and a file alone as `crate/File`. The word crate itself stands for any. What runs a rule is a folder
 below tests/cases, as `cases/name`, or the beginning of a line that tests/calls prints, in quotes.
 
 The lines that are counted are those of definitions, without comments, blank lines and `use`. The bar is for what the base's exported calls, `History`
@@ -37,8 +37,8 @@ MARKS = ("Believed", "Working", "Laws")
 APART = re.compile(r"json|words|refusal_text|violation_text|right_name|flag_name|version")
 RULES = "docs/RULES.md"
 REPOSITORY = os.path.dirname(os.path.dirname(os.path.dirname(os.path.abspath(__file__))))
-EXPORTED, PRINTED = "portal", "verdict_text"
-DEMANDS = (("history", "History", "History"), ("verdicts", "Authority", "Authority"), ("verdicts", "Authority", "Traced"))
+EXPORTED, PRINTED = "portal", "verdict_printing"
+DEMANDS = (("history", "History", "History"), ("gate_rules", "Authority", "Authority"), ("gate_rules", "Authority", "Traced"))
 MODULE = re.compile(r"Rattle·(\w+?)(?:·specs|·proofs)?\.(specs|proofs)\.(.+)$")
 USE = re.compile(r"^(?:ghost )?use ([^\s{}]+?)(?:\.\{([^}]*)\})?(?: as (\S+?))?;?$")
 START = re.compile(r"^((?:(?:abbrev|unfoldable|pub) )*)([^\s:(){}]+) :(?:\s|$)")
@@ -705,24 +705,24 @@ def append(path, text):
     return edit
 
 
-BROKEN_CRATE = "rules"
+BROKEN_CRATE = "soundness_rules"
 BROKEN = (
-    ("a believed definition moved to a file of laws", move("crates/rules/specs/Sound.antt", "crates/rules/specs/Laws.antt", "drawnFrom"),
-     "drawnFrom", "rules/Laws: drawnFrom is believed .* stands in a file that is laws"),
+    ("a believed definition moved to a file of laws", move("crates/soundness_rules/specs/Sound.antt", "crates/soundness_rules/specs/Laws.antt", "drawnFrom"),
+     "drawnFrom", "soundness_rules/Laws: drawnFrom is believed .* stands in a file that is laws"),
     ("a lemma put into a believed file",
-     append("crates/rules/specs/Sound.antt", "\npub sound-once : (r : Register) → sound r ≡ sound r\nsound-once r = refl\n"),
-     "sound-once", "rules/Sound: sound-once is a lemma"),
+     append("crates/soundness_rules/specs/Sound.antt", "\npub sound-once : (r : Register) → sound r ≡ sound r\nsound-once r = refl\n"),
+     "sound-once", "soundness_rules/Sound: sound-once is a lemma"),
     ("a definition that nothing reaches put into a believed file",
-     append("crates/rules/specs/Sound.antt", "\npub unsound : Register → Bool\nunsound r = not (sound r)\n"),
-     "unsound", "rules/Sound: unsound stands in a believed file, and nothing reaches it"),
-    ("a law that nothing uses", append("crates/rules/specs/Laws.antt", "\npub sound-twice : (r : Register) → sound r ≡ sound r\nsound-twice r = refl\n"),
-     "sound-twice", "rules/Laws: sound-twice has no user"),
-    ("a name that stands twice", append("crates/rules/specs/Laws.antt", "\ndrawnFrom : ℕ\ndrawnFrom = 0\n"),
-     "drawnFrom", "drawnFrom stands more than once in specs/: rules/"),
-    ("a rule that names what does not stand", append(RULES, "\n`rules/Sound: soundly`\n"),
-     "soundly", "names `rules/Sound: soundly`, which does not stand there"),
-    ("a theorem proved by cases", append("crates/rules/proofs/Theorems.antt", "\npub both : (b : Bool) → b ≡ b\nboth true = refl\nboth false = refl\n"),
-     "both", "rules/proofs/Theorems.antt: both is no theorem that cites"),
+     append("crates/soundness_rules/specs/Sound.antt", "\npub unsound : Register → Bool\nunsound r = not (sound r)\n"),
+     "unsound", "soundness_rules/Sound: unsound stands in a believed file, and nothing reaches it"),
+    ("a law that nothing uses", append("crates/soundness_rules/specs/Laws.antt", "\npub sound-twice : (r : Register) → sound r ≡ sound r\nsound-twice r = refl\n"),
+     "sound-twice", "soundness_rules/Laws: sound-twice has no user"),
+    ("a name that stands twice", append("crates/soundness_rules/specs/Laws.antt", "\ndrawnFrom : ℕ\ndrawnFrom = 0\n"),
+     "drawnFrom", "drawnFrom stands more than once in specs/: soundness_rules/"),
+    ("a rule that names what does not stand", append(RULES, "\n`soundness_rules/Sound: soundly`\n"),
+     "soundly", "names `soundness_rules/Sound: soundly`, which does not stand there"),
+    ("a theorem proved by cases", append("crates/soundness_rules/proofs/Theorems.antt", "\npub both : (b : Bool) → b ≡ b\nboth true = refl\nboth false = refl\n"),
+     "both", "soundness_rules/proofs/Theorems.antt: both is no theorem that cites"),
 )
 
 

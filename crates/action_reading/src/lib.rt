@@ -1,12 +1,13 @@
-// An action read from a lent text of any length and content, in one pass: the first failing line decides.
+// An action read from a lent text of any length and content.
+// In one pass: the first failing line decides.
 ghost use mathlib.Core.Path.{_≡_};
 ghost use mathlib.Core.List.{_++_};
 ghost use Prim.Native.Nat.{_-_};
 ghost use lib.ListN.{length, replicate};
-ghost use Rattle.actions.specs.Actions.{noUse, useLimit, governLimit};
+ghost use Rattle.actions.specs.Actions.{noUse, useLimit, governLimit, noAction};
 ghost use Rattle.lines.specs.Answers.{stateOf};
-ghost use Rattle.texts.specs.Actions.{readUse, readUses, readGoverns, noAction, actionRead, actionEnding};
-ghost use Rattle.reading.specs.Reads.{Reads};
+ghost use Rattle.text_rules.specs.Actions.{readUse, readUses, readGoverns, actionRead, actionEnding};
+ghost use Rattle.register_reading.specs.Reads.{Reads};
 use actions::Action;
 use actions::Usage;
 use lines::Cursor;
@@ -14,7 +15,7 @@ use refusals::Outcome;
 use register::ID_LIMIT;
 use register::MOMENT_END;
 use rights::POLICY_MODIFY;
-use texts::ActionRead;
+use text_rules::ActionRead;
 
 // The greatest flags number: the ten flags set.
 const FLAGS_LIMIT: u64 = 1023;
@@ -131,7 +132,7 @@ fn answer(s: &[u8], c: Cursor, action: Action) -> ActionRead
         let none = no_action();
         return ActionRead {
             action: none,
-            outcome: Outcome::Refused(texts::refusal_of(c.refusal)),
+            outcome: Outcome::Refused(text_rules::refusal_of(c.refusal)),
             line: c.line,
         };
     }

@@ -4,7 +4,7 @@ use mathlib.Core.Bool.{Bool, _&&_}
 use mathlib.Core.List.{List, [], _∷_}
 use Prim.Native.Nat.{ℕ, _^_}
 use lib.Dec.{leb, ltb}
-use lib.ListN.{take}
+use lib.ListN.{take, replicate}
 use Rattle.lists.specs.Lists.{every, ands}
 use Rattle.rights.specs.Rights.{isRight}
 use Rattle.register.specs.Limits.{idLimit, momentEnd}
@@ -34,6 +34,10 @@ violationLimit = 51
 -- what stands at a place that no use was put into: all zeros
 abbrev pub noUse : Usage
 noUse = record { resource = 0; right = 0 }
+
+-- the action of all zeros
+abbrev pub noAction : Action
+noAction = record { actor = 0; flags = 0; now = 0; uses = replicate useLimit noUse; used = 0; governs = replicate governLimit 0; governed = 0 }
 
 -- entries past a count are ignored
 abbrev pub usesOf : Action → List Usage

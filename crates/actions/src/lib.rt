@@ -1,5 +1,6 @@
-// What the gate is asked and what it answers, and whether an action's numbers and counts are in range. Every number of an action has a type that can
-// say one out of range; entries past a count are ignored. The structs that come in cross to C as they are; answers hold enums.
+// What the gate and the plan are asked and answer, and whether an action is in range.
+// Every number of an action has a type that can say one out of range; entries past a count are
+// ignored. The structs that come in cross to C as they are; answers hold enums.
 ghost use mathlib.Core.Path.{_≡_};
 ghost use Rattle.actions.specs.Actions.{kindOf, valueOf, judgementNumber, judgementValue, usesOf, governsOf, actionFits};
 ghost use mathlib.Core.Bool.{_&&_};

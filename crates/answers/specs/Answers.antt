@@ -8,8 +8,8 @@ use Rattle.paths.specs.Containment.{contained, reached}
 use Rattle.refusals.specs.Refusals.{numberOf}
 use Rattle.refusals.specs.declared.Outcome.{Outcome}
 use Rattle.refusals.specs.declared.Outcome.the-variants.{Accepted, Refused as RefusedFor}
-use Rattle.changes.specs.declared.Granted.{Granted}
-use Rattle.changes.specs.declared.Revoked.{Revoked}
+use Rattle.change_rules.specs.declared.Granted.{Granted}
+use Rattle.change_rules.specs.declared.Revoked.{Revoked}
 use Rattle.actions.specs.Actions.{violationLimit, actionLimit, kindOf, valueOf, judgementNumber, judgementValue}
 use Rattle.actions.specs.declared.Violation.{Violation}
 use Rattle.actions.specs.declared.Violations.{Violations}
@@ -18,10 +18,10 @@ use Rattle.actions.specs.declared.Decision.the-variants.{Permitted, Refused, St
 use Rattle.actions.specs.declared.Verdict.{Verdict}
 use Rattle.actions.specs.declared.Judgement.{Judgement}
 use Rattle.actions.specs.declared.PlanVerdict.{PlanVerdict}
-use Rattle.texts.specs.declared.RegisterRead.{RegisterRead}
-use Rattle.texts.specs.declared.ActionRead.{ActionRead}
-use Rattle.texts.specs.declared.Written.{Written}
-use Rattle.json_actions.specs.declared.JsonRead.{JsonRead}
+use Rattle.text_rules.specs.declared.RegisterRead.{RegisterRead}
+use Rattle.text_rules.specs.declared.ActionRead.{ActionRead}
+use Rattle.buffers.specs.declared.Written.{Written}
+use Rattle.json_rules.specs.declared.JsonRead.{JsonRead}
 use Rattle.answers.specs.declared.Containment.{Containment}
 use Rattle.answers.specs.declared.Soundness.{Soundness}
 use Rattle.answers.specs.declared.GrantAnswer.{GrantAnswer}
@@ -57,9 +57,16 @@ abbrev pub refusalNumber : Outcome → ℕ
 refusalNumber Accepted = 0
 refusalNumber (RefusedFor why) = numberOf why
 
--- a grant: the register as the grant leaves it, beside its outcome
+-- a grant: the parts of the register as the grant leaves it, beside its outcome
 abbrev pub grantAnswer : Granted → GrantAnswer
-grantAnswer g = record { state = g .register; accepted = acceptedNumber (g .outcome); refusal = refusalNumber (g .outcome) }
+grantAnswer g = record {
+  actors = g .register .actors;
+  resources = g .register .resources;
+  list = g .register .claims .list;
+  count = g .register .claims .count;
+  accepted = acceptedNumber (g .outcome);
+  refusal = refusalNumber (g .outcome);
+}
 
 -- a revocation or a clearing: the register as it leaves it, beside its outcome and how many claims went
 abbrev pub revokeAnswer : Revoked → RevokeAnswer

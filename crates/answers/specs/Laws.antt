@@ -14,14 +14,14 @@ use Rattle.refusals.specs.Refusals.{outcomeOf, isAccepted}
 use Rattle.refusals.specs.Laws.{outcome-cases, outcome-first}
 use Rattle.refusals.specs.declared.Outcome.{Outcome}
 use Rattle.refusals.specs.declared.Outcome.the-variants.{Accepted}
-use Rattle.changes.specs.Changes.{worldTests, grantTests, appended, granted, Withdrawal, withdrawTests, withdrawn}
+use Rattle.change_rules.specs.Changes.{worldTests, grantTests, appended, granted, Withdrawal, withdrawTests, withdrawn}
 use Rattle.withdrawing.specs.Struck.{struckOf}
 use Rattle.withdrawing.specs.declared.Struck.{Struck}
 use Rattle.actions.specs.declared.Verdict.{Verdict}
 use Rattle.actions.specs.declared.PlanVerdict.{PlanVerdict}
-use Rattle.texts.specs.declared.RegisterRead.{RegisterRead}
-use Rattle.texts.specs.declared.ActionRead.{ActionRead}
-use Rattle.json_actions.specs.declared.JsonRead.{JsonRead}
+use Rattle.text_rules.specs.declared.RegisterRead.{RegisterRead}
+use Rattle.text_rules.specs.declared.ActionRead.{ActionRead}
+use Rattle.json_rules.specs.declared.JsonRead.{JsonRead}
 use Rattle.answers.specs.declared.GrantAnswer.{GrantAnswer}
 use Rattle.answers.specs.declared.RevokeAnswer.{RevokeAnswer}
 use Rattle.answers.specs.declared.ViolationNumbers.{ViolationNumbers}
@@ -43,11 +43,7 @@ containment-told p q = rw (reach-told p q .0, reach-told p q .1)
 
 -- a grant of the claim c with an outcome: accepted, and where there is room, the claim goes to the end of the list
 abbrev pub grantedAnswer : Register → Claim → Outcome → GrantAnswer
-grantedAnswer r c o = record {
-  state = cond (isAccepted o && ltb (r .claims .count) claimLimit) (appended r c) r;
-  accepted = acceptedNumber o;
-  refusal = refusalNumber o;
-}
+grantedAnswer r c o = grantAnswer (record { register = cond (isAccepted o && ltb (r .claims .count) claimLimit) (appended r c) r; outcome = o })
 
 -- an accepted claim finds room
 accepted-room : (r : Register) (c : Claim) (moment : ℕ) → outcomeOf (grantTests r c moment) ≡ Accepted → ltb (r .claims .count) claimLimit ≡ true

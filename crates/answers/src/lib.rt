@@ -1,5 +1,6 @@
-// The answers that cross to the portal: structs of numbers, and what gives the numbers of an inner answer. No call asks anything of its
-// caller, and no answer whose numbers are all zero is a yes.
+// The answers that cross to the portal, as structs of numbers.
+// Here is what gives the numbers of an inner answer. No call asks anything of its caller, and no
+// answer whose numbers are all zero is a yes.
 ghost use mathlib.Core.Path.{_≡_};
 ghost use Rattle.answers.specs.Answers.{yesNumber, acceptedNumber, refusalNumber, decisionNumber, stopNumber, violationNumbers, violationList, judgementNumbers, judgementList, writtenAnswer, versionNumbers};
 ghost use Rattle.answers.specs.Laws.{containmentOf, grantedAnswer, withdrawnAnswer};
@@ -10,7 +11,8 @@ use actions::Plan;
 use actions::PlanVerdict;
 use actions::Violation;
 use actions::Violations;
-use json_actions::ID_BYTES;
+use buffers::Written;
+use json_rules::ID_BYTES;
 use paths::Reach;
 use refusals::Outcome;
 use register::Actors;
@@ -18,7 +20,6 @@ use register::Claim;
 use register::Claims;
 use register::Register;
 use register::Resources;
-use texts::Written;
 use withdrawing::Struck;
 
 // The answer of a containment: 1 for a yes, with the length of the trimmed outer path, which may be 0. Else zeros.
@@ -34,10 +35,14 @@ pub struct Soundness {
     pub sound: u32,
 }
 
-// The answer of a grant: accepted is 1, with the claim in the register. Else it is 0, with 01's number and the register as it came.
+// The answer of a grant: accepted is 1, with the claim in the register. Else it is 0, with 01's number and the register as it came. The register's
+// parts lie in it as they do in a register, the list of claims and their count by name, so that the claim is stored once.
 #[repr(C)]
 pub struct GrantAnswer {
-    pub state: Register,
+    pub actors: Actors,
+    pub resources: Resources,
+    pub list: [Claim; Register::CLAIMS],
+    pub count: usize,
     pub accepted: u32,
     pub refusal: u32,
 }
@@ -283,34 +288,25 @@ pub fn written(w: Written) -> WrittenAnswer
 pub fn granted(r: Register, c: Claim, outcome: Outcome) -> GrantAnswer
     ensures { λ y. ⌜ y ≡ grantedAnswer r c outcome ⌝ }
 {
-    let a = r.actors;
-    let o = r.resources;
-    let mut claims = r.claims;
-    let at = claims.count;
     let accepted = accepted(outcome);
-    if (accepted == 1) & (at < Register::CLAIMS) {
-        claims.list[at] = c;
-        claims.count = at + 1;
-    }
-    let people = a.list;
-    let things = o.list;
-    let actors = Actors {
-        list: people,
-        count: a.count,
-    };
-    let resources = Resources {
-        list: things,
-        count: o.count,
-    };
-    GrantAnswer {
-        state: Register {
-            actors,
-            resources,
-            claims,
-        },
+    let actors = r.actors;
+    let resources = r.resources;
+    let k = r.claims;
+    let list = k.list;
+    let at = k.count;
+    let mut answer = GrantAnswer {
+        actors,
+        resources,
+        list,
+        count: at,
         accepted,
         refusal: refusal(outcome),
+    };
+    if (accepted == 1) & (at < Register::CLAIMS) {
+        answer.list[at] = c;
+        answer.count = at + 1;
     }
+    answer
 }
 
 // A withdrawal that left these claims, with its outcome and how many went. Each part is put in place once.

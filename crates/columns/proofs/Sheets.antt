@@ -10,11 +10,11 @@ use lib.Dec.{leb}
 use lib.ListN.{length, take, drop, getD, set}
 use lib.Seq.{lt-length-set, getD-take, getD-drop}
 use Rattle.lists.specs.Loops.{Loop, start, turn, next, done}
-use Rattle.register.specs.Limits.{claimLimit, momentEnd}
+use Rattle.register.specs.Limits.{claimLimit}
 use Rattle.register.specs.Register.{noClaim}
 use Rattle.register.specs.declared.Claim.{Claim}
-use Rattle.columns.specs.Sheet.{sheetLimit, lastColumn, columnOf, claimAt, numbersPut, claimPut, claimsPut, sheetWith}
-use Rattle.columns.specs.SheetLaws.{column-within, claim-put-length, claims-put-nil, claims-put-next, sheet-with-put}
+use Rattle.columns.specs.Sheet.{sheetLimit, lastColumn, columnOf, claimOf, claimAt, numbersPut, claimPut, claimsPut, sheetWith}
+use Rattle.columns.specs.SheetLaws.{column-within, claim-same, claim-put-length, claims-put-nil, claims-put-next, sheet-with-put}
 
 module _ (s : List ℕ) where
   -- too short a list has no column
@@ -37,47 +37,15 @@ module _ (s : List ℕ) where
 
   -- too short a list has no claim
   pub claim-short : (i : ℕ) → length s < sheetLimit → noClaim ≡ claimAt s i
-  claim-short i short =
-      rw (
-        column-short 0 short,
-        column-short 1 short,
-        column-short 2 short,
-        column-short 3 short,
-        column-short 4 short,
-        column-short 5 short,
-        column-short 6 short,
-        column-short 7 short,
-        column-short 8 short,
-      )
+  claim-short i short = claim-same (λ j. 0) (λ j. getD (columnOf j s) i 0) (λ j there. sym (ap (λ l. getD l i 0) (column-short j short)))
 
-  module _ (i : ℕ) (long : sheetLimit ≤ length s) (inside : i < claimLimit) where
-    number-read : (j : ℕ) → j ≤ lastColumn → getD (columnOf j s) i 0 ≡ getD s (j * claimLimit + i) 0
-    number-read j there =
-        ap (λ l. getD l i 0) (column-within s j long there)
-        ∙ getD-take claimLimit (drop (j * claimLimit) s) i 0 inside
-        ∙ getD-drop (j * claimLimit) s i 0
-
-    pub claim-read : record {
-      id = getD s (0 * claimLimit + i) 0;
-      parent = getD s (1 * claimLimit + i) 0;
-      grantor = getD s (2 * claimLimit + i) 0;
-      holder = getD s (3 * claimLimit + i) 0;
-      resource = getD s (4 * claimLimit + i) 0;
-      rights = getD s (5 * claimLimit + i) 0;
-      weight = getD s (6 * claimLimit + i) 0;
-      expiry = getD s (7 * claimLimit + i) 0 + momentEnd * getD s (8 * claimLimit + i) 0;
-    } ≡ claimAt s i
-    claim-read = rw (
-      number-read 0 (omega arith),
-      number-read 1 (omega arith),
-      number-read 2 (omega arith),
-      number-read 3 (omega arith),
-      number-read 4 (omega arith),
-      number-read 5 (omega arith),
-      number-read 6 (omega arith),
-      number-read 7 (omega arith),
-      number-read 8 (omega arith),
-    )
+  -- at a place each number is that of its column
+  pub claim-read : (i : ℕ) → sheetLimit ≤ length s → i < claimLimit → claimOf (λ j. getD s (j * claimLimit + i) 0) ≡ claimAt s i
+  claim-read i long inside =
+      claim-same (λ j. getD s (j * claimLimit + i) 0) (λ j. getD (columnOf j s) i 0)
+      (λ j there. sym (ap (λ l. getD l i 0) (column-within s j long there)
+      ∙ getD-take claimLimit (drop (j * claimLimit) s) i 0 inside
+      ∙ getD-drop (j * claimLimit) s i 0))
 
 -- a place of a list is one of it with numbers put into it
 pub inside-put : (xs s : List ℕ) (i j : ℕ) {k : ℕ} → k < length s → k < length (numbersPut s i j xs)

@@ -26,8 +26,8 @@ actorId a = a .id
 abbrev pub actorKind : Actor → ℕ
 actorKind a = a .kind
 
-abbrev pub ownerOf : Actor → ℕ
-ownerOf a = a .owner
+abbrev pub actorOwner : Actor → ℕ
+actorOwner a = a .owner
 
 abbrev pub resourceId : Resource → ℕ
 resourceId o = o .id
@@ -75,7 +75,7 @@ resourcesTo k = record { list = upTo noResource (k .count) (k .list); count = k 
 
 -- the columns of a list of actors, of resources
 abbrev pub actorColumns : List Actor → ActorColumns
-actorColumns l = record { names = map actorId l; kinds = map actorKind l; owners = map ownerOf l }
+actorColumns l = record { names = map actorId l; kinds = map actorKind l; owners = map actorOwner l }
 
 abbrev pub resourceColumns : List Resource → ResourceColumns
 resourceColumns l = record { reports = map resourceId l; keepers = map keeperOf l; publics = map publicOf l }

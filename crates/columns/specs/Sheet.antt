@@ -1,5 +1,5 @@
 -- Working: A sheet of claims: nine columns one behind the other, each with a number for every place that a claim may stand at. It is shaped for the
--- code; what it says of the claims is proved in SheetLaws (`column-natural-ids` and its like, `sheet-claims`).
+-- code; what it says of the claims is proved in SheetLaws (`column-natural`, `sheet-claims`).
 use mathlib.Core.Bool.{_&&_, cond}
 use mathlib.Core.List.{List, [], _∷_, map}
 use Prim.Native.Nat.{ℕ, suc, _+_, _*_, _/_, _%_}
@@ -18,27 +18,50 @@ sheetLimit = 2304
 abbrev pub lastColumn : ℕ
 lastColumn = 8
 
+-- the columns, by what each has of a claim; an expiry takes two, its low and its high 32 bits
+abbrev pub idColumn : ℕ
+idColumn = 0
+
+abbrev pub parentColumn : ℕ
+parentColumn = 1
+
+abbrev pub grantorColumn : ℕ
+grantorColumn = 2
+
+abbrev pub holderColumn : ℕ
+holderColumn = 3
+
+abbrev pub resourceColumn : ℕ
+resourceColumn = 4
+
+abbrev pub rightsColumn : ℕ
+rightsColumn = 5
+
+abbrev pub weightColumn : ℕ
+weightColumn = 6
+
+abbrev pub expiryColumn : ℕ
+expiryColumn = 7
+
+abbrev pub lateColumn : ℕ
+lateColumn = 8
+
 -- a column of a sheet: nothing where the sheet is too short, or has no such column
 unfoldable pub columnOf : ℕ → List ℕ → List ℕ
 columnOf j s = cond (leb sheetLimit (length s) && leb j lastColumn) (take claimLimit (drop (j * claimLimit) s)) []
 
--- the claim at a place of a sheet: all zeros past its end. An expiry is kept as what it is past the last whole run of moments, and how many such
--- runs there are: where it is in range, there are none.
-abbrev pub claimAt : List ℕ → ℕ → Claim
-claimAt s i = record {
-  id = getD (columnOf 0 s) i 0;
-  parent = getD (columnOf 1 s) i 0;
-  grantor = getD (columnOf 2 s) i 0;
-  holder = getD (columnOf 3 s) i 0;
-  resource = getD (columnOf 4 s) i 0;
-  rights = getD (columnOf 5 s) i 0;
-  weight = getD (columnOf 6 s) i 0;
-  expiry = getD (columnOf 7 s) i 0 + momentEnd * getD (columnOf 8 s) i 0;
+-- the claim that has a number f in each column; of each claim these are `numbersOf` it (`claim-numbers` of SheetLaws)
+abbrev pub claimOf : (ℕ → ℕ) → Claim
+claimOf f = record {
+  id = f idColumn;
+  parent = f parentColumn;
+  grantor = f grantorColumn;
+  holder = f holderColumn;
+  resource = f resourceColumn;
+  rights = f rightsColumn;
+  weight = f weightColumn;
+  expiry = f expiryColumn + momentEnd * f lateColumn;
 }
-
--- the claims at all places of a sheet
-unfoldable pub claimsIn : List ℕ → List Claim
-claimsIn s = map (claimAt s) (counted 0 claimLimit)
 
 -- what each column has of a claim
 abbrev pub numbersOf : Claim → List ℕ
@@ -53,6 +76,14 @@ numbersOf c =
     ∷ (c .expiry % momentEnd)
     ∷ (c .expiry / momentEnd)
     ∷ []
+
+-- the claim at a place of a sheet: all zeros past its end
+abbrev pub claimAt : List ℕ → ℕ → Claim
+claimAt s i = claimOf (λ j. getD (columnOf j s) i 0)
+
+-- the claims at all places of a sheet
+unfoldable pub claimsIn : List ℕ → List Claim
+claimsIn s = map (claimAt s) (counted 0 claimLimit)
 
 -- numbers put at place i, one into each column from the column j on
 abbrev pub numbersPut : List ℕ → ℕ → ℕ → List ℕ → List ℕ

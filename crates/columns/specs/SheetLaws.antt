@@ -6,7 +6,7 @@ use Prim.Native.Nat.{ℕ, zero, suc, _+_, _*_, _-_, _≤_, _<_}
 use native.Mathlib.Nat.{mod-add-div}
 use native.Mathlib.Numerals.{add-one}
 use native.Mathlib.Omega.{arith}
-use borrow.Author.Tests.{le-leb, eq-eqb, ltb-true, ltb-false}
+use borrow.Author.Tests.{le-leb, leb-true, eq-eqb, ltb-true, ltb-false}
 use lib.Dec.{eqb, ltb, leb}
 use lib.ListN.{length, take, drop, getD, set, replicate, length-take, length-drop, length-set, length-map, length-replicate, List·getD-map, List·getD-append, List·getD-eq-default}
 use lib.Seq.{take-all, set-out, take-set-le, take-set-lt, drop-set-lt, drop-set-add, getD-take, ext-getD, sets, sets-eq}
@@ -17,9 +17,8 @@ use Rattle.register.specs.Limits.{claimLimit, momentEnd}
 use Rattle.register.specs.Register.{claimsOf, noClaim}
 use Rattle.register.specs.declared.Claim.{Claim}
 use Rattle.register.specs.declared.Claims.{Claims}
-use Rattle.columns.specs.Columns.{claimId, parentOf, grantorOf, holderOf, claimedOf, rightsOf, weightOf}
 use Rattle.columns.specs.Laws.{getD-inside}
-use Rattle.columns.specs.Sheet.{sheetLimit, lastColumn, columnOf, claimAt, claimsIn, numbersOf, numbersPut, claimPut, claimsPut, sheetWith, sheetOf}
+use Rattle.columns.specs.Sheet.{sheetLimit, lastColumn, columnOf, claimOf, claimAt, claimsIn, numbersOf, numbersPut, claimPut, claimsPut, sheetWith, sheetOf}
 
 -- a column is the part of the sheet that begins at its first place
 module _ (s : List ℕ) (j : ℕ) where
@@ -41,12 +40,24 @@ module _ (s : List ℕ) (j : ℕ) where
       most true = omega (arith, length-take claimLimit (drop (j * claimLimit) s))
       most false = omega arith
 
+-- a claim is told by its columns' numbers, those behind the last column aside
+pub claim-same : (f g : ℕ → ℕ) → ((j : ℕ) → j ≤ lastColumn → f j ≡ g j) → claimOf f ≡ claimOf g
+claim-same f g same = ap claimOf (fun-ext {f = within f} {g = within g} alike)
+  where
+    within : (ℕ → ℕ) → ℕ → ℕ
+    within h j = cond (leb j lastColumn) (h j) 0
+
+    alike : (j : ℕ) → within f j ≡ within g j
+    alike j = cases (leb j lastColumn) (λ t. ap (λ n. cond (leb j lastColumn) n 0) (same j (leb-true j lastColumn t))) (λ t. rw t)
+
+-- a claim is the one that has its numbers
+pub claim-numbers : (c : Claim) → claimOf (λ j. getD (numbersOf c) j 0) ≡ c
+claim-numbers c = rw (mod-add-div (c .expiry) momentEnd)
+
 -- past the places of a sheet there is no claim
 pub claim-past : (s : List ℕ) (i : ℕ) → claimLimit ≤ i → claimAt s i ≡ noClaim
-claim-past s i past = rw (none 0, none 1, none 2, none 3, none 4, none 5, none 6, none 7, none 8)
-  where
-    none : (j : ℕ) → getD (columnOf j s) i 0 ≡ 0
-    none j = List·getD-eq-default (columnOf j s) 0 (omega (arith, column-most s j))
+claim-past s i past =
+    claim-same (λ j. getD (columnOf j s) i 0) (λ j. 0) (λ j there. List·getD-eq-default (columnOf j s) 0 (omega (arith, column-most s j)))
 
 -- the claims in a sheet are as many as its places, and each is the claim at its place
 pub claims-in-length : (s : List ℕ) → length (claimsIn s) ≡ claimLimit
@@ -78,31 +89,10 @@ module _ (s : List ℕ) where
       ∙ take-all n l (omega arith)
 
   module _ (long : length s ≡ sheetLimit) where
-    column-natural : (f : Claim → ℕ) (j : ℕ) → j ≤ lastColumn → ((i : ℕ) → f (claimAt s i) ≡ getD (columnOf j s) i 0)
-        → columnOf j s ≡ map f (claimsIn s)
+    pub column-natural : (f : Claim → ℕ) (j : ℕ) → j ≤ lastColumn → ((g : ℕ → ℕ) → f (claimOf g) ≡ g j) → columnOf j s ≡ map f (claimsIn s)
     unfolding claimsIn
-    column-natural f j there same = sym (field-read f (columnOf j s) claimLimit same (column-length s j long there))
-
-    pub column-natural-ids : columnOf 0 s ≡ map claimId (claimsIn s)
-    column-natural-ids = column-natural claimId 0 (omega arith) (λ i. refl)
-
-    pub column-natural-parents : columnOf 1 s ≡ map parentOf (claimsIn s)
-    column-natural-parents = column-natural parentOf 1 (omega arith) (λ i. refl)
-
-    pub column-natural-grantors : columnOf 2 s ≡ map grantorOf (claimsIn s)
-    column-natural-grantors = column-natural grantorOf 2 (omega arith) (λ i. refl)
-
-    pub column-natural-holders : columnOf 3 s ≡ map holderOf (claimsIn s)
-    column-natural-holders = column-natural holderOf 3 (omega arith) (λ i. refl)
-
-    pub column-natural-claimed : columnOf 4 s ≡ map claimedOf (claimsIn s)
-    column-natural-claimed = column-natural claimedOf 4 (omega arith) (λ i. refl)
-
-    pub column-natural-rights : columnOf 5 s ≡ map rightsOf (claimsIn s)
-    column-natural-rights = column-natural rightsOf 5 (omega arith) (λ i. refl)
-
-    pub column-natural-weights : columnOf 6 s ≡ map weightOf (claimsIn s)
-    column-natural-weights = column-natural weightOf 6 (omega arith) (λ i. refl)
+    column-natural f j there field =
+        sym (field-read f (columnOf j s) claimLimit (λ i. field (λ k. getD (columnOf k s) i 0)) (column-length s j long there))
 
 -- a number put at a place of a column: that column has it there, every other is as it was
 module _ (s : List ℕ) (j i x : ℕ) (inside : i < claimLimit) where
@@ -222,19 +212,8 @@ module _ (s : List ℕ) (cs : List Claim) (long : length s ≡ sheetLimit) (few 
 
   pub claim-with : claimAt (sheetWith s cs) i ≡ getD cs i noClaim
   claim-with =
-      let c : Claim = getD cs i noClaim in
-      rw (
-        number-with 0 (omega arith),
-        number-with 1 (omega arith),
-        number-with 2 (omega arith),
-        number-with 3 (omega arith),
-        number-with 4 (omega arith),
-        number-with 5 (omega arith),
-        number-with 6 (omega arith),
-        number-with 7 (omega arith),
-        number-with 8 (omega arith),
-        mod-add-div (c .expiry) momentEnd,
-      )
+      claim-same (λ j. getD (columnOf j (sheetWith s cs)) i 0) (λ j. getD (numbersOf (getD cs i noClaim)) j 0) number-with
+      ∙ claim-numbers (getD cs i noClaim)
 
 pub claims-with : (s : List ℕ) (cs : List Claim) → length s ≡ sheetLimit → length cs ≤ claimLimit → take (length cs) (claimsIn (sheetWith s cs)) ≡ cs
 claims-with s cs long few =

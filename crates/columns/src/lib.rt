@@ -1,6 +1,6 @@
-// The register's numbers as columns, and what is looked up in them: judgements over many claims look at columns that are lent to
-// them, and copy nothing. Every call answers for every column and count: past the end of a column there is nothing, and a number
-// is 0.
+// The register's numbers as columns, the claims' in one lent sheet.
+// Judgements over many claims look at columns that are lent to them, and copy nothing. Every call
+// answers for every column and count: past the end of a column there is nothing, and a number is 0.
 ghost use mathlib.Core.Path.{_≡_};
 ghost use Prim.Native.Nat.{_<_, min};
 ghost use lib.Dec.{eqb};

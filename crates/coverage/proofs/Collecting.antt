@@ -9,7 +9,7 @@ use native.Mathlib.Omega.{arith}
 use lib.ListN.{length, set, replicate, length-append}
 use Rattle.lists.specs.Fills.{put-first}
 use Rattle.lists.specs.Counts.{counted-length, counted-last}
-use Rattle.lists.specs.Trims.{filter-nil, trim-length, filter-last, filter-past}
+use Rattle.lists.specs.Filters.{filter-nil, dropping-length, filter-last, filter-past}
 use Rattle.lists.specs.Lists.{counted, filter}
 
 -- the places below i that pass the test
@@ -34,7 +34,7 @@ module _ {p : ℕ → Bool} {n top : ℕ} where
   module _ {i count : ℕ} {places : List ℕ} (s : Collecting p n top i count places) where
     -- no more places pass than were come past
     pub collecting-room : count ≤ i
-    collecting-room = omega (arith, trim-length (λ l j. not (p j)) (counted 0 i), counted-length 0 i)
+    collecting-room = omega (arith, dropping-length (λ l j. not (p j)) (counted 0 i), counted-length 0 i)
 
     pub collecting-hit : i < top → p i ≡ true → Collecting p n top (i + 1) (count + 1) (set places count i)
     collecting-hit h e =

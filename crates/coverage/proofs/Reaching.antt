@@ -105,13 +105,3 @@ module _ (rights spots bytes lens : List ℕ) (right spot j : ℕ) where
   pub reach-limit : reachAt spots bytes lens spot j ≤ pathLimit
   reach-limit =
       omega (arith, reached-written (partAt bytes lens (getD spots j 0)) (partAt bytes lens spot), part-length bytes lens (getD spots j 0) .1)
-
-  -- a yes or a no without its length
-  pub reach-yes : (n : ℕ) → reachTo rights spots bytes lens right spot j ≡ Inside n → reaching rights spots bytes lens right spot j ≡ true
-  reach-yes n told = told-length 0 n told .0
-
-  pub reach-no : reachTo rights spots bytes lens right spot j ≡ Outside → reaching rights spots bytes lens right spot j ≡ false
-  reach-no told =
-      cases (reaching rights spots bytes lens right spot j)
-      (λ e. no-yes (reachAt spots bytes lens spot j) (sym (rw e at told)))
-      (λ e. e)

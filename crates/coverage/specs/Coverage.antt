@@ -1,5 +1,4 @@
--- Working: Covering by columns. What they are in 01's words is proved in Laws (`reaching-natural`, `covering-first`) and in uses/specs/Relying
--- (`nearest-natural`).
+-- Working: Covering by columns. What they are in 01's words is proved in Laws (`reaching-natural`) and in uses/specs/Relying (`nearest-natural`).
 use mathlib.Core.Bool.{Bool, _&&_, cond}
 use mathlib.Core.List.{List, [], _∷_}
 use Prim.Native.Nat.{ℕ, suc}
@@ -38,13 +37,6 @@ reachFrom rights spots bytes lens right spot bar j =
 -- the path of the claim at place j is shorter than `bar`, as it is written
 abbrev pub shortAt : List ℕ → List ℕ → ℕ → ℕ → Bool
 shortAt spots lens bar j = ltb j (length spots) && (ltb (getD spots j 0) (length lens) && ltb (getD lens (getD spots j 0) 0) bar)
-
--- the first place that reaches, or none
-unfoldable pub firstCovering : List ℕ → List ℕ → List ℕ → List ℕ → List ℕ → ℕ → ℕ → Place
-firstCovering [] rights spots bytes lens right spot = Nowhere
-firstCovering (j ∷ places) rights spots bytes lens right spot =
-    let more = firstCovering places rights spots bytes lens right spot in
-    cond (reaching rights spots bytes lens right spot j) (At j) more
 
 -- the nearest of the places that pass a test: one whose number is at least `bar` is taken, and a further one must exceed it; with a `bar` of 0
 -- none is taken yet

@@ -91,7 +91,7 @@ module _ (weights expiries ups : List ℕ) where
 module _ (ids parents weights expiries : List ℕ) (n : ℕ) (few : n ≤ claimLimit) (long : n ≤ length parents)
     (numbered : (j : ℕ) → j < n → getD ids j 0 ≡ 0 → ⊥) (moment : ℕ) (timely : ltb moment momentEnd ≡ true) where
   abbrev ups : List ℕ
-  ups = earlierPlaces ids parents n claimLimit
+  ups = earlierPlaces ids parents n
 
   -- the ends of those before a place, and the end there
   abbrev ends : ℕ → List ℕ
@@ -109,7 +109,7 @@ module _ (ids parents weights expiries : List ℕ) (n : ℕ) (few : n ≤ claimL
       → ltb moment (cond (ltb (getD ups k 0) k) (getD (ends k) (getD ups k 0) 0) momentEnd) ≡ lasts (chainPlaces ids parents k (getD parents k 0))
   source k inside known =
       let all-asked : k < asked n parents = omega arith in
-      let up = earlier-at ids parents n claimLimit k 0 all-asked in
+      let up = earlier-at ids parents n k 0 all-asked in
       place-cases (latestPlace ids k (getD parents k 0))
       (λ i q. let found = place-found ids (getD parents k 0) k i q in
       let other : (getD parents k 0 ≡ 0 → ⊥) = λ z. numbered i (omega (arith, found .0)) (found .2 ∙ z) in

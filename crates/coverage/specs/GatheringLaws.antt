@@ -11,7 +11,7 @@ use lib.Seq.{take-append-seam}
 use Rattle.lists.specs.Lists.{All, counted, filter}
 use Rattle.lists.specs.Each.{all-imp}
 use Rattle.lists.specs.Counts.{counted-below}
-use Rattle.lists.specs.Trims.{filter-nil, all-trim, trim-same}
+use Rattle.lists.specs.Filters.{filter-nil, all-dropping, dropping-same}
 use Rattle.register.specs.Limits.{claimLimit}
 use Rattle.register.specs.Register.{claimsOf, noClaim}
 use Rattle.register.specs.Chain.{latest, live}
@@ -48,7 +48,7 @@ module _ (k : Claims) (x moment : ℕ) where
       looked-long (map holderOf (k .list)) ends (k .count) (length (k .list)) (length-map (k .list) holderOf) (omega arith) (omega arith)
       ∙ sym (length-take (k .count) (k .list)) in
       ap (λ n. filter (λ j. heldAt (map holderOf (k .list)) ends x moment j) (counted 0 n)) looked
-      ∙ trim-same (λ M j. not (heldAt (map holderOf (k .list)) ends x moment j)) (λ M j. not (canCover x moment (latest (claimsOf k)) (getD (k .list) j noClaim)))
+      ∙ dropping-same (λ M j. not (heldAt (map holderOf (k .list)) ends x moment j)) (λ M j. not (canCover x moment (latest (claimsOf k)) (getD (k .list) j noClaim)))
       (counted 0 (length (claimsOf k)))
       (all-imp (λ j. j < length (claimsOf k))
       (λ j. not (heldAt (map holderOf (k .list)) ends x moment j) ≡ not (canCover x moment (latest (claimsOf k)) (getD (k .list) j noClaim)))
@@ -65,7 +65,7 @@ module _ (holders ends : List ℕ) where
   -- each of them is below the limit of claims
   pub held-below : (n x moment : ℕ) → All (λ j. j < claimLimit) (heldPlaces holders ends n x moment)
   held-below n x moment =
-      all-trim (λ M j. not (heldAt holders ends x moment j)) (λ j. j < claimLimit) (counted 0 (lookedAt holders ends n))
+      all-dropping (λ M j. not (heldAt holders ends x moment j)) (λ j. j < claimLimit) (counted 0 (lookedAt holders ends n))
       (all-imp (λ j. j < 0 + lookedAt holders ends n) (λ j. j < claimLimit) (λ j inside. omega (arith, inside, looked-within holders ends n .few))
       (counted 0 (lookedAt holders ends n)) (counted-below 0 (lookedAt holders ends n)))
 

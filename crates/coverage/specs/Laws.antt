@@ -1,4 +1,4 @@
--- Laws: What covering by columns says of the claims and the resources that they are the columns of, and which place is the first. Assumes nothing.
+-- Laws: What covering by columns says of the claims and the resources that they are the columns of, and which place is the nearest. Assumes nothing.
 use mathlib.Core.Path.{_≡_, refl, sym, ap, _∙_}
 use mathlib.Core.Bool.{Bool, true, false, _&&_, cond}
 use mathlib.Core.List.{List, [], _∷_, _++_, map}
@@ -9,7 +9,7 @@ use borrow.Author.Tests.{eq-eqb, ne-eqb}
 use lib.Dec.{ltb, eqb, leb}
 use lib.ListN.{length, getD, List·getD-map}
 use Rattle.lists.specs.Tests.{cases}
-use Rattle.lists.specs.Trims.{filter-nil, filter-hit, filter-miss}
+use Rattle.lists.specs.Filters.{filter-nil, filter-hit, filter-miss}
 use Rattle.lists.specs.Lists.{All, filter}
 use Rattle.rights.specs.Rights.{hasRight}
 use Rattle.paths.specs.Containment.{contained}
@@ -22,7 +22,7 @@ use Rattle.columns.specs.declared.Place.{Place}
 use Rattle.columns.specs.declared.Place.the-variants.{At, Nowhere}
 use Rattle.coverage.specs.Laid.{laid}
 use Rattle.coverage.specs.LaidLaws.{part-laid}
-use Rattle.coverage.specs.Coverage.{reaching, firstCovering, nearestFrom}
+use Rattle.coverage.specs.Coverage.{reaching, nearestFrom}
 
 -- ---- a claim reaches by its rights and by the paths of two resources
 
@@ -35,69 +35,6 @@ module _ (cs : List Claim) (spots : List ℕ) (k : Resources) (sized : All (λ o
       ≡ hasRight (getD cs j noClaim .rights) right
       && (ltb j (length spots) && (ltb (getD spots j 0) resourceLimit && (ltb spot resourceLimit && containing k (getD spots j 0) spot)))
   reaching-natural = rw (List·getD-map rightsOf cs j noClaim, part-laid k sized (getD spots j 0), part-laid k sized spot)
-
--- ---- the first place of a list that passes a test
-abbrev pub firstPlaceOf : (ℕ → Bool) → List ℕ → Place
-firstPlaceOf p [] = Nowhere
-firstPlaceOf p (j ∷ l) = let more = firstPlaceOf p l in cond (p j) (At j) more
-
-module _ (p : ℕ → Bool) where
-  first-placed : (j : ℕ) (l : List ℕ) → p j ≡ true → firstPlaceOf p (j ∷ l) ≡ At j
-  first-placed j l e = rw e
-
-  first-passed : (j : ℕ) (l : List ℕ) → p j ≡ false → firstPlaceOf p (j ∷ l) ≡ firstPlaceOf p l
-  first-passed j l e = rw e
-
-  -- the first that passes is in the list, passes, and none before it does
-  pub first-at : (l : List ℕ) (j : ℕ) → firstPlaceOf p l ≡ At j
-      → (before : List ℕ) × (after : List ℕ) × (l ≡ before ++ (j ∷ after)) × (p j ≡ true) × All (λ i. p i ≡ false) before
-  first-at [] j q = let never : _≡_ {A = ℕ} 0 1 = cc in absurd (omega arith)
-  first-at (i ∷ l) j q =
-      cases (p i) (λ e. let same : i ≡ j = cc (first-placed i l e) in rw (← same) ([], l, refl, e, tt))
-      (λ e. let found = first-at l j (sym (first-passed i l e) ∙ q) in
-      (i ∷ found .0, found .1, ap (λ m. i ∷ m) (found .2), found .3, (e, found .4)))
-
-  -- of what passes one test, the first that passes another is the first that passes both
-  pub first-filtered : (s : ℕ → Bool) (l : List ℕ) → firstPlaceOf p (filter s l) ≡ firstPlaceOf (λ j. s j && p j) l
-  first-filtered s [] = rw (filter-nil s)
-  first-filtered s (i ∷ l) =
-      cases (s i) (λ e. rw (filter-hit s i l e, e, first-filtered s l))
-      (λ e. rw (filter-miss s i l e, e) (first-filtered s l))
-
--- tests that agree on a list find the same
-pub first-same : (p q : ℕ → Bool) (l : List ℕ) → All (λ j. p j ≡ q j) l → firstPlaceOf p l ≡ firstPlaceOf q l
-first-same p q [] h = refl
-first-same p q (i ∷ l) h = rw (h .0, first-same p q l (h .1))
-
--- ---- the first place that covers
-module _ (rights spots bytes lens : List ℕ) (right spot : ℕ) where
-  pub covering-nil : firstCovering [] rights spots bytes lens right spot ≡ Nowhere
-  unfolding firstCovering
-  covering-nil = refl
-
-  pub covering-hit : (j : ℕ) (l : List ℕ) → reaching rights spots bytes lens right spot j ≡ true → firstCovering (j ∷ l) rights spots bytes lens right spot ≡ At j
-  unfolding firstCovering
-  covering-hit j l e = rw e
-
-  pub covering-miss : (j : ℕ) (l : List ℕ) → reaching rights spots bytes lens right spot j ≡ false
-      → firstCovering (j ∷ l) rights spots bytes lens right spot ≡ firstCovering l rights spots bytes lens right spot
-  unfolding firstCovering
-  covering-miss j l e = rw e
-
-  -- it is the first place that reaches
-  pub covering-first : (l : List ℕ) → firstCovering l rights spots bytes lens right spot ≡ firstPlaceOf (reaching rights spots bytes lens right spot) l
-  unfolding firstCovering
-  covering-first [] = refl
-  covering-first (j ∷ l) = rw (covering-first l)
-
-  pub covering-at : (l : List ℕ) (j : ℕ) → firstCovering l rights spots bytes lens right spot ≡ At j
-      → (before : List ℕ) × (after : List ℕ) × (l ≡ before ++ (j ∷ after)) × (reaching rights spots bytes lens right spot j ≡ true)
-      × All (λ i. reaching rights spots bytes lens right spot i ≡ false) before
-  covering-at l j q = first-at (reaching rights spots bytes lens right spot) l j (sym (covering-first l) ∙ q)
-
-  pub covering-filtered : (s : ℕ → Bool) (l : List ℕ)
-      → firstCovering (filter s l) rights spots bytes lens right spot ≡ firstPlaceOf (λ j. s j && reaching rights spots bytes lens right spot j) l
-  covering-filtered s l = covering-first (filter s l) ∙ first-filtered (reaching rights spots bytes lens right spot) s l
 
 -- ---- the nearest place
 module _ (p : ℕ → Bool) (f : ℕ → ℕ) (best bar : ℕ) where

@@ -1,9 +1,11 @@
-// Which of an actor's claims cover a use, by lent columns: when each claim ends, the claims that the actor holds and that have not ended, gathered once
-// for an action, the paths laid one after the other, 64 bytes to a resource, so that containment of any two is judged on parts of one lent
-// column, and of the gathered claims the first that covers a use, and the one whose path reaches furthest.
+// Which of an actor's claims cover a use, and which of them is the nearest.
+// By lent columns: when each claim ends; the claims that the actor holds and that have not ended,
+// gathered once for an action; the paths laid one after the other, 64 bytes to a resource, so that
+// containment of any two is judged on parts of one lent column; and of the gathered claims that
+// cover a use the one whose path reaches furthest.
 ghost use mathlib.Core.Path.{_≡_};
 ghost use lib.ListN.{take, length};
-ghost use Rattle.coverage.specs.Coverage.{reachTo, shortAt, reachFrom, firstCovering, nearestCovering};
+ghost use Rattle.coverage.specs.Coverage.{reachTo, shortAt, reachFrom, nearestCovering};
 ghost use mathlib.Core.Bool.{cond};
 ghost use Prim.Native.Nat.{_+_, _≤_};
 ghost use lib.Dec.{eqb};
@@ -44,35 +46,6 @@ fn reach<'a>(
         return Reach::Outside;
     }
     is_inside(bytes, lens, spots[j] as usize, spot)
-}
-
-// The first of the gathered places whose claim has the right, on a resource whose path contains the one at `spot`.
-pub fn first_covering<'a>(
-    places: &'a [u16],
-    count: usize,
-    rights: &'a [u32],
-    spots: &'a [u16],
-    bytes: &'a [u8],
-    lens: &'a [usize],
-    right: u32,
-    spot: usize,
-) -> Place
-    ensures { λ r. ⌜ r ≡ firstCovering (take count (now (places .entry))) (now (rights .entry)) (now (spots .entry)) (now (bytes .entry)) (now (lens .entry)) right spot ⌝ }
-{
-    let top = lists::least(count, places.len());
-    let mut i: usize = 0;
-    while i < top {
-        let j = places[i] as usize;
-        match reach(rights, spots, bytes, lens, j, right, spot) {
-            Reach::Outside => {
-                i += 1;
-            }
-            Reach::Inside(_) => {
-                return Place::At(j);
-            }
-        }
-    }
-    Place::Nowhere
 }
 
 // Whether the path of the claim at place `j` is shorter than `bar`, as it is written.
@@ -227,15 +200,18 @@ pub struct Gathered {
     pub count: usize,
 }
 
-// The place of a resource among the first `m`, 64 where it is none of them.
+// The place of a resource among the first `m`, 64 where it is none of them. Every place is looked at, without a way out of the loop.
 pub fn spot(reports: &[u32], m: usize, x: u32) -> usize
     ensures { λ r. ⌜ r ≡ spotIn (now (reports .entry)) m x ⌝ }
 {
-    let place = columns::latest_place(reports, m, x);
-    match place {
-        Place::At(j) => j,
-        Place::Nowhere => Register::RESOURCES,
+    let top = lists::least(m, reports.len());
+    let mut at = Register::RESOURCES;
+    let mut i: usize = 0;
+    while i < top {
+        at = if reports[i] == x { i } else { at };
+        i += 1;
     }
+    at
 }
 
 // The end of a claim by its weight, its expiry and the end of what it is drawn from.

@@ -5,9 +5,9 @@ use mathlib.Core.List.{[]}
 use Prim.Native.Nat.{ℕ}
 use Prim.Native.String.{String}
 use Rattle.lists.specs.Tests.{beq-same}
-use Rattle.lists.specs.Lists.{every}
+use Rattle.lists.specs.Lists.{every, same}
 use Rattle.lists.specs.Bytes.{bytes}
-use Rattle.paths.specs.Containment.{same, components, climbing, trimmed, starting, contained}
+use Rattle.paths.specs.Containment.{components, climbing, trimmed, starting, contained}
 use Rattle.register.specs.Chain.{chain, live, weighing}
 use Rattle.examples.specs.Table.{holds, inside, table, lives}
 

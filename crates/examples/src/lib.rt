@@ -1,1 +1,2 @@
-// The fixed examples of 01 as one proved table, in specs/: nothing to run.
+// The fixed examples of 01 as one proved table.
+// Nothing to run.

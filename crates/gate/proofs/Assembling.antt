@@ -1,4 +1,4 @@
--- What is judged by columns, put together: what is told of a view, and the whole answer. Assumes nothing.
+-- What is judged by columns, put together: what is told of what is lent, and the whole answer. Assumes nothing.
 use mathlib.Core.Path.{_≡_, refl, sym, ap, _∙_}
 use mathlib.Core.Bool.{true, false, cond}
 use mathlib.Core.List.{List, [], _∷_}
@@ -9,7 +9,7 @@ use Rattle.lists.specs.Tests.{cases}
 use Rattle.register.specs.Limits.{claimLimit}
 use Rattle.register.specs.Register.{Shaped}
 use Rattle.register.specs.declared.Register.{Register}
-use Rattle.rules.specs.Sound.{sound}
+use Rattle.soundness_rules.specs.Sound.{sound}
 use Rattle.actions.specs.declared.Action.{Action}
 use Rattle.actions.specs.declared.Violation.{Violation}
 use Rattle.actions.specs.declared.Decision.the-variants.{Permitted, Refused, Stopped}
@@ -20,30 +20,24 @@ use Rattle.refusals.specs.declared.Outcome.{Outcome}
 use Rattle.refusals.specs.declared.Outcome.the-variants.{Accepted, Refused as RefusedFor}
 use Rattle.refusals.specs.declared.Refusal.{Refusal}
 use Rattle.refusals.specs.declared.Refusal.the-variants.{Unsound}
-use Rattle.verdicts.specs.Gate.{violationsOf, listed, padded, decided, actionTests, gateTests, gated}
-use Rattle.verdicts.specs.Laws.{gated-stopped, gated-judged}
-use Rattle.verdicts.specs.Sameness.{gated-same}
-use Rattle.columns.specs.Sheet.{sheetOf}
-use Rattle.coverage.specs.Laid.{laid}
+use Rattle.gate_rules.specs.Gate.{violationsOf, listed, padded, decided, actionTests, gateTests, gated}
+use Rattle.gate_rules.specs.Laws.{gated-stopped, gated-judged}
+use Rattle.gate_rules.specs.Sameness.{gated-same}
 use Rattle.uses.specs.declared.UsesJudged.{UsesJudged}
 use Rattle.soundness.specs.declared.Findings.{Findings}
-use Rattle.gate.specs.Judged.{actionJudged, countsOf, viewBy, viewOf, Lent, lentOf, lentTests, lentJudged, verdictTold, verdictBy, AsGated}
+use Rattle.gate.specs.Judged.{actionJudged, Lent, lentBy, lentIn, lentTests, lentJudged, verdictTold, verdictBy, AsGated}
 use Rattle.gate.specs.Sheets.{sheeted, sheeted-same, sheeted-shaped}
-use Rattle.gate.specs.Laws.{judged-natural, tests-natural, view-natural, known-sound, view-told}
-use Rattle.gate.specs.declared.View.{View}
+use Rattle.gate.specs.Laws.{judged-natural, tests-natural, lent-natural, found-sound, lent-told}
 
--- what is told of the view of a register is told of the register
-module _ (r : Register) (a : Action) {v : View} (viewed : v ≡ viewOf r) where
-  pub outcome-seen : {outcome : Outcome} → outcome ≡ outcomeOf (lentTests (v .actors .names) (v .counts .actors) a)
+-- what is told of what is lent of a register is told of the register
+module _ (r : Register) (a : Action) {l : Lent} (same : l ≡ lentIn r) where
+  pub outcome-seen : {outcome : Outcome} → outcome ≡ outcomeOf (lentTests (l .names) (l .actors) a)
       → outcome ≡ outcomeOf (actionTests (sheeted r) a)
-  outcome-seen e = e ∙ ap (λ w. outcomeOf (lentTests (w .actors .names) (w .counts .actors) a)) viewed ∙ ap outcomeOf (tests-natural r a)
+  outcome-seen e = e ∙ ap (λ w. outcomeOf (lentTests (w .names) (w .actors) a)) same ∙ ap outcomeOf (tests-natural r a)
 
-  pub judged-seen : {sheet bytes : List ℕ} → sheet ≡ sheetOf (r .claims) → bytes ≡ laid (r .resources) .bytes
-      → Shaped r → sound (sheeted r) ≡ true → outcomeOf (actionTests (sheeted r) a) ≡ Accepted → {judged : UsesJudged}
-      → judged ≡ lentJudged (lentOf v sheet bytes) a → judged ≡ actionJudged (sheeted r) a
+  pub judged-seen : Shaped r → sound (sheeted r) ≡ true → outcomeOf (actionTests (sheeted r) a) ≡ Accepted → lentJudged l a ≡ actionJudged (sheeted r) a
   unfolding actionTests
-  judged-seen put of-bytes shaped h passed e =
-      e ∙ rw (viewed, put, of-bytes) (view-natural r shaped h a (outcome-accepted _ _ passed))
+  judged-seen shaped h passed = ap (λ w. lentJudged w a) same ∙ lent-natural r shaped h a (outcome-accepted _ _ passed)
 
 -- permitted means an empty list
 decided-natural : (vs : List Violation) → cond (eqb (length vs) 0) Permitted Refused ≡ decided vs
@@ -79,49 +73,46 @@ gate-sheeted r long a = gated-same (sheeted r) r (sheeted-same r long) a
 abbrev stopping : Refusal → Verdict
 stopping why = record { decision = Stopped why; violations = listed []; hops = padded [] }
 
-module _ (r : Register) (s : List ℕ) (known : Findings) (a : Action) where
-  -- what is looked at, and what is lent of it
-  abbrev view : View
-  view = viewBy (countsOf r) s (laid (r .resources) .lens) known
-
+module _ (r : Register) (s : List ℕ) (found : Findings) (a : Action) where
+  -- what is lent
   abbrev lent : Lent
-  lent = lentOf view s (laid (r .resources) .bytes)
+  lent = lentBy r s found
 
-  pub verdict-unsound : known .sound ≡ false → stopping Unsound ≡ verdictBy r s known a
+  pub verdict-unsound : found .sound ≡ false → stopping Unsound ≡ verdictBy r s found a
   unfolding verdictBy
   verdict-unsound h = sym (ap (λ o. verdictTold o (lentJudged lent a)) (outcome-fail _ _ h))
 
-  module _ (h : known .sound ≡ true) where
-    tested : {o : Outcome} → outcomeOf (lentTests (known .actors .names) (r .actors .count) a) ≡ o → verdictTold o (lentJudged lent a) ≡ verdictBy r s known a
+  module _ (h : found .sound ≡ true) where
+    tested : {o : Outcome} → outcomeOf (lentTests (found .actors .names) (r .actors .count) a) ≡ o → verdictTold o (lentJudged lent a) ≡ verdictBy r s found a
     unfolding verdictBy
     tested e = sym (ap (λ o. verdictTold o (lentJudged lent a)) (outcome-pass _ _ h ∙ e))
 
-    pub verdict-stopped : (why : Refusal) → outcomeOf (lentTests (known .actors .names) (r .actors .count) a) ≡ RefusedFor why
-        → stopping why ≡ verdictBy r s known a
+    pub verdict-stopped : (why : Refusal) → outcomeOf (lentTests (found .actors .names) (r .actors .count) a) ≡ RefusedFor why
+        → stopping why ≡ verdictBy r s found a
     verdict-stopped why e = tested e
 
-    pub verdict-judged : outcomeOf (lentTests (known .actors .names) (r .actors .count) a) ≡ Accepted → {judged : UsesJudged} → judged ≡ lentJudged lent a
-        → verdictTold Accepted judged ≡ verdictBy r s known a
+    pub verdict-judged : outcomeOf (lentTests (found .actors .names) (r .actors .count) a) ≡ Accepted → {judged : UsesJudged} → judged ≡ lentJudged lent a
+        → verdictTold Accepted judged ≡ verdictBy r s found a
     verdict-judged e of-judged = ap (verdictTold Accepted) of-judged ∙ tested e
 
   -- it is the gate's, where the sheet is that of the register's claims and the register was judged by it
-  pub gated-told : length (r .claims .list) ≡ claimLimit → (known .sound ≡ true → Shaped r) → AsGated r s known a (verdictBy r s known a)
+  pub gated-told : length (r .claims .list) ≡ claimLimit → (found .sound ≡ true → Shaped r) → AsGated r s found a (verdictBy r s found a)
   gated-told long sized put told =
-      let soundly = known-sound r long put told in
-      cases (known .sound)
+      let soundly = found-sound r long put told in
+      cases (found .sound)
       (λ t. let h = sym soundly ∙ t in
       let wholly = sized t in
-      let seen : view ≡ viewOf r = view-told r long put told refl refl in
-      let tests = lentTests (known .actors .names) (r .actors .count) a in
+      let seen : lent ≡ lentIn r = lent-told r long put told refl refl refl in
+      let tests = lentTests (found .actors .names) (r .actors .count) a in
       outcome-cases (outcomeOf tests)
       (λ e. let passed = sym (outcome-seen r a seen refl) ∙ e in
       sym (tested t e)
-      ∙ gate-judged (sheeted r) (sheeted-shaped r wholly) h a (lentJudged lent a) passed (judged-seen r a seen put refl wholly h passed refl))
+      ∙ gate-judged (sheeted r) (sheeted-shaped r wholly) h a (lentJudged lent a) passed (judged-seen r a seen wholly h passed))
       (λ why e. sym (tested t e) ∙ gate-stopped (sheeted r) a why h (sym (outcome-seen r a seen refl) ∙ e)))
       (λ t. sym (verdict-unsound t) ∙ gate-unsound (sheeted r) a (sym soundly ∙ t))
       ∙ gate-sheeted r long a
 
   -- so a verdict that is told in one way is told in both
-  pub both-told : length (r .claims .list) ≡ claimLimit → (known .sound ≡ true → Shaped r) → {v : Verdict} → v ≡ verdictBy r s known a
-      → (v ≡ verdictBy r s known a) × AsGated r s known a v
+  pub both-told : length (r .claims .list) ≡ claimLimit → (found .sound ≡ true → Shaped r) → {v : Verdict} → v ≡ verdictBy r s found a
+      → (v ≡ verdictBy r s found a) × AsGated r s found a v
   both-told long sized e = (e, λ put told. e ∙ gated-told long sized put told)

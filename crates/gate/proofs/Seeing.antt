@@ -9,16 +9,16 @@ use Rattle.register.specs.Limits.{resourceLimit}
 use Rattle.actions.specs.Actions.{useLimit}
 use Rattle.actions.specs.declared.Action.{Action}
 use Rattle.actions.specs.declared.Violations.{Violations}
-use Rattle.verdicts.specs.Gate.{listed}
-use Rattle.uses.specs.Pushed.{pushedAll}
+use Rattle.gate_rules.specs.Gate.{listed}
+use Rattle.violations.specs.Pushed.{besides, pushedAll}
 use Rattle.coverage.specs.Gathering.{gatheredBy}
 use Rattle.coverage.specs.GatheringLaws.{gathered-first, held-below}
 use Rattle.coverage.specs.declared.Gathered.{Gathered}
-use Rattle.uses.specs.Passes.{usesBy, reliedAll, coveredAll, hopsAll, faultsAll}
+use Rattle.uses.specs.Passes.{usesBy, reliedAll, hopsAll, faultsAll}
 use Rattle.uses.specs.PassesLaws.{passes-natural}
 use Rattle.uses.specs.declared.Uses.{Uses}
 use Rattle.uses.specs.declared.UsesJudged.{UsesJudged}
-use Rattle.gate.specs.Judged.{besides, Lent, machineBy, ownerBy, ownedBy, sightBy, lentJudged}
+use Rattle.gate.specs.Judged.{Lent, machineBy, ownerBy, ownedBy, sightBy, lentJudged}
 
 module _ (l : Lent) (a : Action) (few : length (l .reports) ≤ resourceLimit) (long : length (a .uses) ≡ useLimit) {machine : Bool} {owner asked : ℕ}
     {vs violations : Violations} {holders rights relied covering hops : List ℕ} {own theirs : Gathered} {uses : Uses} where
@@ -30,7 +30,7 @@ module _ (l : Lent) (a : Action) (few : length (l .reports) ≤ resourceLimit) (
       → theirs ≡ gatheredBy holders (l .ends) asked owner (a .now)
       → uses ≡ usesBy (l .reports) (l .resources) a
       → relied ≡ reliedAll (take (own .count) (own .places)) rights (l .spots) (l .bytes) (l .lens) uses
-      → covering ≡ coveredAll (take (theirs .count) (theirs .places)) rights (l .spots) (l .bytes) (l .lens) uses
+      → covering ≡ reliedAll (take (theirs .count) (theirs .places)) rights (l .spots) (l .bytes) (l .lens) uses
       → hops ≡ hopsAll (l .ups) relied (uses .count)
       → violations ≡ pushedAll vs (faultsAll relied covering (machine && not (eqb owner 0)) (l .publics) uses)
       → _≡_ {A = UsesJudged} (record { violations = violations; hops = hops }) (lentJudged l a)

@@ -1,7 +1,7 @@
 -- Working: An action judged by the columns of a register. What it is in 01's words is `judged-natural` of Laws.
 use mathlib.Core.Path.{_≡_}
 use mathlib.Core.Bool.{Bool, not, _&&_, cond}
-use mathlib.Core.List.{List, [], _∷_, _++_, map}
+use mathlib.Core.List.{List, [], _∷_, map}
 use Prim.Native.Nat.{ℕ}
 use lib.Dec.{eqb}
 use lib.ListN.{take}
@@ -9,63 +9,41 @@ use Rattle.lists.specs.Lists.{any}
 use Rattle.register.specs.Limits.{machineKind}
 use Rattle.register.specs.Register.{actorsOf}
 use Rattle.register.specs.declared.Register.{Register}
-use Rattle.rules.specs.Sound.{sound, isMachine}
+use Rattle.soundness_rules.specs.Sound.{sound, isMachine}
 use Rattle.columns.specs.Columns.{resourceId, latestPlace, beside}
-use Rattle.columns.specs.Sheet.{columnOf, sheetOf}
+use Rattle.columns.specs.Sheet.{columnOf, sheetOf, holderColumn, rightsColumn, weightColumn, expiryColumn}
 use Rattle.refusals.specs.Refusals.{Test, outcomeOf}
 use Rattle.refusals.specs.declared.Outcome.{Outcome}
 use Rattle.refusals.specs.declared.Outcome.the-variants.{Accepted, Refused as RefusedFor}
-use Rattle.refusals.specs.declared.Refusal.the-variants.{Unsound, OutOfRange, Unknown}
-use Rattle.actions.specs.Actions.{governsOf, actionFits}
+use Rattle.refusals.specs.declared.Refusal.the-variants.{Unsound, Range, Absent}
+use Rattle.actions.specs.Actions.{actionFits}
 use Rattle.actions.specs.declared.Action.{Action}
 use Rattle.actions.specs.declared.Decision.the-variants.{Permitted, Refused, Stopped}
 use Rattle.actions.specs.declared.Verdict.{Verdict}
-use Rattle.actions.specs.declared.Violation.{Violation}
-use Rattle.actions.specs.declared.Violation.the-variants.{NoOwner}
-use Rattle.verdicts.specs.Gate.{flagsSet, governed, listed, padded, gated}
-use Rattle.uses.specs.Pushed.{pushedAll}
-use Rattle.soundness.specs.Judged.{judgedBy as soundnessBy}
+use Rattle.gate_rules.specs.Gate.{listed, padded, gated}
+use Rattle.violations.specs.Pushed.{besides, pushedAll}
+use Rattle.soundness.specs.Judged.{findingsBy}
 use Rattle.soundness.specs.declared.Findings.{Findings}
 use Rattle.coverage.specs.Laid.{laid}
 use Rattle.coverage.specs.Gathering.{heldPlaces, endsOf}
 use Rattle.uses.specs.Uses.{Sight, usesJudged}
 use Rattle.uses.specs.declared.UsesJudged.{UsesJudged}
-use Rattle.uses.specs.Sights.{ownerAt, ownerIn, sightOf}
+use Rattle.uses.specs.Sights.{ownerAt, ownerNumber, sightOf}
 use Rattle.gate.specs.declared.Counts.{Counts}
-use Rattle.gate.specs.declared.View.{View}
-
--- the violations besides those of the uses, in 01's order, of an actor that is a machine or not and has this owner or none
-abbrev pub besides : Bool → ℕ → Action → List Violation
-besides machine owner a =
-    flagsSet (a .flags) ++ (cond (machine && eqb owner 0) (NoOwner (a .actor) ∷ []) [] ++ cond machine (governed 0 (governsOf a)) [])
 
 -- the violations and the hop counts of an action
 abbrev pub actionJudged : Register → Action → UsesJudged
 actionJudged r a =
     usesJudged (sightOf r (a .now) (a .actor)) (map resourceId (r .resources .list)) (r .resources .count) a
-    (pushedAll (listed []) (besides (isMachine (actorsOf (r .actors)) (a .actor)) (ownerIn r (a .actor)) a))
+    (pushedAll (listed []) (besides (isMachine (actorsOf (r .actors)) (a .actor)) (ownerNumber r (a .actor)) a))
 
--- what is looked at besides the claims' sheet and the bytes of the paths, by the counts, that sheet, the lengths of the paths and what was found of the
--- register
-abbrev pub viewBy : Counts → List ℕ → List ℕ → Findings → View
-viewBy counts s lens known = record {
-  counts = counts;
-  actors = known .actors;
-  resources = known .resources;
-  lens = lens;
-  ups = known .ups;
-  spots = known .spots;
-  ends = endsOf (columnOf 6 s) (columnOf 7 s) (known .ups) (counts .claims);
-}
-
--- that of a register
+-- how many actors, resources and claims a register has
 abbrev pub countsOf : Register → Counts
 countsOf r = record { actors = r .actors .count; resources = r .resources .count; claims = r .claims .count }
 
-abbrev pub viewOf : Register → View
-viewOf r =
-    viewBy (countsOf r) (sheetOf (r .claims)) (laid (r .resources) .lens)
-    (soundnessBy (r .actors) (r .resources) (sheetOf (r .claims)) (r .claims .count))
+-- the ends of the first n claims of a sheet, by the places of the parents
+abbrev pub sheetEnds : List ℕ → List ℕ → ℕ → List ℕ
+sheetEnds s ups n = endsOf (columnOf weightColumn s) (columnOf expiryColumn s) ups n
 
 -- the columns that are lent, with the counts of the lists
 pub record Lent : Type 0 where
@@ -85,34 +63,39 @@ pub record Lent : Type 0 where
   pub ups : List ℕ
   pub claims : ℕ
 
--- those of a view, a sheet of claims and the bytes of the paths
-abbrev pub lentOf : View → List ℕ → List ℕ → Lent
-lentOf v s bytes = record {
-  names = v .actors .names;
-  kinds = v .actors .kinds;
-  owners = v .actors .owners;
-  actors = v .counts .actors;
-  reports = v .resources .reports;
-  publics = v .resources .publics;
-  resources = v .counts .resources;
+-- those of what was found of a register, the lengths of the paths, the ends of the claims, a sheet of claims and the bytes of the paths
+abbrev pub lentOf : Counts → Findings → List ℕ → List ℕ → List ℕ → List ℕ → Lent
+lentOf counts found lens ends s bytes = record {
+  names = found .actors .names;
+  kinds = found .actors .kinds;
+  owners = found .actors .owners;
+  actors = counts .actors;
+  reports = found .resources .reports;
+  publics = found .resources .publics;
+  resources = counts .resources;
   bytes = bytes;
-  lens = v .lens;
-  holders = columnOf 3 s;
-  rights = columnOf 5 s;
-  ends = v .ends;
-  spots = v .spots;
-  ups = v .ups;
-  claims = v .counts .claims;
+  lens = lens;
+  holders = columnOf holderColumn s;
+  rights = columnOf rightsColumn s;
+  ends = ends;
+  spots = found .spots;
+  ups = found .ups;
+  claims = counts .claims;
 }
+
+-- those of a register, by a sheet and what was found of it
+abbrev pub lentBy : Register → List ℕ → Findings → Lent
+lentBy r s found =
+    lentOf (countsOf r) found (laid (r .resources) .lens) (sheetEnds s (found .ups) (r .claims .count)) s (laid (r .resources) .bytes)
 
 -- those of a register
 abbrev pub lentIn : Register → Lent
-lentIn r = lentOf (viewOf r) (sheetOf (r .claims)) (laid (r .resources) .bytes)
+lentIn r = lentBy r (sheetOf (r .claims)) (findingsBy (r .actors) (r .resources) (sheetOf (r .claims)) (r .claims .count))
 
 -- tests 2 and 3, over the ids of the first n actors
 abbrev pub lentTests : List ℕ → ℕ → Action → List Test
 lentTests names n a =
-    record { passed = actionFits a; refusal = OutOfRange } ∷ record { passed = any (eqb (a .actor)) (take n names); refusal = Unknown } ∷ []
+    record { passed = actionFits a; refusal = Range } ∷ record { passed = any (eqb (a .actor)) (take n names); refusal = Absent } ∷ []
 
 module _ (l : Lent) where
   -- whether x is a machine, its owner's number, and whether it is a machine with an owner
@@ -155,10 +138,10 @@ verdictTold Accepted judged = record {
 
 -- the verdict on an action by a sheet and what was found of a register
 unfoldable pub verdictBy : Register → List ℕ → Findings → Action → Verdict
-verdictBy r s known a =
-    let l = lentOf (viewBy (countsOf r) s (laid (r .resources) .lens) known) s (laid (r .resources) .bytes) in
-    verdictTold (outcomeOf (record { passed = known .sound; refusal = Unsound } ∷ lentTests (l .names) (l .actors) a)) (lentJudged l a)
+verdictBy r s found a =
+    let l = lentBy r s found in
+    verdictTold (outcomeOf (record { passed = found .sound; refusal = Unsound } ∷ lentTests (l .names) (l .actors) a)) (lentJudged l a)
 
 -- that is the gate's, where the sheet is that of the register's claims and the register was judged by it
 abbrev pub AsGated : Register → List ℕ → Findings → Action → Verdict → Type 0
-AsGated r s known a v = s ≡ sheetOf (r .claims) → known ≡ soundnessBy (r .actors) (r .resources) s (r .claims .count) → v ≡ gated r a
+AsGated r s found a v = s ≡ sheetOf (r .claims) → found ≡ findingsBy (r .actors) (r .resources) s (r .claims .count) → v ≡ gated r a

@@ -10,49 +10,48 @@ use lib.ListN.{length, getD, List·getD-map}
 use Rattle.register.specs.Limits.{claimLimit, machineKind, momentEnd}
 use Rattle.register.specs.Register.{actorsOf, noActor, Shaped}
 use Rattle.register.specs.declared.Register.{Register}
-use Rattle.rules.specs.Sound.{sound, isMachine}
-use Rattle.rules.specs.Sameness.{sound-same}
-use Rattle.columns.specs.Columns.{actorId, ownerOf, resourceId, holderOf, latestPlace, actorKind, actorsTo}
+use Rattle.soundness_rules.specs.Sound.{sound, isMachine}
+use Rattle.soundness_rules.specs.Sameness.{sound-same}
+use Rattle.columns.specs.Columns.{actorId, actorOwner, resourceId, holderOf, latestPlace, actorKind, actorsTo, claimId, parentOf, claimedOf, rightsOf, weightOf}
 use Rattle.columns.specs.Laws.{among-natural, beside-natural}
-use Rattle.columns.specs.Sheet.{sheetLimit, sheetOf}
-use Rattle.columns.specs.SheetLaws.{column-natural-ids, column-natural-parents, column-natural-holders, column-natural-claimed, column-natural-rights, column-natural-weights, sheet-long}
+use Rattle.columns.specs.Sheet.{sheetLimit, sheetOf, idColumn, parentColumn, holderColumn, resourceColumn, rightsColumn, weightColumn}
+use Rattle.columns.specs.SheetLaws.{column-natural, sheet-long}
 use Rattle.columns.specs.declared.Place.{Place}
 use Rattle.columns.specs.declared.Place.the-variants.{At, Nowhere}
 use Rattle.lookup.specs.Asked.{askedAt}
 use Rattle.actions.specs.Actions.{usesOf, actionFits}
 use Rattle.actions.specs.declared.Action.{Action}
 use Rattle.actions.specs.declared.Usage.{Usage}
-use Rattle.verdicts.specs.Gate.{isOwnerless, useViolations, hopsFor, hopCounts, violationsOf, listed, padded, actionTests}
-use Rattle.verdicts.specs.Laws.{use-violations-nil, use-violations-cons, action-fits-out}
-use Rattle.verdicts.specs.Bounds.{violations-most}
-use Rattle.uses.specs.Pushed.{pushedAll}
-use Rattle.uses.specs.PushedLaws.{pushed-all-natural, pushed-all-append}
+use Rattle.gate_rules.specs.Gate.{isOwnerless, useViolations, hopsFor, hopCounts, violationsOf, listed, padded, actionTests}
+use Rattle.gate_rules.specs.Laws.{use-violations-nil, use-violations-cons, action-fits-out}
+use Rattle.gate_rules.specs.Bounds.{violations-most}
+use Rattle.violations.specs.Pushed.{besides, pushedAll}
+use Rattle.violations.specs.PushedLaws.{pushed-all-natural, pushed-all-append}
 use Rattle.coverage.specs.Gathering.{coverPlaces, heldPlaces}
 use Rattle.coverage.specs.GatheringLaws.{held-none}
 use Rattle.coverage.specs.Laid.{laid}
-use Rattle.soundness.specs.Judged.{judgedBy as soundnessBy}
+use Rattle.soundness.specs.Judged.{findingsBy}
 use Rattle.soundness.specs.Laws.{judged-sound}
 use Rattle.soundness.specs.declared.Findings.{Findings}
-use Rattle.uses.specs.Sights.{ownerAt, ownerIn, ownedIn, spotsOf, upsOf, endsIn, sightOf, spotFor}
+use Rattle.uses.specs.Sights.{ownerAt, ownerNumber, ownedIn, spotsOf, upsOf, endsIn, sightOf, spotFor}
 use Rattle.uses.specs.SightsLaws.{use-natural, asked-actor}
 use Rattle.uses.specs.Ends.{cover-natural}
 use Rattle.uses.specs.Uses.{useHops, faultsFrom, usesJudged}
-use Rattle.gate.specs.Judged.{besides, actionJudged, countsOf, viewBy, viewOf, lentIn, lentTests, machineBy, sightBy, lentJudged}
-use Rattle.gate.specs.declared.View.{View}
+use Rattle.gate.specs.Judged.{actionJudged, countsOf, sheetEnds, lentOf, lentIn, lentTests, machineBy, sightBy, lentJudged}
 use Rattle.gate.specs.Sheets.{sheeted, sheeted-same, sheeted-laid, sheeted-shaped, column-natural-expiries}
 
 -- a machine without owner: by its place, since ids are distinct
-ownerless-natural : (r : Register) → sound r ≡ true → (x : ℕ) → isOwnerless r x ≡ isMachine (actorsOf (r .actors)) x && eqb (ownerIn r x) 0
+ownerless-natural : (r : Register) → sound r ≡ true → (x : ℕ) → isOwnerless r x ≡ isMachine (actorsOf (r .actors)) x && eqb (ownerNumber r x) 0
 unfolding isOwnerless
 ownerless-natural r h x =
     asked-actor r h x (λ a. eqb machineKind (a .kind) && eqb (a .owner) 0)
     ∙ there (latestPlace (map actorId (r .actors .list)) (r .actors .count) x)
-    ∙ sym (ap (λ b. b && eqb (ownerIn r x) 0) (asked-actor r h x (λ a. eqb machineKind (a .kind))))
+    ∙ sym (ap (λ b. b && eqb (ownerNumber r x) 0) (asked-actor r h x (λ a. eqb machineKind (a .kind))))
   where
     there : (p : Place) → askedAt noActor (r .actors .list) (λ a. eqb machineKind (a .kind) && eqb (a .owner) 0) p
-        ≡ askedAt noActor (r .actors .list) (λ a. eqb machineKind (a .kind)) p && eqb (ownerAt (map ownerOf (r .actors .list)) p) 0
+        ≡ askedAt noActor (r .actors .list) (λ a. eqb machineKind (a .kind)) p && eqb (ownerAt (map actorOwner (r .actors .list)) p) 0
     there (At j) =
-        ap (λ o. eqb machineKind (getD (r .actors .list) j noActor .kind) && eqb o 0) (sym (List·getD-map ownerOf (r .actors .list) j noActor))
+        ap (λ o. eqb machineKind (getD (r .actors .list) j noActor .kind) && eqb o 0) (sym (List·getD-map actorOwner (r .actors .list) j noActor))
     there Nowhere = refl
 
 module _ (r : Register) (shaped : Shaped r) (h : sound r ≡ true) where
@@ -68,16 +67,16 @@ module _ (r : Register) (shaped : Shaped r) (h : sound r ≡ true) where
   hops-judged moment x [] = refl
   hops-judged moment x (u ∷ us) = rw (use-natural r shaped h moment x 0 u .1, hops-judged moment x us)
 
-  all-violations : (a : Action) → besides (isMachine (actorsOf (r .actors)) (a .actor)) (ownerIn r (a .actor)) a ++ useViolations r (a .now) (a .actor) 0 (usesOf a) ≡ violationsOf r a
+  all-violations : (a : Action) → besides (isMachine (actorsOf (r .actors)) (a .actor)) (ownerNumber r (a .actor)) a ++ useViolations r (a .now) (a .actor) 0 (usesOf a) ≡ violationsOf r a
   unfolding violationsOf
   all-violations a = rw (ownerless-natural r h (a .actor)) (simp append-assoc)
 
   judged-violations : (a : Action) → actionFits a ≡ true →
-      pushedAll (pushedAll (listed []) (besides (isMachine (actorsOf (r .actors)) (a .actor)) (ownerIn r (a .actor)) a)) (faultsFrom (sightOf r (a .now) (a .actor)) (map resourceId (r .resources .list)) (r .resources .count) 0 (usesOf a))
+      pushedAll (pushedAll (listed []) (besides (isMachine (actorsOf (r .actors)) (a .actor)) (ownerNumber r (a .actor)) a)) (faultsFrom (sightOf r (a .now) (a .actor)) (map resourceId (r .resources .list)) (r .resources .count) 0 (usesOf a))
       ≡ listed (violationsOf r a)
   judged-violations a fits =
-      ap (pushedAll (pushedAll (listed []) (besides (isMachine (actorsOf (r .actors)) (a .actor)) (ownerIn r (a .actor)) a))) (judged-faults (a .now) (a .actor) 0 (usesOf a))
-      ∙ sym (pushed-all-append (listed []) (besides (isMachine (actorsOf (r .actors)) (a .actor)) (ownerIn r (a .actor)) a) (useViolations r (a .now) (a .actor) 0 (usesOf a)))
+      ap (pushedAll (pushedAll (listed []) (besides (isMachine (actorsOf (r .actors)) (a .actor)) (ownerNumber r (a .actor)) a))) (judged-faults (a .now) (a .actor) 0 (usesOf a))
+      ∙ sym (pushed-all-append (listed []) (besides (isMachine (actorsOf (r .actors)) (a .actor)) (ownerNumber r (a .actor)) a) (useViolations r (a .now) (a .actor) 0 (usesOf a)))
       ∙ ap (pushedAll (listed [])) (all-violations a)
       ∙ pushed-all-natural [] (violationsOf r a) (omega (arith, violations-most r a fits))
 
@@ -91,7 +90,7 @@ module _ (r : Register) (shaped : Shaped r) (h : sound r ≡ true) where
 
 module _ (r : Register) where
   -- tests 2 and 3 by the names of the actors
-  pub tests-natural : (a : Action) → lentTests (viewOf r .actors .names) (viewOf r .counts .actors) a ≡ actionTests (sheeted r) a
+  pub tests-natural : (a : Action) → lentTests (lentIn r .names) (lentIn r .actors) a ≡ actionTests (sheeted r) a
   unfolding actionTests
   tests-natural a = rw (among-natural actorId (a .actor) (r .actors .count) (actorsTo (r .actors) .list))
 
@@ -114,13 +113,13 @@ module _ (r : Register) (shaped : Shaped r) (h : sound (sheeted r) ≡ true) whe
   sheet-full = sheet-long (r .claims)
 
   ups-natural : lentIn r .ups ≡ upsOf (sheeted r)
-  ups-natural = rw (column-natural-ids sheet sheet-full, column-natural-parents sheet sheet-full)
+  ups-natural = rw (column-natural sheet sheet-full claimId idColumn (omega arith) (λ g. refl), column-natural sheet sheet-full parentOf parentColumn (omega arith) (λ g. refl))
 
   spots-natural : lentIn r .spots ≡ spotsOf (sheeted r)
-  spots-natural = rw (column-natural-claimed sheet sheet-full)
+  spots-natural = rw (column-natural sheet sheet-full claimedOf resourceColumn (omega arith) (λ g. refl))
 
   lent-ends : lentIn r .ends ≡ endsIn (sheeted r)
-  lent-ends = rw (ups-natural, column-natural-weights sheet sheet-full, column-natural-expiries r shaped h)
+  lent-ends = rw (ups-natural, column-natural sheet sheet-full weightOf weightColumn (omega arith) (λ g. refl), column-natural-expiries r shaped h)
 
   -- an actor's sight is that of the register
   sight-natural : (moment : ℕ) → ltb moment momentEnd ≡ true → (x : ℕ) → sightBy (lentIn r) moment x ≡ sightOf (sheeted r) moment x
@@ -128,28 +127,29 @@ module _ (r : Register) (shaped : Shaped r) (h : sound (sheeted r) ≡ true) whe
       let wholly = sheeted-shaped r shaped in
       rw (
         machine-natural r x,
-        column-natural-holders sheet sheet-full,
-        column-natural-rights sheet sheet-full,
+        column-natural sheet sheet-full holderOf holderColumn (omega arith) (λ g. refl),
+        column-natural sheet sheet-full rightsOf rightsColumn (omega arith) (λ g. refl),
         lent-ends,
         spots-natural,
         ups-natural,
         cover-natural (sheeted r) wholly h moment timely x,
-        theirs-natural (sheeted r) wholly h moment timely (ownedIn (sheeted r) x) (ownerIn (sheeted r) x),
+        theirs-natural (sheeted r) wholly h moment timely (ownedIn (sheeted r) x) (ownerNumber (sheeted r) x),
         sheeted-laid (r .resources),
       )
 
   -- an action in range that is judged by what is lent of a sound register is judged by the register
-  pub view-natural : (a : Action) → actionFits a ≡ true → lentJudged (lentIn r) a ≡ actionJudged (sheeted r) a
+  pub lent-natural : (a : Action) → actionFits a ≡ true → lentJudged (lentIn r) a ≡ actionJudged (sheeted r) a
   unfolding lentJudged
-  view-natural a fits =
+  lent-natural a fits =
       rw (sight-natural (a .now) (lt-ltb (a .now) momentEnd (action-fits-out a fits .momentBelow)) (a .actor), machine-natural r (a .actor))
 
 -- what was found of a register when its claims were put into a sheet
-module _ (r : Register) (places : length (r .claims .list) ≡ claimLimit) {sheet : List ℕ} (put : sheet ≡ sheetOf (r .claims)) {known : Findings}
-    (told : known ≡ soundnessBy (r .actors) (r .resources) sheet (r .claims .count)) where
-  pub known-sound : known .sound ≡ sound (sheeted r)
-  known-sound = judged-sound r places put told ∙ sym (sound-same (sheeted r) r (sheeted-same r places))
+module _ (r : Register) (places : length (r .claims .list) ≡ claimLimit) {sheet : List ℕ} (put : sheet ≡ sheetOf (r .claims)) {found : Findings}
+    (told : found ≡ findingsBy (r .actors) (r .resources) sheet (r .claims .count)) where
+  pub found-sound : found .sound ≡ sound (sheeted r)
+  found-sound = judged-sound r (record { put = put; told = told }) places ∙ sym (sound-same (sheeted r) r (sheeted-same r places))
 
-  pub view-told : {lens : List ℕ} → lens ≡ laid (r .resources) .lens → {v : View} → v ≡ viewBy (countsOf r) sheet lens known → v ≡ viewOf r
-  view-told of-lens viewed =
-      viewed ∙ rw (told ∙ ap (λ s. soundnessBy (r .actors) (r .resources) s (r .claims .count)) put, put, of-lens)
+  pub lent-told : {lens ends bytes : List ℕ} → lens ≡ laid (r .resources) .lens → ends ≡ sheetEnds sheet (found .ups) (r .claims .count)
+      → bytes ≡ laid (r .resources) .bytes → lentOf (countsOf r) found lens ends sheet bytes ≡ lentIn r
+  lent-told of-lens of-ends of-bytes =
+      rw (of-lens, of-ends, of-bytes, told ∙ ap (λ s. findingsBy (r .actors) (r .resources) s (r .claims .count)) put, put)

@@ -21,11 +21,11 @@ use Rattle.register.specs.declared.Resources.{Resources}
 use Rattle.register.specs.declared.Register.{Register}
 use Rattle.columns.specs.Columns.{expiryOf, upTo, actorsTo, resourcesTo}
 use Rattle.columns.specs.Laws.{up-to-length, up-to-first}
-use Rattle.columns.specs.Sheet.{sheetLimit, lastColumn, columnOf, claimAt, claimsIn, numbersOf, sheetWith, sheetOf}
+use Rattle.columns.specs.Sheet.{sheetLimit, lastColumn, columnOf, claimAt, claimsIn, numbersOf, sheetWith, sheetOf, expiryColumn, lateColumn}
 use Rattle.columns.specs.SheetLaws.{column-within, column-length, column-with, claims-in-length, claims-in-at, sheet-long, sheet-claims}
-use Rattle.rules.specs.Sound.{sound}
-use Rattle.rules.specs.Laws.{claim-fits-out, acceptable-out}
-use Rattle.rules.specs.Places.{prefix-sound, latest-acceptable}
+use Rattle.soundness_rules.specs.Sound.{sound}
+use Rattle.soundness_rules.specs.Laws.{claim-fits-out, acceptable-out}
+use Rattle.soundness_rules.specs.Places.{prefix-sound, latest-acceptable}
 use Rattle.coverage.specs.LaidLaws.{zero-at}
 use Rattle.uses.specs.SightsLaws.{around, stands-at, sound-at}
 use Rattle.soundness.specs.Judged.{registerBy}
@@ -110,7 +110,7 @@ module _ (r : Register) (shaped : Shaped r) where
         rw (claims-in-at sheet j) at (fits .expiryBelow)
 
     -- so none is late
-    late-none : (j : ℕ) → getD (columnOf 8 sheet) j 0 ≡ 0
+    late-none : (j : ℕ) → getD (columnOf lateColumn sheet) j 0 ≡ 0
     late-none j =
         let few : length (claimsOf (r .claims)) ≤ claimLimit = omega (arith, shaped .claims, length-take (r .claims .count) (r .claims .list)) in
         let same : length (claimsOf (sheeted r .claims)) ≡ length (claimsOf (r .claims)) = ap length (sheet-claims (r .claims) (shaped .claims)) in
@@ -120,11 +120,11 @@ module _ (r : Register) (shaped : Shaped r) where
         (λ e. past-none (replicate sheetLimit 0) (length-replicate {A = ℕ} sheetLimit 0) (zero-at sheetLimit) lastColumn (claimsOf (r .claims)) (omega arith) few j (ltb-false j (length (claimsOf (r .claims))) e))
 
     -- and the column of what is past the last whole run of moments is that of the expiries
-    pub column-natural-expiries : columnOf 7 sheet ≡ map expiryOf (claimsIn sheet)
+    pub column-natural-expiries : columnOf expiryColumn sheet ≡ map expiryOf (claimsIn sheet)
     column-natural-expiries =
-        let long : length (columnOf 7 sheet) ≡ claimLimit = column-length sheet 7 (sheet-long (r .claims)) (omega arith) in
+        let long : length (columnOf expiryColumn sheet) ≡ claimLimit = column-length sheet 7 (sheet-long (r .claims)) (omega arith) in
         let mapped : length (map expiryOf (claimsIn sheet)) ≡ claimLimit = length-map (claimsIn sheet) expiryOf ∙ claims-in-length sheet in
-        ext-getD 0 (columnOf 7 sheet) (map expiryOf (claimsIn sheet)) (long ∙ sym mapped)
+        ext-getD 0 (columnOf expiryColumn sheet) (map expiryOf (claimsIn sheet)) (long ∙ sym mapped)
         (λ j inside. sym (List·getD-map expiryOf (claimsIn sheet) j noClaim ∙ ap (λ c. c .expiry) (claims-in-at sheet j)
-        ∙ ap (λ n. getD (columnOf 7 sheet) j 0 + momentEnd * n) (late-none j)
+        ∙ ap (λ n. getD (columnOf expiryColumn sheet) j 0 + momentEnd * n) (late-none j)
         ∙ omega arith))

@@ -18,21 +18,21 @@ use Rattle.register.specs.declared.Register.{Register}
 use Rattle.columns.specs.Columns.{claimId, latestPlace, placesUp, stepsUp}
 use Rattle.columns.specs.declared.Place.the-variants.{At, Nowhere}
 use Rattle.columns.specs.Laws.{among-natural, places-up-at, places-up-none, steps-up-within, steps-up-beyond}
-use Rattle.rules.specs.Sound.{namesStand, rootKept, sound, withinHops}
-use Rattle.claims.specs.Alone.{worldBy}
+use Rattle.soundness_rules.specs.Sound.{namesStand, rootKept, sound, withinHops}
+use Rattle.claim_judging.specs.Alone.{worldBy}
 use Rattle.granting.specs.Drawn.{chainTests, drawnTests, parentAsked}
 use Rattle.register.specs.Laws.{circling-map}
 use Rattle.columns.specs.declared.Hops.the-variants.{Up, Beyond}
-use Rattle.columns.specs.Sheet.{sheetOf, columnOf, claimAt, claimsIn}
-use Rattle.columns.specs.SheetLaws.{sheet-long, sheet-claims, column-natural-ids}
+use Rattle.columns.specs.Sheet.{sheetOf, columnOf, claimAt, claimsIn, idColumn, parentColumn, grantorColumn, holderColumn}
+use Rattle.columns.specs.SheetLaws.{sheet-long, sheet-claims, column-natural}
 use Rattle.lookup.specs.Finding.{earlierPlaces}
 use Rattle.lookup.specs.Walks.{sheet-chain}
 use Rattle.refusals.specs.Refusals.{outcomeOf}
 use Rattle.refusals.specs.Laws.{outcome-nil}
 use Rattle.refusals.specs.declared.Outcome.{Outcome}
 use Rattle.refusals.specs.declared.Outcome.the-variants.{Accepted, Refused}
-use Rattle.refusals.specs.declared.Refusal.the-variants.{ParentAbsent}
-use Rattle.changes.specs.Changes.{standing, parentTests}
+use Rattle.refusals.specs.declared.Refusal.the-variants.{NoParent}
+use Rattle.change_rules.specs.Changes.{standing, parentTests}
 use Rattle.granting.proofs.Deciding.{parent-absent, parent-present}
 
 -- what of the world is not looked at is all one
@@ -98,12 +98,12 @@ module _ (s ups : List ℕ) (n : ℕ) (c : Claim) (moment : ℕ) where
   root-passes z = rw (eq-eqb (c .parent) 0 z) outcome-nil
 
   module _ (o : c .parent ≡ 0 → ⊥) where
-    pub parent-nowhere : latestPlace (columnOf 0 s) n (c .parent) ≡ Nowhere → outcomeOf (parentAsked s ups n c moment) ≡ Refused ParentAbsent
+    pub parent-nowhere : latestPlace (columnOf idColumn s) n (c .parent) ≡ Nowhere → outcomeOf (parentAsked s ups n c moment) ≡ Refused NoParent
     parent-nowhere q = rw (ne-eqb (c .parent) 0 o, q) (parent-absent moment [] c refl)
 
-    pub parent-at : {at : ℕ} → latestPlace (columnOf 0 s) n (c .parent) ≡ At at → {p : Claim} → p ≡ claimAt s at → {lives : Bool}
+    pub parent-at : {at : ℕ} → latestPlace (columnOf idColumn s) n (c .parent) ≡ At at → {p : Claim} → p ≡ claimAt s at → {lives : Bool}
         → lives ≡ every (λ j. current moment (claimAt s j)) (at ∷ placesUp ups at)
-        → outcomeOf (parentAsked s ups n c moment) ≡ outcomeOf (drawnTests lives p c ++ chainTests (λ j. getD (columnOf 2 s) j 0) (λ j. getD (columnOf 3 s) j 0)
+        → outcomeOf (parentAsked s ups n c moment) ≡ outcomeOf (drawnTests lives p c ++ chainTests (λ j. getD (columnOf grantorColumn s) j 0) (λ j. getD (columnOf holderColumn s) j 0)
         (ltb (length (placesUp ups at)) hopLimit) (at ∷ placesUp ups at) (c .holder))
     parent-at {at} q {p} read {lives} living =
         let l : List Claim = map (claimAt s) (at ∷ placesUp ups at) in
@@ -120,14 +120,14 @@ module _ (r : Register) (long : length (r .claims .list) ≡ claimLimit) (c : Cl
   abbrev sheet : List ℕ
   sheet = sheetOf (r .claims)
 
-  pub stands-asked : any (eqb (c .id)) (take (r .claims .count) (columnOf 0 sheet)) ≡ any (λ d. eqb (c .id) (d .id)) (standing r)
+  pub stands-asked : any (eqb (c .id)) (take (r .claims .count) (columnOf idColumn sheet)) ≡ any (λ d. eqb (c .id) (d .id)) (standing r)
   stands-asked =
-      ap (λ l. any (eqb (c .id)) (take (r .claims .count) l)) (column-natural-ids sheet (sheet-long (r .claims)))
+      ap (λ l. any (eqb (c .id)) (take (r .claims .count) l)) (column-natural sheet (sheet-long (r .claims)) claimId idColumn (omega arith) (λ g. refl))
       ∙ among-natural claimId (c .id) (r .claims .count) (claimsIn sheet)
       ∙ ap (any (λ d. eqb (c .id) (d .id))) (sheet-claims (r .claims) long)
       ∙ sym (any-reverse (λ d. eqb (c .id) (d .id)) (claimsOf (r .claims)))
 
   pub parent-asked : (moment : ℕ) → sound r ≡ true
-      → parentAsked sheet (earlierPlaces (columnOf 0 sheet) (columnOf 1 sheet) (r .claims .count) claimLimit) (r .claims .count) c moment
+      → parentAsked sheet (earlierPlaces (columnOf idColumn sheet) (columnOf parentColumn sheet) (r .claims .count)) (r .claims .count) c moment
       ≡ cond (eqb (c .parent) 0) [] (parentTests moment (above (standing r) c) c)
   parent-asked moment whole = ap (λ l. cond (eqb (c .parent) 0) [] (parentTests moment l c)) (sheet-chain r long whole (c .parent))

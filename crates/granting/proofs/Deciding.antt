@@ -11,23 +11,23 @@ use Rattle.register.specs.Limits.{claimLimit, momentEnd}
 use Rattle.register.specs.Chain.{above, circling, current}
 use Rattle.register.specs.declared.Claim.{Claim}
 use Rattle.register.specs.declared.Register.{Register}
-use Rattle.rules.specs.Sound.{World, sound, claimFits, namesStand, rootKept, withinHops}
+use Rattle.soundness_rules.specs.Sound.{World, sound, claimFits, namesStand, rootKept, withinHops}
 use Rattle.refusals.specs.Refusals.{Test, outcomeOf}
-use Rattle.changes.specs.Changes.{worldIn, standing, parentTests, grantTests}
+use Rattle.change_rules.specs.Changes.{worldIn, standing, parentTests, grantTests}
 use Rattle.refusals.specs.Laws.{outcome-cases, outcome-nil, outcome-pass, outcome-fail, outcome-append, outcome-append-refused}
-use Rattle.refusals.specs.declared.Refusal.the-variants.{Unsound, OutOfRange, Unknown, IdStands, Full, NotKeeper, Ownerless, MachineBarred, ParentAbsent, ParentNotHeld, ParentDead, NoDelegate, RightLacking, WeightAbove, TooManyHops, Circle}
+use Rattle.refusals.specs.declared.Refusal.the-variants.{Unsound, Range, Absent, Stands, Full, NotKeeper, Ownerless, NotByMachine, NoParent, NotHeld, NotLive, NoDelegate, RightLacking, WeightAbove, TooManyHops, Circle}
 use Rattle.refusals.specs.declared.Outcome.{Outcome}
 use Rattle.refusals.specs.declared.Outcome.the-variants.{Accepted, Refused}
 use Rattle.granting.specs.Drawn.{toldTests, drawnTests, chainTests, outcomeThen, firstTests, world-tests, parent-tests}
 
 -- tests 3 to 8
 module _ (w : World) (stands : Bool) (n : ℕ) (c : Claim) where
-  pub unknown : namesStand w c ≡ false → outcomeOf (toldTests w stands n c) ≡ Refused Unknown
+  pub unknown : namesStand w c ≡ false → outcomeOf (toldTests w stands n c) ≡ Refused Absent
   unfolding toldTests outcomeOf
   unknown e = rw e
 
   module _ (names : namesStand w c ≡ true) where
-    pub id-stands : stands ≡ true → outcomeOf (toldTests w stands n c) ≡ Refused IdStands
+    pub id-stands : stands ≡ true → outcomeOf (toldTests w stands n c) ≡ Refused Stands
     unfolding toldTests outcomeOf
     id-stands e = rw (names, e)
 
@@ -53,7 +53,7 @@ module _ (w : World) (stands : Bool) (n : ℕ) (c : Claim) where
             ownerless e = rw (names, unused, room, kept, machine, e)
 
             module _ (owned : w .ownerless (c .grantor) ≡ false) where
-              pub machine-barred : barsMachine (c .rights) ≡ true → outcomeOf (toldTests w stands n c) ≡ Refused MachineBarred
+              pub machine-barred : barsMachine (c .rights) ≡ true → outcomeOf (toldTests w stands n c) ≡ Refused NotByMachine
               unfolding toldTests outcomeOf
               machine-barred e = rw (names, unused, room, kept, machine, owned, e)
 
@@ -63,17 +63,17 @@ module _ (w : World) (stands : Bool) (n : ℕ) (c : Claim) where
 
 -- tests 10 to 14
 module _ (lives : Bool) (p c : Claim) where
-  pub not-held : eqb (p .holder) (c .grantor) ≡ false → outcomeOf (drawnTests lives p c) ≡ Refused ParentNotHeld
+  pub not-held : eqb (p .holder) (c .grantor) ≡ false → outcomeOf (drawnTests lives p c) ≡ Refused NotHeld
   unfolding drawnTests outcomeOf
   not-held e = rw e
 
   module _ (held : eqb (p .holder) (c .grantor) ≡ true) where
-    pub elsewhere : eqb (p .resource) (c .resource) ≡ false → outcomeOf (drawnTests lives p c) ≡ Refused ParentNotHeld
+    pub elsewhere : eqb (p .resource) (c .resource) ≡ false → outcomeOf (drawnTests lives p c) ≡ Refused NotHeld
     unfolding drawnTests outcomeOf
     elsewhere e = rw (held, e)
 
     module _ (same : eqb (p .resource) (c .resource) ≡ true) where
-      pub dead : lives ≡ false → outcomeOf (drawnTests lives p c) ≡ Refused ParentDead
+      pub dead : lives ≡ false → outcomeOf (drawnTests lives p c) ≡ Refused NotLive
       unfolding drawnTests outcomeOf
       dead e = rw (held, same, e)
 
@@ -120,7 +120,7 @@ decided-then tests more {first} {next} e told =
 
 -- tests 9 to 16, over the chain above
 module _ (moment : ℕ) (l : List Claim) (c : Claim) where
-  pub parent-absent : l ≡ [] → outcomeOf (parentTests moment l c) ≡ Refused ParentAbsent
+  pub parent-absent : l ≡ [] → outcomeOf (parentTests moment l c) ≡ Refused NoParent
   unfolding parentTests outcomeOf
   parent-absent e = rw e
 
@@ -136,11 +136,11 @@ module _ (c : Claim) (moment : ℕ) {whole : Bool} where
   unsound f = outcome-fail _ _ f
 
   module _ (judged : whole ≡ true) where
-    pub claim-unfit : claimFits c ≡ false → outcomeOf (firstTests whole c moment) ≡ Refused OutOfRange
+    pub claim-unfit : claimFits c ≡ false → outcomeOf (firstTests whole c moment) ≡ Refused Range
     claim-unfit f = outcome-pass _ _ judged ∙ outcome-fail _ _ (ap (λ b. b && ltb moment momentEnd) f)
 
     module _ (fit : claimFits c ≡ true) where
-      pub moment-past : ltb moment momentEnd ≡ false → outcomeOf (firstTests whole c moment) ≡ Refused OutOfRange
+      pub moment-past : ltb moment momentEnd ≡ false → outcomeOf (firstTests whole c moment) ≡ Refused Range
       moment-past f = outcome-pass _ _ judged ∙ outcome-fail _ _ (ap (λ b. b && ltb moment momentEnd) fit ∙ f)
 
       pub in-range : ltb moment momentEnd ≡ true → outcomeOf (firstTests whole c moment) ≡ Accepted

@@ -11,32 +11,32 @@ use Rattle.rights.specs.Rights.{delegating, hasRight, hasRights, barsMachine}
 use Rattle.register.specs.Limits.{claimLimit, momentEnd}
 use Rattle.register.specs.Chain.{circling, current}
 use Rattle.register.specs.declared.Claim.{Claim}
-use Rattle.rules.specs.Sound.{World, namesStand, fresh, rootKept, withinHops, claimFits}
+use Rattle.soundness_rules.specs.Sound.{World, namesStand, fresh, rootKept, withinHops, claimFits}
 use Rattle.refusals.specs.Refusals.{Test}
-use Rattle.changes.specs.Changes.{sourceLive, worldTests, parentTests}
-use Rattle.refusals.specs.declared.Refusal.the-variants.{Unknown, IdStands, Full, NotKeeper, Ownerless, MachineBarred, ParentNotHeld, ParentDead, NoDelegate, RightLacking, WeightAbove, TooManyHops, Circle, Unsound, OutOfRange}
+use Rattle.change_rules.specs.Changes.{sourceLive, worldTests, parentTests}
+use Rattle.refusals.specs.declared.Refusal.the-variants.{Absent, Stands, Full, NotKeeper, Ownerless, NotByMachine, NotHeld, NotLive, NoDelegate, RightLacking, WeightAbove, TooManyHops, Circle, Unsound, Range}
 use Rattle.refusals.specs.declared.Outcome.{Outcome}
 use Rattle.refusals.specs.declared.Outcome.the-variants.{Accepted, Refused}
 use Rattle.columns.specs.Columns.{latestPlace}
-use Rattle.columns.specs.Sheet.{columnOf, claimAt}
+use Rattle.columns.specs.Sheet.{columnOf, claimAt, idColumn}
 use Rattle.lookup.specs.Walks.{upFrom}
 
 -- tests 3 to 8 in a world, where it is told whether the id of the claim c stands, and that n claims do
 unfoldable pub toldTests : World → Bool → ℕ → Claim → List Test
 toldTests w stands n c =
-    record { passed = namesStand w c; refusal = Unknown }
-    ∷ record { passed = not stands; refusal = IdStands }
+    record { passed = namesStand w c; refusal = Absent }
+    ∷ record { passed = not stands; refusal = Stands }
     ∷ record { passed = ltb n claimLimit; refusal = Full }
     ∷ record { passed = rootKept w c; refusal = NotKeeper }
     ∷ record { passed = not (w .machine (c .grantor) && w .ownerless (c .grantor)); refusal = Ownerless }
-    ∷ record { passed = not (w .machine (c .grantor) && barsMachine (c .rights)); refusal = MachineBarred }
+    ∷ record { passed = not (w .machine (c .grantor) && barsMachine (c .rights)); refusal = NotByMachine }
     ∷ []
 
 -- tests 10 to 14, of the parent p, whether it lives, and the claim c
 unfoldable pub drawnTests : Bool → Claim → Claim → List Test
 drawnTests lives p c =
-    record { passed = eqb (p .holder) (c .grantor) && eqb (p .resource) (c .resource); refusal = ParentNotHeld }
-    ∷ record { passed = lives; refusal = ParentDead }
+    record { passed = eqb (p .holder) (c .grantor) && eqb (p .resource) (c .resource); refusal = NotHeld }
+    ∷ record { passed = lives; refusal = NotLive }
     ∷ record { passed = hasRight (p .rights) delegating; refusal = NoDelegate }
     ∷ record { passed = hasRights (p .rights) (c .rights); refusal = RightLacking }
     ∷ record { passed = leb (c .weight) (p .weight); refusal = WeightAbove }
@@ -58,13 +58,13 @@ outcomeThen Accepted next = next
 abbrev pub firstTests : Bool → Claim → ℕ → List Test
 firstTests whole c moment =
     record { passed = whole; refusal = Unsound }
-    ∷ record { passed = claimFits c && ltb moment momentEnd; refusal = OutOfRange }
+    ∷ record { passed = claimFits c && ltb moment momentEnd; refusal = Range }
     ∷ []
 
 -- tests 9 to 16, over the chain above the claim c as the first n claims of a sheet and the places of the parents have it; of a root there are none
 abbrev pub parentAsked : List ℕ → List ℕ → ℕ → Claim → ℕ → List Test
 parentAsked s ups n c moment =
-    cond (eqb (c .parent) 0) [] (parentTests moment (map (claimAt s) (upFrom ups (latestPlace (columnOf 0 s) n (c .parent)))) c)
+    cond (eqb (c .parent) 0) [] (parentTests moment (map (claimAt s) (upFrom ups (latestPlace (columnOf idColumn s) n (c .parent)))) c)
 
 pub world-tests : (w : World) (earlier : List Claim) (n : ℕ) (c : Claim)
     → worldTests w earlier n c ≡ toldTests w (any (λ d. eqb (c .id) (d .id)) earlier) n c

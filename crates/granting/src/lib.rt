@@ -1,5 +1,6 @@
-// Grant: the outcome of tests 1 to 8 in order and, with a parent, 9 to 16. The claims are put into a sheet once; the register is judged by it,
-// and the chain above the claim is walked by the places of the parents that the judgement found.
+// The grant: tests 1 to 8 and, with a parent, 9 to 16.
+// The register is examined once; the chain above the claim is walked by the places of the parents
+// that were found.
 ghost use mathlib.Core.Path.{_≡_};
 ghost use mathlib.Core.List.{_∷_};
 ghost use lib.Dec.{ltb};
@@ -7,11 +8,11 @@ ghost use lib.ListN.{length, getD};
 ghost use Rattle.lists.specs.Lists.{every};
 ghost use Rattle.register.specs.Limits.{hopLimit};
 ghost use Rattle.register.specs.Chain.{current};
-ghost use Rattle.claims.specs.Alone.{worldBy};
+ghost use Rattle.claim_judging.specs.Alone.{worldBy};
 ghost use Rattle.columns.specs.Columns.{placesUp};
 ghost use Rattle.columns.specs.Sheet.{claimAt};
 ghost use Rattle.refusals.specs.Refusals.{outcomeOf};
-ghost use Rattle.changes.specs.Changes.{grantTests};
+ghost use Rattle.change_rules.specs.Changes.{grantTests};
 ghost use Rattle.granting.specs.Drawn.{toldTests, drawnTests, chainTests, outcomeThen, firstTests, parentAsked};
 use columns::ActorColumns;
 use columns::Hops;
@@ -36,16 +37,16 @@ fn world_outcome(
 ) -> Outcome
     ensures { λ r. ⌜ r ≡ outcomeOf (toldTests (worldBy (actors .names) (actors .kinds) (actors .owners) h (resources .reports) (resources .keepers) m) stands n c) ⌝ }
 {
-    if !claims::names_stand(&actors.names, h, &resources.reports, m, c) {
-        return Outcome::Refused(Refusal::Unknown);
+    if !claim_judging::names_stand(&actors.names, h, &resources.reports, m, c) {
+        return Outcome::Refused(Refusal::Absent);
     }
     if stands {
-        return Outcome::Refused(Refusal::IdStands);
+        return Outcome::Refused(Refusal::Stands);
     }
     if Register::CLAIMS <= n {
         return Outcome::Refused(Refusal::Full);
     }
-    if !claims::root_kept(&resources.reports, &resources.keepers, m, c) {
+    if !claim_judging::root_kept(&resources.reports, &resources.keepers, m, c) {
         return Outcome::Refused(Refusal::NotKeeper);
     }
     if !columns::is_beside(&actors.names, &actors.kinds, h, c.grantor, Actor::MACHINE) {
@@ -55,7 +56,7 @@ fn world_outcome(
         return Outcome::Refused(Refusal::Ownerless);
     }
     if rights::bars_machine(c.rights) {
-        return Outcome::Refused(Refusal::MachineBarred);
+        return Outcome::Refused(Refusal::NotByMachine);
     }
     Outcome::Accepted
 }
@@ -65,13 +66,13 @@ fn drawn_outcome(p: Claim, c: Claim, lives: bool) -> Outcome
     ensures { λ r. ⌜ r ≡ outcomeOf (drawnTests lives p c) ⌝ }
 {
     if p.holder != c.grantor {
-        return Outcome::Refused(Refusal::ParentNotHeld);
+        return Outcome::Refused(Refusal::NotHeld);
     }
     if p.resource != c.resource {
-        return Outcome::Refused(Refusal::ParentNotHeld);
+        return Outcome::Refused(Refusal::NotHeld);
     }
     if !lives {
-        return Outcome::Refused(Refusal::ParentDead);
+        return Outcome::Refused(Refusal::NotLive);
     }
     if !rights::has(p.rights, rights::DELEGATE) {
         return Outcome::Refused(Refusal::NoDelegate);
@@ -122,7 +123,7 @@ fn chain_outcome<'a>(
             if Register::HOPS <= steps {
                 return Outcome::Refused(Refusal::TooManyHops);
             }
-            if claims::circles_up(ups, grantors, holders, at, steps, h) {
+            if claim_judging::circles_up(ups, grantors, holders, at, steps, h) {
                 return Outcome::Refused(Refusal::Circle);
             }
             Outcome::Accepted
@@ -150,7 +151,7 @@ fn parent_outcome<'a>(sheet: &'a [u32], ups: &'a [u16], n: usize, c: Claim, mome
     let ids = columns::column(sheet, columns::IDS);
     let place = columns::latest_place(ids, n, c.parent);
     match place {
-        Place::Nowhere => Outcome::Refused(Refusal::ParentAbsent),
+        Place::Nowhere => Outcome::Refused(Refusal::NoParent),
         Place::At(at) => {
             let p = columns::claim_at(sheet, at);
             let lives = current_up(sheet, ups, at, moment);
@@ -170,11 +171,11 @@ fn first_outcome(whole: bool, c: Claim, moment: u64) -> Outcome
     if !whole {
         return Outcome::Refused(Refusal::Unsound);
     }
-    if !claims::claim_fits(c) {
-        return Outcome::Refused(Refusal::OutOfRange);
+    if !claim_judging::claim_fits(c) {
+        return Outcome::Refused(Refusal::Range);
     }
     if register::MOMENT_END <= moment {
-        return Outcome::Refused(Refusal::OutOfRange);
+        return Outcome::Refused(Refusal::Range);
     }
     Outcome::Accepted
 }
@@ -187,14 +188,13 @@ pub fn grant_outcome(r: Register, c: Claim, moment: u64) -> Outcome
     let o = r.resources;
     let k = r.claims;
     let mut sheet = [0u32; columns::SHEET];
-    columns::put_claims(&mut sheet, k);
-    let judged = soundness::judged(a, o, &sheet, k.count);
+    let found = soundness::examine(&mut sheet, a, o, k);
     let ids = columns::column(&sheet, columns::IDS);
     let stands = columns::is_among(ids, k.count, c.id);
-    let first = first_outcome(judged.sound, c, moment);
-    let actors = judged.actors;
-    let resources = judged.resources;
+    let first = first_outcome(found.sound, c, moment);
+    let actors = found.actors;
+    let resources = found.resources;
     let world = world_outcome(actors, a.count, resources, o.count, stands, k.count, c);
-    let parent = parent_outcome(&sheet, &judged.ups, k.count, c, moment);
+    let parent = parent_outcome(&sheet, &found.ups, k.count, c, moment);
     then(first, then(world, parent))
 }

@@ -6,19 +6,19 @@ use mathlib.Core.List.{List, [], _∷_, _++_, map}
 use Prim.Native.Nat.{ℕ, _+_}
 use lib.ListN.{replicate, length}
 use Rattle.lists.specs.Fills.{all-replicate}
-use Rattle.lists.specs.Lists.{trim}
+use Rattle.lists.specs.Lists.{dropping, distinct}
 use Rattle.rights.specs.Rights.{hasRight, hasRights, barsMachine}
 use Rattle.register.specs.Register.{claimsOf, noActor, noResource, noClaim, Shaped}
 use Rattle.register.specs.Chain.{chain, rootGranted, circling}
 use Rattle.register.specs.declared.Claim.{Claim}
 use Rattle.register.specs.declared.Register.{Register}
-use Rattle.rules.specs.Sound.{distinct, actorFits, resourceFits, claimFits, namesStand, rootKept, drawnFrom, machineMay, overChain, drawn, fresh, alone, over, acceptable, soundClaims, soundActors, soundResources, withinLimits, sound}
+use Rattle.soundness_rules.specs.Sound.{actorFits, resourceFits, claimFits, namesStand, rootKept, drawnFrom, machineMay, overChain, drawn, fresh, alone, over, acceptable, soundClaims, soundActors, soundResources, withinLimits, sound}
 use Rattle.refusals.specs.Refusals.{outcomeOf, numberOf}
-use Rattle.changes.specs.Changes.{sourceLive, parentTests, worldTests, grantTests, granted, revokeTests, holding, Withdrawal, revoke, clearResource, clearExpired, clearResourceTests, clearExpiredTests, withdrawn}
-use Rattle.changes.specs.declared.Revoked.{Revoked}
+use Rattle.change_rules.specs.Changes.{sourceLive, parentTests, worldTests, grantTests, granted, revokeTests, holding, Withdrawal, revoke, clearResource, clearExpired, clearResourceTests, clearExpiredTests, withdrawn}
+use Rattle.change_rules.specs.declared.Revoked.{Revoked}
 use Rattle.refusals.specs.declared.Outcome.{Outcome}
 use Rattle.refusals.specs.declared.Outcome.the-variants.{Accepted, Refused}
-use Rattle.history.specs.History.{Call, grant, step, took, run, accepts, started, kept, left, olds, grants, History, withdraw}
+use Rattle.history.specs.History.{Change, grant, changed, took, registerAfter, accepts, started, kept, survivors, olds, grants, History, withdraw}
 use Rattle.history.proofs.Replay.{history}
 
 -- on the one resource, with READ, WRITE and DELEGATE, until the moment 2,000
@@ -36,7 +36,7 @@ desk = record {
   claims = record { list = claim 7 0 1 1 ∷ claim 8 7 1 2 ∷ replicate 254 noClaim; count = 2 };
 }
 
-calls : List Call
+calls : List Change
 calls =
     grant (claim 1 0 1 1) 0
     ∷ grant (claim 2 1 1 2) 1999
@@ -63,40 +63,40 @@ desk-sound : sound desk ≡ true
 unfolding desk sound withinLimits soundActors soundResources soundClaims acceptable alone over fresh drawn overChain machineMay drawnFrom rootKept namesStand claimFits resourceFits actorFits distinct chain circling rootGranted hasRight hasRights barsMachine
 desk-sound = refl
 
-calls-end : claimsOf (run desk calls .claims) ≡ claim 7 0 1 1 ∷ claim 1 0 1 3 ∷ claim 2 1 3 2 ∷ []
-unfolding desk calls run granted withdrawn grantTests worldTests parentTests revokeTests sourceLive outcomeOf trim sound withinLimits soundActors soundResources soundClaims acceptable alone over fresh drawn overChain machineMay drawnFrom rootKept namesStand claimFits resourceFits actorFits distinct chain circling rootGranted hasRight hasRights barsMachine
+calls-end : claimsOf (registerAfter desk calls .claims) ≡ claim 7 0 1 1 ∷ claim 1 0 1 3 ∷ claim 2 1 3 2 ∷ []
+unfolding desk calls registerAfter granted withdrawn grantTests worldTests parentTests revokeTests sourceLive outcomeOf dropping sound withinLimits soundActors soundResources soundClaims acceptable alone over fresh drawn overChain machineMay drawnFrom rootKept namesStand claimFits resourceFits actorFits distinct chain circling rootGranted hasRight hasRights barsMachine
 calls-end = refl
 
 -- which calls are accepted
-accepted : Register → List Call → List Bool
+accepted : Register → List Change → List Bool
 accepted r [] = []
-accepted r (k ∷ ks) = took r k ∷ accepted (step r k) ks
+accepted r (k ∷ ks) = took r k ∷ accepted (changed r k) ks
 
 calls-accepted : accepted desk calls ≡ true ∷ true ∷ true ∷ true ∷ false ∷ true ∷ false ∷ true ∷ false ∷ []
-unfolding desk calls accepted granted withdrawn grantTests worldTests parentTests revokeTests sourceLive outcomeOf trim sound withinLimits soundActors soundResources soundClaims acceptable alone over fresh drawn overChain machineMay drawnFrom rootKept namesStand claimFits resourceFits actorFits distinct chain circling rootGranted hasRight hasRights barsMachine
+unfolding desk calls accepted granted withdrawn grantTests worldTests parentTests revokeTests sourceLive outcomeOf dropping sound withinLimits soundActors soundResources soundClaims acceptable alone over fresh drawn overChain machineMay drawnFrom rootKept namesStand claimFits resourceFits actorFits distinct chain circling rootGranted hasRight hasRights barsMachine
 calls-accepted = refl
 
 -- serial numbers 0 and 1 stood at the start, 2 and 3 are the first claims with the ids 1 and 2, 4 and 5 the second
-calls-left : map (λ e. e .serial) (left desk calls) ≡ 0 ∷ 4 ∷ 5 ∷ []
-unfolding desk calls run started kept granted withdrawn grantTests worldTests parentTests revokeTests sourceLive outcomeOf trim sound withinLimits soundActors soundResources soundClaims acceptable alone over fresh drawn overChain machineMay drawnFrom rootKept namesStand claimFits resourceFits actorFits distinct chain circling rootGranted hasRight hasRights barsMachine
+calls-left : map (λ e. e .serial) (survivors desk calls) ≡ 0 ∷ 4 ∷ 5 ∷ []
+unfolding desk calls registerAfter started kept granted withdrawn grantTests worldTests parentTests revokeTests sourceLive outcomeOf dropping sound withinLimits soundActors soundResources soundClaims acceptable alone over fresh drawn overChain machineMay drawnFrom rootKept namesStand claimFits resourceFits actorFits distinct chain circling rootGranted hasRight hasRights barsMachine
 calls-left = refl
 
-calls-olds : olds (left desk calls) ≡ claim 7 0 1 1 ∷ []
-unfolding desk calls run started kept granted withdrawn grantTests worldTests parentTests revokeTests sourceLive outcomeOf trim sound withinLimits soundActors soundResources soundClaims acceptable alone over fresh drawn overChain machineMay drawnFrom rootKept namesStand claimFits resourceFits actorFits distinct chain circling rootGranted hasRight hasRights barsMachine
+calls-olds : olds (survivors desk calls) ≡ claim 7 0 1 1 ∷ []
+unfolding desk calls registerAfter started kept granted withdrawn grantTests worldTests parentTests revokeTests sourceLive outcomeOf dropping sound withinLimits soundActors soundResources soundClaims acceptable alone over fresh drawn overChain machineMay drawnFrom rootKept namesStand claimFits resourceFits actorFits distinct chain circling rootGranted hasRight hasRights barsMachine
 calls-olds = refl
 
-calls-grants : grants (left desk calls) ≡ grant (claim 1 0 1 3) 5 ∷ grant (claim 2 1 3 2) 4 ∷ []
-unfolding desk calls run started kept granted withdrawn grantTests worldTests parentTests revokeTests sourceLive outcomeOf trim sound withinLimits soundActors soundResources soundClaims acceptable alone over fresh drawn overChain machineMay drawnFrom rootKept namesStand claimFits resourceFits actorFits distinct chain circling rootGranted hasRight hasRights barsMachine
+calls-grants : grants (survivors desk calls) ≡ grant (claim 1 0 1 3) 5 ∷ grant (claim 2 1 3 2) 4 ∷ []
+unfolding desk calls registerAfter started kept granted withdrawn grantTests worldTests parentTests revokeTests sourceLive outcomeOf dropping sound withinLimits soundActors soundResources soundClaims acceptable alone over fresh drawn overChain machineMay drawnFrom rootKept namesStand claimFits resourceFits actorFits distinct chain circling rootGranted hasRight hasRights barsMachine
 calls-grants = refl
 
 -- made again from claim 7 they are accepted, and end in the same claims
-calls-again : accepts (holding desk (olds (left desk calls))) (grants (left desk calls)) ≡ true
-unfolding desk calls run accepts started kept granted withdrawn grantTests worldTests parentTests revokeTests sourceLive outcomeOf trim sound withinLimits soundActors soundResources soundClaims acceptable alone over fresh drawn overChain machineMay drawnFrom rootKept namesStand claimFits resourceFits actorFits distinct chain circling rootGranted hasRight hasRights barsMachine
+calls-again : accepts (holding desk (olds (survivors desk calls))) (grants (survivors desk calls)) ≡ true
+unfolding desk calls registerAfter accepts started kept granted withdrawn grantTests worldTests parentTests revokeTests sourceLive outcomeOf dropping sound withinLimits soundActors soundResources soundClaims acceptable alone over fresh drawn overChain machineMay drawnFrom rootKept namesStand claimFits resourceFits actorFits distinct chain circling rootGranted hasRight hasRights barsMachine
 calls-again = refl
 
-calls-same : claimsOf (run (holding desk (olds (left desk calls))) (grants (left desk calls)) .claims)
+calls-same : claimsOf (registerAfter (holding desk (olds (survivors desk calls))) (grants (survivors desk calls)) .claims)
     ≡ claim 7 0 1 1 ∷ claim 1 0 1 3 ∷ claim 2 1 3 2 ∷ []
-unfolding desk calls run started kept granted withdrawn grantTests worldTests parentTests revokeTests sourceLive outcomeOf trim sound withinLimits soundActors soundResources soundClaims acceptable alone over fresh drawn overChain machineMay drawnFrom rootKept namesStand claimFits resourceFits actorFits distinct chain circling rootGranted hasRight hasRights barsMachine
+unfolding desk calls registerAfter started kept granted withdrawn grantTests worldTests parentTests revokeTests sourceLive outcomeOf dropping sound withinLimits soundActors soundResources soundClaims acceptable alone over fresh drawn overChain machineMay drawnFrom rootKept namesStand claimFits resourceFits actorFits distinct chain circling rootGranted hasRight hasRights barsMachine
 calls-same = refl
 
 -- as the theorem says of every list of calls
@@ -184,7 +184,7 @@ pairs-told : map (inBothOrders shelf) pairs ≡
     ∷ (17 ∷ 0 ∷ 2 ∷ 0 ∷ 17 ∷ 2 ∷ [])
     ∷ (18 ∷ 3 ∷ 0 ∷ 3 ∷ 18 ∷ 0 ∷ [])
     ∷ []
-unfolding desk shelf pairs withdrawn revokeTests outcomeOf trim sound withinLimits soundActors soundResources soundClaims acceptable alone over fresh drawn overChain machineMay drawnFrom rootKept namesStand claimFits resourceFits actorFits distinct chain circling rootGranted hasRight hasRights barsMachine
+unfolding desk shelf pairs withdrawn revokeTests outcomeOf dropping sound withinLimits soundActors soundResources soundClaims acceptable alone over fresh drawn overChain machineMay drawnFrom rootKept namesStand claimFits resourceFits actorFits distinct chain circling rootGranted hasRight hasRights barsMachine
 pairs-told = refl
 
 -- the ids that are left
@@ -205,21 +205,21 @@ pairs-left : map (leftInBothOrders shelf) pairs ≡
     ∷ ((7 ∷ 10 ∷ []) ∷ (7 ∷ 10 ∷ []) ∷ [])
     ∷ ((7 ∷ 8 ∷ 9 ∷ 10 ∷ []) ∷ (7 ∷ 8 ∷ 9 ∷ 10 ∷ []) ∷ [])
     ∷ []
-unfolding desk shelf pairs withdrawn revokeTests outcomeOf trim sound withinLimits soundActors soundResources soundClaims acceptable alone over fresh drawn overChain machineMay drawnFrom rootKept namesStand claimFits resourceFits actorFits distinct chain circling rootGranted hasRight hasRights barsMachine
+unfolding desk shelf pairs withdrawn revokeTests outcomeOf dropping sound withinLimits soundActors soundResources soundClaims acceptable alone over fresh drawn overChain machineMay drawnFrom rootKept namesStand claimFits resourceFits actorFits distinct chain circling rootGranted hasRight hasRights barsMachine
 pairs-left = refl
 
 -- past the count every place is cleared where either call is accepted, and kept where neither is
 cleared-past : secondOf shelf (pair (revoke 2 9) (revoke 1 8)) .register .claims .list ≡ claim 7 0 1 1 ∷ claim 10 7 1 2 ∷ replicate 254 noClaim
-unfolding desk shelf withdrawn revokeTests outcomeOf trim sound withinLimits soundActors soundResources soundClaims acceptable alone over fresh drawn overChain machineMay drawnFrom rootKept namesStand claimFits resourceFits actorFits distinct chain circling rootGranted hasRight hasRights barsMachine
+unfolding desk shelf withdrawn revokeTests outcomeOf dropping sound withinLimits soundActors soundResources soundClaims acceptable alone over fresh drawn overChain machineMay drawnFrom rootKept namesStand claimFits resourceFits actorFits distinct chain circling rootGranted hasRight hasRights barsMachine
 cleared-past = refl
 
 kept-past : secondOf shelf (pair (revoke 3 10) (revoke 4 7)) .register ≡ shelf
-unfolding desk shelf withdrawn revokeTests outcomeOf trim sound withinLimits soundActors soundResources soundClaims acceptable alone over fresh drawn overChain machineMay drawnFrom rootKept namesStand claimFits resourceFits actorFits distinct chain circling rootGranted hasRight hasRights barsMachine
+unfolding desk shelf withdrawn revokeTests outcomeOf dropping sound withinLimits soundActors soundResources soundClaims acceptable alone over fresh drawn overChain machineMay drawnFrom rootKept namesStand claimFits resourceFits actorFits distinct chain circling rootGranted hasRight hasRights barsMachine
 kept-past = refl
 
 -- a register that is not sound tells 1 to both
 spoilt-told : inBothOrders spoilt (pair (revoke 1 8) (revoke 1 7)) ≡ 1 ∷ 1 ∷ 0 ∷ 1 ∷ 1 ∷ 0 ∷ []
-unfolding desk spoilt withdrawn revokeTests outcomeOf trim sound withinLimits soundActors soundResources soundClaims acceptable alone over fresh drawn overChain machineMay drawnFrom rootKept namesStand claimFits resourceFits actorFits distinct chain circling rootGranted hasRight hasRights barsMachine
+unfolding desk spoilt withdrawn revokeTests outcomeOf dropping sound withinLimits soundActors soundResources soundClaims acceptable alone over fresh drawn overChain machineMay drawnFrom rootKept namesStand claimFits resourceFits actorFits distinct chain circling rootGranted hasRight hasRights barsMachine
 spoilt-told = refl
 
 -- until a moment on a resource, with READ, WRITE and DELEGATE
@@ -290,7 +290,7 @@ clearings-told : map (λ w. toldNumber (withdrawn cabinet w .outcome) ∷ withdr
     ∷ (3 ∷ 0 ∷ [])
     ∷ (3 ∷ 0 ∷ [])
     ∷ []
-unfolding desk cabinet clearings withdrawn revokeTests clearResourceTests clearExpiredTests outcomeOf trim sound withinLimits soundActors soundResources soundClaims acceptable alone over fresh drawn overChain machineMay drawnFrom rootKept namesStand claimFits resourceFits actorFits distinct chain circling rootGranted hasRight hasRights barsMachine
+unfolding desk cabinet clearings withdrawn revokeTests clearResourceTests clearExpiredTests outcomeOf dropping sound withinLimits soundActors soundResources soundClaims acceptable alone over fresh drawn overChain machineMay drawnFrom rootKept namesStand claimFits resourceFits actorFits distinct chain circling rootGranted hasRight hasRights barsMachine
 clearings-told = refl
 
 -- the kinds of pair that have a clearing
@@ -314,7 +314,7 @@ kinds-told : map (inBothOrders cabinet) kinds ≡
     ∷ (0 ∷ 0 ∷ 3 ∷ 0 ∷ 0 ∷ 3 ∷ [])
     ∷ (18 ∷ 18 ∷ 0 ∷ 18 ∷ 18 ∷ 0 ∷ [])
     ∷ []
-unfolding desk cabinet kinds withdrawn revokeTests clearResourceTests clearExpiredTests outcomeOf trim sound withinLimits soundActors soundResources soundClaims acceptable alone over fresh drawn overChain machineMay drawnFrom rootKept namesStand claimFits resourceFits actorFits distinct chain circling rootGranted hasRight hasRights barsMachine
+unfolding desk cabinet kinds withdrawn revokeTests clearResourceTests clearExpiredTests outcomeOf dropping sound withinLimits soundActors soundResources soundClaims acceptable alone over fresh drawn overChain machineMay drawnFrom rootKept namesStand claimFits resourceFits actorFits distinct chain circling rootGranted hasRight hasRights barsMachine
 kinds-told = refl
 
 kinds-left : map (leftInBothOrders cabinet) kinds ≡
@@ -325,5 +325,5 @@ kinds-left : map (leftInBothOrders cabinet) kinds ≡
     ∷ ((9 ∷ []) ∷ (9 ∷ []) ∷ [])
     ∷ ((7 ∷ 8 ∷ 9 ∷ 11 ∷ []) ∷ (7 ∷ 8 ∷ 9 ∷ 11 ∷ []) ∷ [])
     ∷ []
-unfolding desk cabinet kinds withdrawn revokeTests clearResourceTests clearExpiredTests outcomeOf trim sound withinLimits soundActors soundResources soundClaims acceptable alone over fresh drawn overChain machineMay drawnFrom rootKept namesStand claimFits resourceFits actorFits distinct chain circling rootGranted hasRight hasRights barsMachine
+unfolding desk cabinet kinds withdrawn revokeTests clearResourceTests clearExpiredTests outcomeOf dropping sound withinLimits soundActors soundResources soundClaims acceptable alone over fresh drawn overChain machineMay drawnFrom rootKept namesStand claimFits resourceFits actorFits distinct chain circling rootGranted hasRight hasRights barsMachine
 kinds-left = refl

@@ -18,14 +18,14 @@ use Rattle.register.specs.Chain.{latest}
 use Rattle.register.specs.declared.Claim.{Claim}
 use Rattle.register.specs.declared.Claims.{Claims}
 use Rattle.register.specs.declared.Register.{Register}
-use Rattle.rules.specs.Sound.{soundClaims, sound}
-use Rattle.rules.specs.Registers.{SoundRegister, sound-out, sound-in}
-use Rattle.rules.specs.Places.{sound-claims-in}
-use Rattle.rules.specs.Striking.{strike-sound, strike-length}
-use Rattle.rules.specs.Struck.{strike}
-use Rattle.changes.specs.Changes.{worldIn, standing, appended, leftOf, holding, names}
-use Rattle.history.specs.History.{Call, grant, step, took, withdraw}
-use Rattle.history.proofs.Calls.{GrantPassed, grant-out, granted-register, refused-register, withdrawn-register}
+use Rattle.soundness_rules.specs.Sound.{soundClaims, sound}
+use Rattle.soundness_rules.specs.Registers.{SoundRegister, sound-out, sound-in}
+use Rattle.soundness_rules.specs.Places.{sound-claims-in}
+use Rattle.soundness_rules.specs.Striking.{strike-sound, strike-length}
+use Rattle.soundness_rules.specs.Struck.{strike}
+use Rattle.change_rules.specs.Changes.{worldIn, standing, appended, unstruck, holding, names}
+use Rattle.history.specs.History.{Change, grant, changed, took, withdraw}
+use Rattle.history.proofs.Changing.{GrantPassed, grant-out, granted-register, refused-register, withdrawn-register}
 
 -- s holds the claims L, latest first, over the actors and resources of r
 pub record Holds (r s : Register) (L : List Claim) : Type 0 where
@@ -122,7 +122,7 @@ appended-sound r c moment h =
     rw (take-short (r .claims .list) (r .claims .count) c short) (sr .claims)))
 
 -- a sound register stays sound when what P names is struck with all drawn from it
-pub without-sound : (r : Register) (P : Claim → Bool) → sound r ≡ true → sound (holding r (leftOf P r)) ≡ true
+pub without-sound : (r : Register) (P : Claim → Bool) → sound r ≡ true → sound (holding r (unstruck P r)) ≡ true
 without-sound r P h =
     let sr = sound-out r h in
     let K : List Claim = strike (λ c. c .id) (λ c. c .parent) P (standing r) in
@@ -133,21 +133,21 @@ without-sound r P h =
     holds-sound r (holding r (latest K)) K sr (holds-holding r r K refl refl room) room (strike-sound (worldIn r) P (standing r) (sr .claims))
 
 -- every call leaves a sound register
-pub step-sound : (r : Register) (k : Call) → sound r ≡ true → sound (step r k) ≡ true
-step-sound r k h = cases (took r k) (taken k) (λ e. rw (refused-register r k e) h)
+pub changed-sound : (r : Register) (k : Change) → sound r ≡ true → sound (changed r k) ≡ true
+changed-sound r k h = cases (took r k) (taken k) (λ e. rw (refused-register r k e) h)
   where
-    taken : (k : Call) → took r k ≡ true → sound (step r k) ≡ true
+    taken : (k : Change) → took r k ≡ true → sound (changed r k) ≡ true
     taken (grant c moment) e = rw (granted-register r c moment e) (appended-sound r c moment (grant-out r c moment e))
     taken (withdraw w) e = rw (withdrawn-register r w e) (without-sound r (names w) h)
 
 -- every call leaves a register its shape
-pub step-shaped : (r : Register) (k : Call) → Shaped r → Shaped (step r k)
-step-shaped r k h = cases (took r k) (taken k) (λ e. rw (refused-register r k e) h)
+pub changed-shaped : (r : Register) (k : Change) → Shaped r → Shaped (changed r k)
+changed-shaped r k h = cases (took r k) (taken k) (λ e. rw (refused-register r k e) h)
   where
     with-claims : (cs : Claims) → length (cs .list) ≡ claimLimit → Shaped (record { actors = r .actors; resources = r .resources; claims = cs })
     with-claims cs long = record { actors = h .actors; resources = h .resources; paths = h .paths; claims = long }
 
-    taken : (k : Call) → took r k ≡ true → Shaped (step r k)
+    taken : (k : Change) → took r k ≡ true → Shaped (changed r k)
     taken (grant c moment) e = rw (granted-register r c moment e) (with-claims _ (length-set (r .claims .list) (r .claims .count) c ∙ h .claims))
     taken (withdraw w) e =
         let K : List Claim = strike (λ c. c .id) (λ c. c .parent) (names w) (standing r) in

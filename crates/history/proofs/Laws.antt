@@ -12,23 +12,23 @@ use lib.Seq.{take-suc-set}
 use Rattle.lists.specs.Tests.{iff-same, and-left, and-right, and-both, cases}
 use Rattle.lists.specs.Lists.{any, Each, All, filter}
 use Rattle.lists.specs.Each.{all-imp, all-none}
-use Rattle.lists.specs.Trims.{trim-same, filter-not, filter-reverse}
+use Rattle.lists.specs.Filters.{dropping-same, filter-not, filter-reverse}
 use Rattle.register.specs.Limits.{claimLimit, momentEnd}
 use Rattle.register.specs.Register.{claimsOf, Shaped}
 use Rattle.register.specs.Chain.{chain, above, latest}
 use Rattle.register.specs.Laws.{chain-zero, chain-ind}
 use Rattle.register.specs.declared.Claim.{Claim}
 use Rattle.register.specs.declared.Register.{Register}
-use Rattle.rules.specs.Sound.{World, soundClaims, sound, fresh, drawn}
-use Rattle.rules.specs.Laws.{acceptable-out, drawn-out}
-use Rattle.rules.specs.Registers.{sound-out}
-use Rattle.rules.specs.Places.{latest-acceptable, earlier-sound}
-use Rattle.rules.specs.Striking.{strike-latest, strike-length, sound-distinct}
+use Rattle.soundness_rules.specs.Sound.{World, soundClaims, sound, fresh, drawn}
+use Rattle.soundness_rules.specs.Laws.{acceptable-out, drawn-out}
+use Rattle.soundness_rules.specs.Registers.{sound-out}
+use Rattle.soundness_rules.specs.Places.{latest-acceptable, earlier-sound}
+use Rattle.soundness_rules.specs.Striking.{strike-latest, strike-length, sound-distinct}
 use Rattle.refusals.specs.Refusals.{isAccepted}
-use Rattle.rules.specs.Struck.{strike, struck}
-use Rattle.changes.specs.Changes.{worldIn, standing, sourceLive, worldTests, grantTests, appended, granted, leftOf, Withdrawal, clearResource, names, withdrawn}
-use Rattle.history.specs.History.{grant, step, took, withdraw}
-use Rattle.history.proofs.Calls.{GrantPassed, grant-out, grant-in, granted-register, withdrawn-register, withdrawn-removed}
+use Rattle.soundness_rules.specs.Struck.{strike, struck}
+use Rattle.change_rules.specs.Changes.{worldIn, standing, sourceLive, worldTests, grantTests, appended, granted, unstruck, Withdrawal, clearResource, names, withdrawn}
+use Rattle.history.specs.History.{grant, changed, took, withdraw}
+use Rattle.history.proofs.Changing.{GrantPassed, grant-out, grant-in, granted-register, withdrawn-register, withdrawn-removed}
 use Rattle.history.proofs.Holds.{holds-self, holds-appended, appended-sound, claims-holding}
 
 abbrev pub grantFits : Register → Claim → ℕ → Bool
@@ -72,7 +72,7 @@ grant-exact r c moment shaped = iff-same (isAccepted (granted r c moment .outcom
 
 -- an accepted grant puts the claim behind the others
 pub granted-claims : (r : Register) (c : Claim) (moment : ℕ) → Shaped r → took r (grant c moment) ≡ true
-    → claimsOf (step r (grant c moment) .claims) ≡ claimsOf (r .claims) ++ (c ∷ [])
+    → claimsOf (changed r (grant c moment) .claims) ≡ claimsOf (r .claims) ++ (c ∷ [])
 granted-claims r c moment shaped e =
     let told = grant-out r c moment e in
     let below : r .claims .count < length (r .claims .list) = omega (arith, shaped .claims, ltb-true (r .claims .count) claimLimit (told .room)) in
@@ -134,26 +134,26 @@ struck-resource w o (c ∷ L) h =
 strike-resource : (w : World) (o : ℕ) (L : List Claim) → soundClaims w L ≡ true
     → strike (λ d. d .id) (λ d. d .parent) (λ d. eqb (d .resource) o) L ≡ filter (λ c. not (eqb (c .resource) o)) L
 strike-resource w o L h =
-    trim-same (struck (λ d. d .id) (λ d. d .parent) (λ d. eqb (d .resource) o)) (λ M c. eqb (c .resource) o) L (struck-resource w o L h)
+    dropping-same (struck (λ d. d .id) (λ d. d .parent) (λ d. eqb (d .resource) o)) (λ M c. eqb (c .resource) o) L (struck-resource w o L h)
     ∙ sym (filter-not (λ c. eqb (c .resource) o) L)
 
 -- an accepted withdrawal removes exactly what has something that it names on its chain, itself included, and the rest keep their order
 pub withdraw-removes : (r : Register) (w : Withdrawal) → sound r ≡ true → took r (withdraw w) ≡ true
-    → claimsOf (step r (withdraw w) .claims) ≡ filter (λ c. not (any (names w) (chain (λ d. d .id) (λ d. d .parent) (standing r) (c .id)))) (claimsOf (r .claims))
+    → claimsOf (changed r (withdraw w) .claims) ≡ filter (λ c. not (any (names w) (chain (λ d. d .id) (λ d. d .parent) (standing r) (c .id)))) (claimsOf (r .claims))
 withdraw-removes r w h e =
-    ap (λ s. claimsOf (s .claims)) (withdrawn-register r w e) ∙ claims-holding r (leftOf (names w) r)
+    ap (λ s. claimsOf (s .claims)) (withdrawn-register r w e) ∙ claims-holding r (unstruck (names w) r)
     ∙ strike-latest (λ c. c .id) (λ c. c .parent) (names w) (claimsOf (r .claims)) (sound-distinct (worldIn r) (standing r) (sound-out r h .claims))
 
 -- a clearing of a resource removes just the claims on it: a chain is on one resource
 pub clear-resource-removes : (r : Register) (who o : ℕ) → sound r ≡ true → took r (withdraw (clearResource who o)) ≡ true
-    → claimsOf (step r (withdraw (clearResource who o)) .claims) ≡ filter (λ c. not (eqb (c .resource) o)) (claimsOf (r .claims))
+    → claimsOf (changed r (withdraw (clearResource who o)) .claims) ≡ filter (λ c. not (eqb (c .resource) o)) (claimsOf (r .claims))
 clear-resource-removes r who o h e =
-    ap (λ s. claimsOf (s .claims)) (withdrawn-register r (clearResource who o) e) ∙ claims-holding r (leftOf (λ c. eqb (c .resource) o) r)
+    ap (λ s. claimsOf (s .claims)) (withdrawn-register r (clearResource who o) e) ∙ claims-holding r (unstruck (λ c. eqb (c .resource) o) r)
     ∙ ap latest (strike-resource (worldIn r) o (standing r) (sound-out r h .claims) ∙ filter-reverse (λ c. not (eqb (c .resource) o)) (claimsOf (r .claims)))
     ∙ reverse-reverse (filter (λ c. not (eqb (c .resource) o)) (claimsOf (r .claims)))
 
 -- what a striking takes and what it leaves come to what stood
-pub left-counts : (P : Claim → Bool) (r : Register) → (length (standing r) - length (leftOf P r)) + length (leftOf P r) ≡ length (standing r)
+pub left-counts : (P : Claim → Bool) (r : Register) → (length (standing r) - length (unstruck P r)) + length (unstruck P r) ≡ length (standing r)
 left-counts P r =
     let K : List Claim = strike (λ c. c .id) (λ c. c .parent) P (standing r) in
     let fewer : length K ≤ length (standing r) = strike-length (λ c. c .id) (λ c. c .parent) P (standing r) in
@@ -161,8 +161,8 @@ left-counts P r =
 
 -- an accepted withdrawal says how many went
 pub withdraw-counts : (r : Register) (w : Withdrawal) → took r (withdraw w) ≡ true
-    → withdrawn r w .removed + length (claimsOf (step r (withdraw w) .claims)) ≡ length (claimsOf (r .claims))
+    → withdrawn r w .removed + length (claimsOf (changed r (withdraw w) .claims)) ≡ length (claimsOf (r .claims))
 withdraw-counts r w e =
-    let left : length (claimsOf (step r (withdraw w) .claims)) ≡ length (leftOf (names w) r) =
-    ap (λ s. length (claimsOf (s .claims))) (withdrawn-register r w e) ∙ ap length (claims-holding r (leftOf (names w) r)) in
-    omega (arith, left, withdrawn-removed r w e, left-counts (names w) r, length-reverse (claimsOf (r .claims)))
+    let survivors : length (claimsOf (changed r (withdraw w) .claims)) ≡ length (unstruck (names w) r) =
+    ap (λ s. length (claimsOf (s .claims))) (withdrawn-register r w e) ∙ ap length (claims-holding r (unstruck (names w) r)) in
+    omega (arith, survivors, withdrawn-removed r w e, left-counts (names w) r, length-reverse (claimsOf (r .claims)))

@@ -13,17 +13,17 @@ use Rattle.register.specs.Chain.{chain, numbered}
 use Rattle.register.specs.Laws.{chain-ind, numbered-own, numbered-id}
 use Rattle.register.specs.declared.Claim.{Claim}
 use Rattle.register.specs.declared.Register.{Register}
-use Rattle.rules.specs.Sound.{sound}
-use Rattle.rules.specs.Registers.{sound-out}
-use Rattle.rules.specs.Striking.{Distinct, strike-sound, chain-strike, chain-gone, sound-distinct}
+use Rattle.soundness_rules.specs.Sound.{sound}
+use Rattle.soundness_rules.specs.Registers.{sound-out}
+use Rattle.soundness_rules.specs.Striking.{Distinct, strike-sound, chain-strike, chain-gone, sound-distinct}
 use Rattle.refusals.specs.Refusals.{outcomeOf, isAccepted}
-use Rattle.changes.specs.Changes.{worldIn, standing, revokeTests, Withdrawal, revoke, clearResource, clearExpired, names, clearResourceTests, clearExpiredTests, withdrawn}
+use Rattle.change_rules.specs.Changes.{worldIn, standing, revokeTests, Withdrawal, revoke, clearResource, clearExpired, names, clearResourceTests, clearExpiredTests, withdrawn}
 use Rattle.refusals.specs.Laws.{outcome-pass}
-use Rattle.refusals.specs.declared.Refusal.the-variants.{Unsound, Unknown, ClaimAbsent, NoGrantor}
+use Rattle.refusals.specs.declared.Refusal.the-variants.{Unsound, Absent, NoClaim, NoGrantor}
 use Rattle.refusals.specs.declared.Outcome.{Outcome}
 use Rattle.refusals.specs.declared.Outcome.the-variants.{Accepted, Refused}
 use Rattle.history.specs.History.{took, withdraw}
-use Rattle.history.proofs.Calls.{refused-register, took-sound, withdrawn-register}
+use Rattle.history.proofs.Changing.{refused-register, took-sound, withdrawn-register}
 use Rattle.history.proofs.Holds.{standing-holding, without-sound}
 use Rattle.history.specs.Order.{AcceptedOrBarred, isAbsent, turnsAbsent, takes, SecondTold, loses}
 use Rattle.history.proofs.Withdrawing.{leaving, without, Steady}
@@ -49,7 +49,7 @@ stands-chain = chain-ind (λ c. c .id) (λ c. c .parent) (λ L y H. Distinct (λ
 -- what the four tests of a revocation tell
 abbrev tell : Bool → Bool → Bool → Bool → Outcome
 tell judged known standing granting =
-    cond judged (cond known (cond standing (cond granting Accepted (Refused NoGrantor)) (Refused ClaimAbsent)) (Refused Unknown)) (Refused Unsound)
+    cond judged (cond known (cond standing (cond granting Accepted (Refused NoGrantor)) (Refused NoClaim)) (Refused Absent)) (Refused Unsound)
 
 told-by : (r : Register) (w y : ℕ) → withdrawn r (revoke w y) .outcome
     ≡ tell (sound r) (worldIn r .known w) (stands (standing r) y) (any (λ c. eqb (c .grantor) w) (chainFrom (standing r) y))
@@ -82,7 +82,7 @@ module _ (P : Claim → Bool) (r : Register) (h : sound r ≡ true) where
 
   -- what a revocation is told behind a striking
   revoke-without : (who y : ℕ) → withdrawn (without P r) (revoke who y) .outcome
-      ≡ cond (worldIn r .known who && any P (chainFrom (standing r) y)) (Refused ClaimAbsent) (withdrawn r (revoke who y) .outcome)
+      ≡ cond (worldIn r .known who && any P (chainFrom (standing r) y)) (Refused NoClaim) (withdrawn r (revoke who y) .outcome)
   revoke-without who y =
       told-by (without P r) who y
       ∙ rw (without-sound r P h, standing-holding r (leaving P (standing r)), told-by r who y, h) (
@@ -102,7 +102,7 @@ module _ (P : Claim → Bool) (r : Register) (h : sound r ≡ true) where
   clear-expired-without who moment = outcome-pass _ _ (without-sound r P h) ∙ sym (outcome-pass _ _ h)
 
   -- what a withdrawal is told behind a striking
-  told-without : (w : Withdrawal) → withdrawn (without P r) w .outcome ≡ cond (loses r P w) (Refused ClaimAbsent) (withdrawn r w .outcome)
+  told-without : (w : Withdrawal) → withdrawn (without P r) w .outcome ≡ cond (loses r P w) (Refused NoClaim) (withdrawn r w .outcome)
   told-without (revoke who y) = revoke-without who y
   told-without (clearResource who o) = clear-resource-without who o
   told-without (clearExpired who moment) = clear-expired-without who moment
@@ -119,7 +119,7 @@ steady w = record {
   judges = λ r e. took-sound r w e;
   stays = λ P r h. cases (loses r P w)
       (λ e. inr (lost-none P r h w e))
-      (λ e. inl (ap isAccepted (told-without P r h w ∙ ap (λ b. cond b (Refused ClaimAbsent) (withdrawn r w .outcome)) e)));
+      (λ e. inl (ap isAccepted (told-without P r h w ∙ ap (λ b. cond b (Refused NoClaim) (withdrawn r w .outcome)) e)));
 }
 
 -- the same register in either order
@@ -134,21 +134,21 @@ withdraw-sum r v w = withdrawing.withdraw-sum v w (steady v) (steady w) r
 
 -- the call that comes second is told 17 where the first takes its claim, and otherwise as alone
 second-told : (r : Register) (v w : Withdrawal)
-    → withdrawn (withdrawn r v .register) w .outcome ≡ cond (takes r v w) (Refused ClaimAbsent) (withdrawn r w .outcome)
+    → withdrawn (withdrawn r v .register) w .outcome ≡ cond (takes r v w) (Refused NoClaim) (withdrawn r w .outcome)
 second-told r v w = cases (took r (withdraw v))
     (λ e. ap (λ s. withdrawn s w .outcome) (withdrawn-register r v e)
     ∙ told-without (names v) r (took-sound r v e) w
-    ∙ ap (λ b. cond (b && loses r (names v) w) (Refused ClaimAbsent) (withdrawn r w .outcome)) (sym e))
+    ∙ ap (λ b. cond (b && loses r (names v) w) (Refused NoClaim) (withdrawn r w .outcome)) (sym e))
     (λ e. ap (λ s. withdrawn s w .outcome) (refused-register r (withdraw v) e)
-    ∙ ap (λ b. cond (b && loses r (names v) w) (Refused ClaimAbsent) (withdrawn r w .outcome)) (sym e))
+    ∙ ap (λ b. cond (b && loses r (names v) w) (Refused NoClaim) (withdrawn r w .outcome)) (sym e))
 
 -- where the first takes nothing from it, the second is told as alone
 untaken-told : (r : Register) (v w : Withdrawal) → takes r v w ≡ false → withdrawn (withdrawn r v .register) w .outcome ≡ withdrawn r w .outcome
-untaken-told r v w e = second-told r v w ∙ ap (λ b. cond b (Refused ClaimAbsent) (withdrawn r w .outcome)) e
+untaken-told r v w e = second-told r v w ∙ ap (λ b. cond b (Refused NoClaim) (withdrawn r w .outcome)) e
 
 pub withdraw-second : (r : Register) (v w : Withdrawal) → SecondTold w (withdrawn r w .outcome) (withdrawn (withdrawn r v .register) w .outcome)
 withdraw-second r v (revoke who y) = cases (takes r v (revoke who y))
-    (λ e. inr (second-told r v (revoke who y) ∙ ap (λ b. cond b (Refused ClaimAbsent) (withdrawn r (revoke who y) .outcome)) e))
+    (λ e. inr (second-told r v (revoke who y) ∙ ap (λ b. cond b (Refused NoClaim) (withdrawn r (revoke who y) .outcome)) e))
     (λ e. inl (untaken-told r v (revoke who y) e))
 withdraw-second r v (clearResource who o) = untaken-told r v (clearResource who o) (and-false (took r (withdraw v)))
 withdraw-second r v (clearExpired who moment) = untaken-told r v (clearExpired who moment) (and-false (took r (withdraw v)))

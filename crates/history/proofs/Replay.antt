@@ -8,75 +8,75 @@ use borrow.Author.Tests.{ltb-true, lt-ltb}
 use lib.ListN.{length, length-map}
 use Rattle.lists.specs.Tests.{cases, and-both}
 use Rattle.lists.specs.Each.{all-imp}
-use Rattle.lists.specs.Trims.{trim-none, trim-length, filter-hit, filter-miss, filter-none, filter-reverse}
+use Rattle.lists.specs.Filters.{dropping-none, dropping-length, filter-hit, filter-miss, filter-none, filter-reverse}
 use Rattle.lists.specs.Lists.{All, filter}
 use Rattle.register.specs.Limits.{claimLimit}
 use Rattle.register.specs.Register.{claimsOf, Shaped}
 use Rattle.register.specs.Chain.{latest, chain}
 use Rattle.register.specs.declared.Claim.{Claim}
 use Rattle.register.specs.declared.Register.{Register}
-use Rattle.rules.specs.Sound.{soundClaims, sound}
-use Rattle.rules.specs.Registers.{SoundRegister, sound-out}
-use Rattle.rules.specs.Places.{latest-acceptable, earlier-sound}
-use Rattle.rules.specs.Striking.{strike-length}
-use Rattle.rules.specs.Struck.{strike}
-use Rattle.changes.specs.Changes.{worldIn, standing, holding, Withdrawal, names}
-use Rattle.history.specs.History.{Call, grant, step, took, run, accepts, Entry, Book, claims, remains, started, wrote, kept, book, olds, grants, History, withdraw}
-use Rattle.history.proofs.Calls.{grant-out, grant-in, granted-register, refused-register, withdrawn-register}
-use Rattle.history.proofs.Holds.{Holds, holds-self, holds-appended, holds-holding, holds-same, holds-sound, step-sound, step-shaped}
-use Rattle.history.proofs.Books.{Fine, Kept, After, Timely, chain-claims, strike-claims, remains-grant, kept-grant, started-claims, remains-started, kept-started, remains-withdraw, kept-withdraw}
+use Rattle.soundness_rules.specs.Sound.{soundClaims, sound}
+use Rattle.soundness_rules.specs.Registers.{SoundRegister, sound-out}
+use Rattle.soundness_rules.specs.Places.{latest-acceptable, earlier-sound}
+use Rattle.soundness_rules.specs.Striking.{strike-length}
+use Rattle.soundness_rules.specs.Struck.{strike}
+use Rattle.change_rules.specs.Changes.{worldIn, standing, holding, Withdrawal, names}
+use Rattle.history.specs.History.{Change, grant, changed, took, registerAfter, accepts, Note, Annals, claims, remains, started, wrote, kept, annals, olds, grants, History, withdraw}
+use Rattle.history.proofs.Changing.{grant-out, grant-in, granted-register, refused-register, withdrawn-register}
+use Rattle.history.proofs.Holds.{Holds, holds-self, holds-appended, holds-holding, holds-same, holds-sound, changed-sound, changed-shaped}
+use Rattle.history.proofs.Noting.{Fine, Kept, After, Timely, chain-claims, strike-claims, remains-grant, kept-grant, started-claims, remains-started, kept-started, remains-withdraw, kept-withdraw}
 
-run-nil : (r : Register) → run r [] ≡ r
-unfolding run
-run-nil r = refl
+after-nil : (r : Register) → registerAfter r [] ≡ r
+unfolding registerAfter
+after-nil r = refl
 
-run-snoc : (r : Register) (ks : List Call) (k : Call) → run r (ks ++ (k ∷ [])) ≡ step (run r ks) k
-unfolding run
-run-snoc r [] k = refl
-run-snoc r (j ∷ ks) k = run-snoc (step r j) ks k
+after-snoc : (r : Register) (ks : List Change) (k : Change) → registerAfter r (ks ++ (k ∷ [])) ≡ changed (registerAfter r ks) k
+unfolding registerAfter
+after-snoc r [] k = refl
+after-snoc r (j ∷ ks) k = after-snoc (changed r j) ks k
 
 accepts-nil : (r : Register) → accepts r [] ≡ true
 unfolding accepts
 accepts-nil r = refl
 
-accepts-snoc : (r : Register) (ks : List Call) (k : Call) → accepts r (ks ++ (k ∷ [])) ≡ accepts r ks && took (run r ks) k
-unfolding run accepts
+accepts-snoc : (r : Register) (ks : List Change) (k : Change) → accepts r (ks ++ (k ∷ [])) ≡ accepts r ks && took (registerAfter r ks) k
+unfolding registerAfter accepts
 accepts-snoc r [] k = and-true (took r k)
-accepts-snoc r (j ∷ ks) k = ap (λ b. took r j && b) (accepts-snoc (step r j) ks k) ∙ sym (and-assoc (took r j) (accepts (step r j) ks) (took (run (step r j) ks) k))
+accepts-snoc r (j ∷ ks) k = ap (λ b. took r j && b) (accepts-snoc (changed r j) ks k) ∙ sym (and-assoc (took r j) (accepts (changed r j) ks) (took (registerAfter (changed r j) ks) k))
 
 -- every run leaves a sound register
-pub run-sound : (r : Register) (ks : List Call) → sound r ≡ true → sound (run r ks) ≡ true
-unfolding run
-run-sound r [] h = h
-run-sound r (k ∷ ks) h = run-sound (step r k) ks (step-sound r k h)
+pub after-sound : (r : Register) (ks : List Change) → sound r ≡ true → sound (registerAfter r ks) ≡ true
+unfolding registerAfter
+after-sound r [] h = h
+after-sound r (k ∷ ks) h = after-sound (changed r k) ks (changed-sound r k h)
 
 -- and its shape
-pub run-shaped : (r : Register) (ks : List Call) → Shaped r → Shaped (run r ks)
-unfolding run
-run-shaped r [] h = h
-run-shaped r (k ∷ ks) h = run-shaped (step r k) ks (step-shaped r k h)
+pub after-shaped : (r : Register) (ks : List Change) → Shaped r → Shaped (registerAfter r ks)
+unfolding registerAfter
+after-shaped r [] h = h
+after-shaped r (k ∷ ks) h = after-shaped (changed r k) ks (changed-shaped r k h)
 
 -- in a run from r the register s holds what remains in the book b
-record State (r s : Register) (b : Book) : Type 0 where
+record State (r s : Register) (b : Annals) : Type 0 where
   held : Holds r s (claims (remains b))
   judged : sound s ≡ true
   known : Kept b
 
-held-room : (r s : Register) (b : Book) → State r s b → length (claims (remains b)) ≤ claimLimit
+held-room : (r s : Register) (b : Annals) → State r s b → length (claims (remains b)) ≤ claimLimit
 held-room r s b v = rw (← v .held .count) (sound-out s (v .judged) .limits .claimCount)
 
-state-grant : (r s : Register) (b : Book) (c : Claim) (moment : ℕ) → State r s b → took s (grant c moment) ≡ true → State r (step s (grant c moment)) (wrote b (grant c moment))
+state-grant : (r s : Register) (b : Annals) (c : Claim) (moment : ℕ) → State r s b → took s (grant c moment) ≡ true → State r (changed s (grant c moment)) (wrote b (grant c moment))
 state-grant r s b c moment v e =
     let told = grant-out s c moment e in
     let room : length (claims (remains b)) < claimLimit = rw (← v .held .count) (ltb-true (s .claims .count) claimLimit (told .room)) in
     record {
       held = rw (granted-register s c moment e, remains-grant b c moment (v .known)) (holds-appended r s (claims (remains b)) c (v .held) room);
-      judged = step-sound s (grant c moment) (v .judged);
+      judged = changed-sound s (grant c moment) (v .judged);
       known = kept-grant b c moment (v .known) (told .timely) (rw (v .held .claims) at (told .lives));
     }
 
-state-withdraw : (r s : Register) (b : Book) (w : Withdrawal) → State r s b → took s (withdraw w) ≡ true
-    → State r (step s (withdraw w)) (wrote b (withdraw w))
+state-withdraw : (r s : Register) (b : Annals) (w : Withdrawal) → State r s b → took s (withdraw w) ≡ true
+    → State r (changed s (withdraw w)) (wrote b (withdraw w))
 state-withdraw r s b w v e =
     let K = strike (λ c. c .id) (λ c. c .parent) (names w) (standing s) in
     let same : claims (remains (wrote b (withdraw w))) ≡ K =
@@ -86,21 +86,21 @@ state-withdraw r s b w v e =
     let stood : length (standing s) ≤ claimLimit = rw (v .held .claims) (held-room r s b v) in
     record {
       held = rw (withdrawn-register s w e, same) (holds-holding r s K (v .held .actors) (v .held .resources) (omega (arith, fewer, stood)));
-      judged = step-sound s (withdraw w) (v .judged);
+      judged = changed-sound s (withdraw w) (v .judged);
       known = kept-withdraw b w (v .known);
     }
 
-state-step : (r s : Register) (b : Book) (k : Call) → State r s b → State r (step s k) (cond (took s k) (wrote b k) b)
+state-step : (r s : Register) (b : Annals) (k : Change) → State r s b → State r (changed s k) (cond (took s k) (wrote b k) b)
 state-step r s b k v = cases (took s k) (λ e. rw e (taken k e)) (λ e. rw (e, refused-register s k e) v)
   where
-    taken : (k : Call) → took s k ≡ true → State r (step s k) (wrote b k)
+    taken : (k : Change) → took s k ≡ true → State r (changed s k) (wrote b k)
     taken (grant c moment) e = state-grant r s b c moment v e
     taken (withdraw w) e = state-withdraw r s b w v e
 
-state-run : (r s : Register) (b : Book) (ks : List Call) → State r s b → State r (run s ks) (kept s b ks)
-unfolding run kept
+state-run : (r s : Register) (b : Annals) (ks : List Change) → State r s b → State r (registerAfter s ks) (kept s b ks)
+unfolding registerAfter kept
 state-run r s b [] v = v
-state-run r s b (k ∷ ks) v = state-run r (step s k) (cond (took s k) (wrote b k) b) ks (state-step r s b k v)
+state-run r s b (k ∷ ks) v = state-run r (changed s k) (cond (took s k) (wrote b k) b) ks (state-step r s b k v)
 
 state-start : (r : Register) → Shaped r → sound r ≡ true → State r r (record { all = started (standing r); named = [] })
 state-start r shaped h = record {
@@ -110,27 +110,27 @@ state-start r shaped h = record {
 }
 
 -- the remaining grants again, latest first
-abbrev again : Entry → Call
+abbrev again : Note → Change
 again e = grant (e .claim) (e .clock)
 
-abbrev oldest : List Entry → List Entry
+abbrev oldest : List Note → List Note
 oldest L = filter (λ e. e .old) L
 
-abbrev newest : List Entry → List Entry
+abbrev newest : List Note → List Note
 newest L = filter (λ e. not (e .old)) L
 
 map-latest : {A B : Type 0} (f : A → B) (L : List A) → map f (latest L) ≡ latest (map f L)
 map-latest f [] = refl
 map-latest f (a ∷ L) = ap (map f) (reverse-cons a L) ∙ map-append f (latest L) (a ∷ []) ∙ ap (λ K. K ++ (f a ∷ [])) (map-latest f L) ∙ sym (reverse-cons (f a) (map f L))
 
-olds-latest : (L : List Entry) → olds (latest L) ≡ latest (claims (oldest L))
+olds-latest : (L : List Note) → olds (latest L) ≡ latest (claims (oldest L))
 olds-latest L = ap claims (filter-reverse (λ e. e .old) L) ∙ map-latest (λ e. e .claim) (oldest L)
 
-grants-latest : (L : List Entry) → grants (latest L) ≡ latest (map again (newest L))
+grants-latest : (L : List Note) → grants (latest L) ≡ latest (map again (newest L))
 grants-latest L = ap (map again) (filter-reverse (λ e. not (e .old)) L) ∙ map-latest again (newest L)
 
 -- the next of the remaining grants is accepted, where s holds those before it
-module _ (r s : Register) (sr : SoundRegister r) (e : Entry) (L : List Entry) (held : Holds r s (claims L)) where
+module _ (r s : Register) (sr : SoundRegister r) (e : Note) (L : List Note) (held : Holds r s (claims L)) where
   next-accepted : length (claims L) < claimLimit → soundClaims (worldIn r) (claims (e ∷ L)) ≡ true → Timely e (chain (λ e. e .claim .id) (λ e. e .claim .parent) L (e .claim .parent))
       → took s (again e) ≡ true
   next-accepted room k timely = grant-in s (e .claim) (e .clock) record {
@@ -141,60 +141,60 @@ module _ (r s : Register) (sr : SoundRegister r) (e : Entry) (L : List Entry) (h
     lives = rw (held .claims, chain-claims L (e .claim .parent)) (timely .1);
   }
 
-  next-held : length (claims L) < claimLimit → took s (again e) ≡ true → Holds r (step s (again e)) (claims (e ∷ L))
+  next-held : length (claims L) < claimLimit → took s (again e) ≡ true → Holds r (changed s (again e)) (claims (e ∷ L))
   next-held room accepted = rw (granted-register s (e .claim) (e .clock) accepted) (holds-appended r s (claims L) (e .claim) held room)
 
 -- from a register that holds the remaining claims of the start, the calls are accepted and end in one that holds all that remains
-record Remade (r s : Register) (L : List Entry) (calls : List Call) : Type 0 where
+record Remade (r s : Register) (L : List Note) (calls : List Change) : Type 0 where
   accepted : accepts s calls ≡ true
-  held : Holds r (run s calls) (claims L)
+  held : Holds r (registerAfter s calls) (claims L)
 
-remade-none : (r s : Register) (L : List Entry) → Holds r s (claims L) → Remade r s L []
-remade-none r s L h = record { accepted = accepts-nil s; held = rw (run-nil s) h }
+remade-none : (r s : Register) (L : List Note) → Holds r s (claims L) → Remade r s L []
+remade-none r s L h = record { accepted = accepts-nil s; held = rw (after-nil s) h }
 
-remade-next : (r s : Register) (e : Entry) (L : List Entry) (calls : List Call) → accepts s calls ≡ true → took (run s calls) (again e) ≡ true
-    → Holds r (step (run s calls) (again e)) (claims (e ∷ L)) → Remade r s (e ∷ L) (calls ++ (again e ∷ []))
+remade-next : (r s : Register) (e : Note) (L : List Note) (calls : List Change) → accepts s calls ≡ true → took (registerAfter s calls) (again e) ≡ true
+    → Holds r (changed (registerAfter s calls) (again e)) (claims (e ∷ L)) → Remade r s (e ∷ L) (calls ++ (again e ∷ []))
 remade-next r s e L calls before accepted held = record {
-  accepted = accepts-snoc s calls (again e) ∙ and-both (accepts s calls) (took (run s calls) (again e)) before accepted;
-  held = rw (run-snoc s calls (again e)) held;
+  accepted = accepts-snoc s calls (again e) ∙ and-both (accepts s calls) (took (registerAfter s calls) (again e)) before accepted;
+  held = rw (after-snoc s calls (again e)) held;
 }
 
 -- behind an entry of the start there are only such
-olds-only : (e : Entry) (L : List Entry) → e .old ≡ true → All (After e) L → All (λ (d : Entry). d .old ≡ true) (e ∷ L)
+olds-only : (e : Note) (L : List Note) → e .old ≡ true → All (After e) L → All (λ (d : Note). d .old ≡ true) (e ∷ L)
 olds-only e L o h = (o, all-imp (After e) (λ d. d .old ≡ true) (λ d q. q .1 o) L h)
 
-oldest-all : (L : List Entry) → All (λ (d : Entry). d .old ≡ true) L → oldest L ≡ L
-oldest-all L h = trim-none (λ M (d : Entry). not (d .old)) L (all-imp (λ d. d .old ≡ true) (λ d. not (d .old) ≡ false) (λ d q. ap not q) L h)
+oldest-all : (L : List Note) → All (λ (d : Note). d .old ≡ true) L → oldest L ≡ L
+oldest-all L h = dropping-none (λ M (d : Note). not (d .old)) L (all-imp (λ d. d .old ≡ true) (λ d. not (d .old) ≡ false) (λ d q. ap not q) L h)
 
-newest-none : (L : List Entry) → All (λ (d : Entry). d .old ≡ true) L → latest (map again (newest L)) ≡ []
-newest-none L h = ap (λ K. latest (map again K)) (filter-none (λ (d : Entry). not (d .old)) L
+newest-none : (L : List Note) → All (λ (d : Note). d .old ≡ true) L → latest (map again (newest L)) ≡ []
+newest-none L h = ap (λ K. latest (map again K)) (filter-none (λ (d : Note). not (d .old)) L
     (all-imp (λ d. d .old ≡ true) (λ d. not (d .old) ≡ false) (λ d q. ap not q) L h))
 
-oldest-past : (e : Entry) (L : List Entry) → e .old ≡ false → oldest (e ∷ L) ≡ oldest L
-oldest-past e L o = filter-miss (λ (d : Entry). d .old) e L o
+oldest-past : (e : Note) (L : List Note) → e .old ≡ false → oldest (e ∷ L) ≡ oldest L
+oldest-past e L o = filter-miss (λ (d : Note). d .old) e L o
 
-newest-next : (e : Entry) (L : List Entry) → e .old ≡ false → latest (map again (newest (e ∷ L))) ≡ latest (map again (newest L)) ++ (again e ∷ [])
-newest-next e L o = ap (λ K. latest (map again K)) (filter-hit (λ (d : Entry). not (d .old)) e L (ap not o)) ∙ reverse-cons (again e) (map again (newest L))
+newest-next : (e : Note) (L : List Note) → e .old ≡ false → latest (map again (newest (e ∷ L))) ≡ latest (map again (newest L)) ++ (again e ∷ [])
+newest-next e L o = ap (λ K. latest (map again K)) (filter-hit (λ (d : Note). not (d .old)) e L (ap not o)) ∙ reverse-cons (again e) (map again (newest L))
 
-remade-old : (r s : Register) (L : List Entry) → All (λ (d : Entry). d .old ≡ true) L → Holds r s (claims (oldest L)) → Remade r s L (latest (map again (newest L)))
+remade-old : (r s : Register) (L : List Note) → All (λ (d : Note). d .old ≡ true) L → Holds r s (claims (oldest L)) → Remade r s L (latest (map again (newest L)))
 remade-old r s L olds from = rw (newest-none L olds) (remade-none r s L (rw (oldest-all L olds) at from))
 
-remade : (r s : Register) → SoundRegister r → (L : List Entry) → Fine L → length (claims L) ≤ claimLimit → soundClaims (worldIn r) (claims L) ≡ true
+remade : (r s : Register) → SoundRegister r → (L : List Note) → Fine L → length (claims L) ≤ claimLimit → soundClaims (worldIn r) (claims L) ≡ true
     → Holds r s (claims (oldest L)) → Remade r s L (latest (map again (newest L)))
 remade r s sr [] h room k from = remade-old r s [] tt from
 remade r s sr (e ∷ L) h room k from = cases (e .old) (λ o. remade-old r s (e ∷ L) (olds-only e L o (h .0 .0)) from) (λ o.
     let fewer : length (claims L) < claimLimit = omega (arith, room) in
-    let calls : List Call = latest (map again (newest L)) in
+    let calls : List Change = latest (map again (newest L)) in
     let before : Remade r s L calls =
     remade r s sr L (h .1) (omega (arith, room)) (earlier-sound (worldIn r) (e .claim) (claims L) k) (rw (oldest-past e L o) at from) in
-    let accepted = next-accepted r (run s calls) sr e L (before .held) fewer k (h .0 .1 .0 o) in
-    rw (newest-next e L o) (remade-next r s e L calls (before .accepted) accepted (next-held r (run s calls) sr e L (before .held) fewer accepted)))
+    let accepted = next-accepted r (registerAfter s calls) sr e L (before .held) fewer k (h .0 .1 .0 o) in
+    rw (newest-next e L o) (remade-next r s e L calls (before .accepted) accepted (next-held r (registerAfter s calls) sr e L (before .held) fewer accepted)))
 
 -- the starting claims that remain are not more than fit
-oldest-room : (L : List Entry) → length (claims L) ≤ claimLimit → length (claims (oldest L)) ≤ claimLimit
-oldest-room L room = omega (arith, room, length-map L (λ e. e .claim), length-map (oldest L) (λ e. e .claim), trim-length (λ M (e : Entry). not (e .old)) L)
+oldest-room : (L : List Note) → length (claims L) ≤ claimLimit → length (claims (oldest L)) ≤ claimLimit
+oldest-room L room = omega (arith, room, length-map L (λ e. e .claim), length-map (oldest L) (λ e. e .claim), dropping-length (λ M (e : Note). not (e .old)) L)
 
-again-holds : (r s : Register) → SoundRegister r → (b : Book) → State r s b
+again-holds : (r s : Register) → SoundRegister r → (b : Annals) → State r s b
     → Remade r (holding r (latest (claims (oldest (remains b))))) (remains b) (latest (map again (newest (remains b))))
 again-holds r s sr b v =
     let good = rw (v .held .claims, v .held .actors, v .held .resources) at (sound-out s (v .judged) .claims) in
@@ -202,15 +202,15 @@ again-holds r s sr b v =
     (holds-holding r r (claims (oldest (remains b))) refl refl (oldest-room (remains b) (held-room r s b v)))
 
 -- the theorem
-pub history : (r : Register) → Shaped r → sound r ≡ true → (ks : List Call) → History r ks
+pub history : (r : Register) → Shaped r → sound r ≡ true → (ks : List Change) → History r ks
 history r shaped h ks =
-    let b : Book = book r ks in
-    let v : State r (run r ks) b = state-run r r (record { all = started (standing r); named = [] }) ks (state-start r shaped h) in
-    let made = again-holds r (run r ks) (sound-out r h) b v in
+    let b : Annals = annals r ks in
+    let v : State r (registerAfter r ks) b = state-run r r (record { all = started (standing r); named = [] }) ks (state-start r shaped h) in
+    let made = again-holds r (registerAfter r ks) (sound-out r h) b v in
     record {
       actors = v .held .actors;
       resources = v .held .resources;
-      holds = sym (reverse-reverse (claimsOf (run r ks .claims))) ∙ ap latest (v .held .claims) ∙ sym (map-latest (λ e. e .claim) (remains b));
+      holds = sym (reverse-reverse (claimsOf (registerAfter r ks .claims))) ∙ ap latest (v .held .claims) ∙ sym (map-latest (λ e. e .claim) (remains b));
       again = rw (olds-latest (remains b), grants-latest (remains b)) (made .accepted);
-      same = rw (olds-latest (remains b), grants-latest (remains b)) (holds-same r _ (run r ks) (claims (remains b)) (made .held) (v .held));
+      same = rw (olds-latest (remains b), grants-latest (remains b)) (holds-same r _ (registerAfter r ks) (claims (remains b)) (made .held) (v .held));
     }

@@ -10,33 +10,33 @@ use Rattle.register.specs.Register.{claimsOf, Shaped}
 use Rattle.register.specs.Chain.{above}
 use Rattle.register.specs.declared.Claim.{Claim}
 use Rattle.register.specs.declared.Register.{Register}
-use Rattle.rules.specs.Sound.{sound, fresh}
-use Rattle.changes.specs.Changes.{worldIn, standing, sourceLive, appended, granted, Withdrawal, withdrawn}
-use Rattle.history.specs.History.{Call, grant, step, took, run, History, withdraw}
-use Rattle.history.proofs.Calls as calls
+use Rattle.soundness_rules.specs.Sound.{sound, fresh}
+use Rattle.change_rules.specs.Changes.{worldIn, standing, sourceLive, appended, granted, Withdrawal, withdrawn}
+use Rattle.history.specs.History.{Change, grant, changed, took, registerAfter, History, withdraw}
+use Rattle.history.proofs.Changing as calls
 use Rattle.history.proofs.Holds as holds
 use Rattle.history.proofs.Laws as laws
 use Rattle.history.proofs.Replay as replay
 
 -- 1. From any sound register, whatever the calls: the end is what is left once the withdrawn is struck with all drawn from it, and the grants that are left, made again, end there too.
-pub history : (r : Register) → Shaped r → sound r ≡ true → (ks : List Call) → History r ks
+pub history : (r : Register) → Shaped r → sound r ≡ true → (ks : List Change) → History r ks
 history = replay.history
 
 -- 2a. Every call leaves a sound register.
-pub step-sound : (r : Register) (k : Call) → sound r ≡ true → sound (step r k) ≡ true
-step-sound = holds.step-sound
+pub changed-sound : (r : Register) (k : Change) → sound r ≡ true → sound (changed r k) ≡ true
+changed-sound = holds.changed-sound
 
 -- 2b. So does every run of calls.
-pub run-sound : (r : Register) (ks : List Call) → sound r ≡ true → sound (run r ks) ≡ true
-run-sound = replay.run-sound
+pub after-sound : (r : Register) (ks : List Change) → sound r ≡ true → sound (registerAfter r ks) ≡ true
+after-sound = replay.after-sound
 
 -- 2c. Every call leaves a register its shape.
-pub step-shaped : (r : Register) (k : Call) → Shaped r → Shaped (step r k)
-step-shaped = holds.step-shaped
+pub changed-shaped : (r : Register) (k : Change) → Shaped r → Shaped (changed r k)
+changed-shaped = holds.changed-shaped
 
 -- 2d. So does every run of calls.
-pub run-shaped : (r : Register) (ks : List Call) → Shaped r → Shaped (run r ks)
-run-shaped = replay.run-shaped
+pub after-shaped : (r : Register) (ks : List Change) → Shaped r → Shaped (registerAfter r ks)
+after-shaped = replay.after-shaped
 
 -- 3a. A grant is accepted exactly where the register is sound, the moment is in range, the register with the claim is sound, and the source of a claim that is no root lives.
 pub grant-exact : (r : Register) (c : Claim) (moment : ℕ) → Shaped r
@@ -45,7 +45,7 @@ grant-exact = laws.grant-exact
 
 -- 3b. An accepted grant puts the claim at the end of the claims.
 pub granted-claims : (r : Register) (c : Claim) (moment : ℕ) → Shaped r → took r (grant c moment) ≡ true
-    → claimsOf (step r (grant c moment) .claims) ≡ claimsOf (r .claims) ++ (c ∷ [])
+    → claimsOf (changed r (grant c moment) .claims) ≡ claimsOf (r .claims) ++ (c ∷ [])
 granted-claims = laws.granted-claims
 
 -- 3c. Of the other claims of two sound registers a grant's outcome depends on the chain above it, on whether its id stands and on whether there is room.
@@ -55,7 +55,7 @@ pub grant-looks : (r s : Register) (c : Claim) (moment : ℕ) → sound r ≡ so
 grant-looks = laws.grant-looks
 
 -- 5a. A refused call hands back the register as it came.
-pub refused-register : (r : Register) (k : Call) → took r k ≡ false → step r k ≡ r
+pub refused-register : (r : Register) (k : Change) → took r k ≡ false → changed r k ≡ r
 refused-register = calls.refused-register
 
 -- 5b. A refused withdrawal tells that none went.

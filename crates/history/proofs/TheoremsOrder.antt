@@ -3,7 +3,7 @@ use mathlib.Core.Path.{_≡_}
 use mathlib.Core.Bool.{true}
 use Prim.Native.Nat.{ℕ, _+_}
 use Rattle.register.specs.declared.Register.{Register}
-use Rattle.changes.specs.Changes.{Withdrawal, revoke, withdrawn}
+use Rattle.change_rules.specs.Changes.{Withdrawal, revoke, withdrawn}
 use Rattle.history.specs.Order.{SameOrAbsent, AcceptedOrBarred, turnsAbsent, takes, SecondTold}
 use Rattle.history.proofs.Ordering as ordering
 

@@ -10,10 +10,10 @@ use Rattle.register.specs.Limits.{momentEnd}
 use Rattle.register.specs.Register.{claimsOf, actorsOf}
 use Rattle.register.specs.Chain.{chain, expired}
 use Rattle.register.specs.declared.Register.{Register}
-use Rattle.rules.specs.Sound.{sound, human}
-use Rattle.changes.specs.Changes.{worldIn, standing, Withdrawal, revoke, clearResource, clearExpired, withdrawn}
-use Rattle.history.specs.History.{step, took, withdraw}
-use Rattle.history.proofs.Calls as calls
+use Rattle.soundness_rules.specs.Sound.{sound, human}
+use Rattle.change_rules.specs.Changes.{worldIn, standing, Withdrawal, revoke, clearResource, clearExpired, withdrawn}
+use Rattle.history.specs.History.{changed, took, withdraw}
+use Rattle.history.proofs.Changing as calls
 use Rattle.history.proofs.Laws as laws
 
 -- 4a. A revocation is accepted exactly where the register is sound, the revoker is known, the claim stands and the revoker is a grantor on its chain.
@@ -24,7 +24,7 @@ revoke-exact = calls.revoke-accepted
 
 -- 4b. An accepted revocation removes exactly the claims with the named one on their chain, itself included, and the others keep their order.
 pub revoke-removes : (r : Register) (who x : ℕ) → sound r ≡ true → took r (withdraw (revoke who x)) ≡ true
-    → claimsOf (step r (withdraw (revoke who x)) .claims) ≡ filter (λ c. not (any (λ d. eqb (d .id) x) (chain (λ d. d .id) (λ d. d .parent) (standing r) (c .id)))) (claimsOf (r .claims))
+    → claimsOf (changed r (withdraw (revoke who x)) .claims) ≡ filter (λ c. not (any (λ d. eqb (d .id) x) (chain (λ d. d .id) (λ d. d .parent) (standing r) (c .id)))) (claimsOf (r .claims))
 revoke-removes r who x = laws.withdraw-removes r (revoke who x)
 
 -- 4c. A clearing of a resource is accepted exactly where the register is sound, the caller is known, the resource stands and the caller keeps it.
@@ -34,7 +34,7 @@ clear-resource-exact = calls.clear-resource-accepted
 
 -- 4d. It removes exactly the claims on that resource, and the others keep their order.
 pub clear-resource-removes : (r : Register) (who o : ℕ) → sound r ≡ true → took r (withdraw (clearResource who o)) ≡ true
-    → claimsOf (step r (withdraw (clearResource who o)) .claims) ≡ filter (λ c. not (eqb (c .resource) o)) (claimsOf (r .claims))
+    → claimsOf (changed r (withdraw (clearResource who o)) .claims) ≡ filter (λ c. not (eqb (c .resource) o)) (claimsOf (r .claims))
 clear-resource-removes = laws.clear-resource-removes
 
 -- 4e. A clearing of old claims is accepted exactly where the register is sound, the moment is in range, the caller is known and human.
@@ -44,10 +44,10 @@ clear-expired-exact = calls.clear-expired-accepted
 
 -- 4f. It removes exactly the claims with one on their chain that has expired at the moment, themselves included, and the others keep their order.
 pub clear-expired-removes : (r : Register) (who moment : ℕ) → sound r ≡ true → took r (withdraw (clearExpired who moment)) ≡ true
-    → claimsOf (step r (withdraw (clearExpired who moment)) .claims) ≡ filter (λ c. not (any (expired moment) (chain (λ d. d .id) (λ d. d .parent) (standing r) (c .id)))) (claimsOf (r .claims))
+    → claimsOf (changed r (withdraw (clearExpired who moment)) .claims) ≡ filter (λ c. not (any (expired moment) (chain (λ d. d .id) (λ d. d .parent) (standing r) (c .id)))) (claimsOf (r .claims))
 clear-expired-removes r who moment = laws.withdraw-removes r (clearExpired who moment)
 
 -- 4g. An accepted withdrawal tells how many went.
 pub withdraw-counts : (r : Register) (w : Withdrawal) → took r (withdraw w) ≡ true
-    → withdrawn r w .removed + length (claimsOf (step r (withdraw w) .claims)) ≡ length (claimsOf (r .claims))
+    → withdrawn r w .removed + length (claimsOf (changed r (withdraw w) .claims)) ≡ length (claimsOf (r .claims))
 withdraw-counts = laws.withdraw-counts

@@ -14,11 +14,11 @@ use Rattle.register.specs.Register.{claimsOf}
 use Rattle.register.specs.Chain.{latest}
 use Rattle.register.specs.declared.Claim.{Claim}
 use Rattle.register.specs.declared.Register.{Register}
-use Rattle.rules.specs.Sound.{sound}
-use Rattle.rules.specs.Striking.{strike-none, strike-same, strike-strike}
-use Rattle.changes.specs.Changes.{standing, leftOf, holding, Withdrawal, names, withdrawn}
+use Rattle.soundness_rules.specs.Sound.{sound}
+use Rattle.soundness_rules.specs.Striking.{strike-none, strike-same, strike-strike}
+use Rattle.change_rules.specs.Changes.{standing, unstruck, holding, Withdrawal, names, withdrawn}
 use Rattle.history.specs.History.{withdraw, took}
-use Rattle.rules.specs.Struck.{strike}
+use Rattle.soundness_rules.specs.Struck.{strike}
 use Rattle.history.proofs.Holds.{claims-holding, standing-holding}
 use Rattle.history.proofs.Laws.{left-counts}
 
@@ -30,14 +30,14 @@ abbrev pub leaving : (Claim → Bool) → List Claim → List Claim
 leaving P L = strike (λ c. c .id) (λ c. c .parent) P L
 
 abbrev pub without : (Claim → Bool) → Register → Register
-without P r = holding r (leftOf P r)
+without P r = holding r (unstruck P r)
 
 -- the register that a withdrawal hands back, and how many it removes
 abbrev pub after : Withdrawal → Register → Register
 after k r = cond (accepted k r) (without (names k) r) r
 
 abbrev pub went : Withdrawal → Register → ℕ
-went k r = cond (accepted k r) (length (standing r) - length (leftOf (names k) r)) 0
+went k r = cond (accepted k r) (length (standing r) - length (unstruck (names k) r)) 0
 
 withdrawn-after : (r : Register) (k : Withdrawal) → withdrawn r k .register ≡ after k r
 unfolding withdrawn
@@ -108,9 +108,9 @@ either-order k l steady other r =
 went-counts : (k : Withdrawal) (r : Register) → went k r + length (standing (after k r)) ≡ length (standing r)
 went-counts k r = cases (accepted k r)
     (λ e. rw e (
-    let left : length (standing (without (names k) r)) ≡ length (leftOf (names k) r) =
-    length-reverse (claimsOf (without (names k) r .claims)) ∙ ap length (claims-holding r (leftOf (names k) r)) in
-    omega (arith, left, left-counts (names k) r)))
+    let survivors : length (standing (without (names k) r)) ≡ length (unstruck (names k) r) =
+    length-reverse (claimsOf (without (names k) r .claims)) ∙ ap length (claims-holding r (unstruck (names k) r)) in
+    omega (arith, survivors, left-counts (names k) r)))
     (λ e. rw e (omega arith))
 
 either-sum : (k l : Withdrawal) → Steady k → Steady l → (r : Register) → went k r + went l (after k r) ≡ went l r + went k (after l r)

@@ -8,15 +8,15 @@ use Rattle.register.specs.Chain.{chain}
 use Rattle.register.specs.declared.Claim.{Claim}
 use Rattle.register.specs.declared.Register.{Register}
 use Rattle.refusals.specs.Refusals.{numberOf}
-use Rattle.changes.specs.Changes.{worldIn, standing, Withdrawal, revoke, clearResource, clearExpired, names}
-use Rattle.refusals.specs.declared.Refusal.the-variants.{ClaimAbsent, NoGrantor}
+use Rattle.change_rules.specs.Changes.{worldIn, standing, Withdrawal, revoke, clearResource, clearExpired, names}
+use Rattle.refusals.specs.declared.Refusal.the-variants.{NoClaim, NoGrantor}
 use Rattle.refusals.specs.declared.Outcome.{Outcome}
 use Rattle.refusals.specs.declared.Outcome.the-variants.{Accepted, Refused}
 use Rattle.history.specs.History.{took, withdraw}
 
 -- told the same, or 17
 abbrev pub SameOrAbsent : Outcome → Outcome → Type 0
-SameOrAbsent alone second = (second ≡ alone) ⊎ (second ≡ Refused ClaimAbsent)
+SameOrAbsent alone second = (second ≡ alone) ⊎ (second ≡ Refused NoClaim)
 
 -- what a withdrawal that comes second is told: as alone, or, a revocation only, 17
 abbrev pub SecondTold : Withdrawal → Outcome → Outcome → Type 0
@@ -31,7 +31,7 @@ AcceptedOrBarred alone = (alone ≡ Accepted) ⊎ (alone ≡ Refused NoGrantor)
 -- whether an outcome is 17
 abbrev pub isAbsent : Outcome → Bool
 isAbsent Accepted = false
-isAbsent (Refused why) = eqb (numberOf why) (numberOf ClaimAbsent)
+isAbsent (Refused why) = eqb (numberOf why) (numberOf NoClaim)
 
 -- whether a call that would not be told 17 alone is told 17 when it comes second
 abbrev pub turnsAbsent : Outcome → Outcome → Bool

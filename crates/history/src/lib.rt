@@ -1,1 +1,2 @@
-// What any grants and revocations come to: definitions and the theorem, in specs/. Nothing to run.
+// What any grants and withdrawals come to: the history theorem, and the order of withdrawals.
+// Nothing to run.

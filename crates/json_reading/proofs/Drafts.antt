@@ -11,12 +11,11 @@ use lib.Seq.{getD-set-same, getD-set-other}
 use Rattle.lists.specs.Tests.{cases}
 use Rattle.lists.specs.Lists.{any, All}
 use Rattle.lists.specs.Each.{all-both, all-append, none-all, any-map, any-append}
-use Rattle.rules.specs.Registers.{distinct-nil}
-use Rattle.rules.specs.Distinct.{distinct-last}
+use Rattle.lists.specs.Distinct.{distinct-nil, distinct-last}
 use Rattle.actions.specs.Actions.{useLimit}
-use Rattle.json_actions.specs.Names.{readPlace, executePlace}
-use Rattle.json_actions.specs.Members.{Member, Value}
-use Rattle.json_actions.specs.Items.{keyCount}
+use Rattle.json_rules.specs.Names.{readPlace, executePlace}
+use Rattle.json_rules.specs.Members.{Member, Value}
+use Rattle.json_rules.specs.Items.{keyCount}
 use Rattle.json_reading.specs.Answers.{Apart, keysOf, HoldsValue, KeptMembers}
 
 -- a key's value is as it was where the array changed at another key

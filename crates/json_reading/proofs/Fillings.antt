@@ -11,8 +11,8 @@ use Rattle.lists.specs.Fills.{put-first}
 use Rattle.lists.specs.Tests.{cases, clash}
 use Rattle.lists.specs.Counts.{every-counted-sound, every-counted-complete}
 use Rattle.actions.specs.Actions.{noUse, useLimit}
-use Rattle.json_actions.specs.Names.{readPlace, writePlace, executePlace, domainPlace}
-use Rattle.json_actions.specs.Actions.{usedWith}
+use Rattle.json_rules.specs.Names.{readPlace, writePlace, executePlace, domainPlace}
+use Rattle.json_rules.specs.Actions.{usedWith}
 use Rattle.json_reading.specs.Answers.{blockOf, listRoom, draftFull, usesTaken}
 
 -- the first seven keys are seen where each of them is, and are not where one of them is not

@@ -9,18 +9,17 @@ use lib.Dec.{eqb, ltb}
 use lib.ListN.{drop, getD, set, replicate}
 use Rattle.lists.specs.Tests.{cases}
 use Rattle.lists.specs.Each.{any-map}
-use Rattle.lists.specs.Lists.{counted}
-use Rattle.rules.specs.Sound.{distinct}
-use Rattle.rules.specs.Distinct.{distinct-again}
+use Rattle.lists.specs.Lists.{counted, distinct}
+use Rattle.lists.specs.Distinct.{distinct-again}
 use Rattle.actions.specs.Actions.{flagCount}
 use Rattle.json_tokens.specs.Tokens.{Token, mark, text, noToken, colon, closesObject, opensObject, trueMark, falseMark, tokens}
-use Rattle.json_actions.specs.Names.{flagNames, placeOf}
-use Rattle.json_actions.specs.Members.{Setting, Taken, missed, ledBy, separated, items, anyItems, takeText, takeWord, takeSet, takeSetting, takeSettings, amongAll, isFullSet, taking}
-use Rattle.json_actions.specs.Items.{items-step, setting-shrinks, taken-cases, prefixed, prefixed-nil, prefixed-led}
-use Rattle.json_reading.specs.declared.SettingAt.{SettingAt}
-use Rattle.json_reading.specs.declared.SettingAt.the-variants.{Is, Not as NoSetting}
-use Rattle.json_reading.specs.declared.Settings.{Settings}
-use Rattle.json_reading.specs.declared.Settings.the-variants.{Are, Not}
+use Rattle.json_rules.specs.Names.{flagNames, placeOf}
+use Rattle.json_rules.specs.Members.{Setting, Taken, missed, ledBy, separated, items, anyItems, takeText, takeWord, takeSet, takeSetting, takeSettings, amongAll, isFullSet, taking}
+use Rattle.json_rules.specs.Items.{items-step, setting-shrinks, taken-cases, prefixed, prefixed-nil, prefixed-led}
+use Rattle.json_reading.specs.declared.settings.SettingAt.{SettingAt}
+use Rattle.json_reading.specs.declared.settings.SettingAt.the-variants.{Is, Not as NoSetting}
+use Rattle.json_reading.specs.declared.settings.Settings.{Settings}
+use Rattle.json_reading.specs.declared.settings.Settings.the-variants.{Are, Not}
 use Rattle.json_reading.proofs.Laws.{past-unmarked, continued, separated-natural, separated-more, separated-done, separated-broken, items-missed}
 use Rattle.json_reading.specs.Answers.{Behind, Separation, more, noMore, broken, separation, isMarked, SettingSays, flagsFound, fullSet, SettingsSays}
 use Rattle.json_reading.proofs.Flags.{isAmong, Noted, noted-none, noted-more, noted-answer}

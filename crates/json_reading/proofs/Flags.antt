@@ -11,17 +11,15 @@ use lib.Dec.{eqb}
 use lib.ListN.{length, drop, getD, set, replicate, getD-replicate, length-set}
 use lib.Seq.{getD-set-same, getD-set-other}
 use Rattle.lists.specs.Tests.{cases, clash, and-left, iff-same}
-use Rattle.lists.specs.Lists.{any, every, counted}
+use Rattle.lists.specs.Lists.{any, every, counted, distinct}
 use Rattle.lists.specs.Each.{any-map, none-weaken, any-append}
 use Rattle.lists.specs.Counts.{every-counted-sound, every-counted-complete}
-use Rattle.rules.specs.Sound.{distinct}
-use Rattle.rules.specs.Registers.{distinct-nil}
-use Rattle.rules.specs.Distinct.{distinct-last}
+use Rattle.lists.specs.Distinct.{distinct-nil, distinct-last}
 use Rattle.actions.specs.Actions.{flagCount}
 use Rattle.json_tokens.specs.Tokens.{tokens}
-use Rattle.json_actions.specs.Members.{Setting, amongAll, isFullSet, taking}
-use Rattle.json_actions.specs.Actions.{setAmong, flagsBelow}
-use Rattle.json_reading.specs.declared.Settings.the-variants.{Are, Not}
+use Rattle.json_rules.specs.Members.{Setting, amongAll, isFullSet, taking}
+use Rattle.json_rules.specs.Actions.{setAmong, flagsBelow}
+use Rattle.json_reading.specs.declared.settings.Settings.the-variants.{Are, Not}
 use Rattle.json_reading.specs.Answers.{Behind, flagsIn, flagsFound, fullSet, SettingsSays}
 
 -- The flags as a number.

@@ -6,8 +6,8 @@ use native.Mathlib.Omega.{arith}
 use borrow.Author.Tests.{ne-eqb, eqb-true, eqb-false, leb-true, leb-false}
 use lib.Dec.{eqb, leb}
 use Rattle.lists.specs.Tests.{cases, and-left, and-right, or-left, or-right, or-other}
-use Rattle.json_actions.specs.Names.{idPlace, actorPlace, kindPlace, readPlace, executePlace, flagsPlace, domainPlace, depthPlace}
-use Rattle.json_actions.specs.Items.{keyCount}
+use Rattle.json_rules.specs.Names.{idPlace, actorPlace, kindPlace, readPlace, executePlace, flagsPlace, domainPlace, depthPlace}
+use Rattle.json_rules.specs.Items.{keyCount}
 use Rattle.json_reading.specs.Answers.{isTextKey, isFigureKey}
 
 -- the keys whose number is kept

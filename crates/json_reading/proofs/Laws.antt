@@ -8,8 +8,8 @@ use lib.Dec.{eqb}
 use borrow.Author.Tests.{eq-eqb, ne-eqb}
 use Rattle.lists.specs.Tests.{cases}
 use Rattle.json_tokens.specs.Tokens.{Token, mark, text, noToken, comma}
-use Rattle.json_actions.specs.Members.{Taken, taking, missed, past, ledBy, separated, further, items, anyItems, takeNumber}
-use Rattle.json_actions.specs.Items.{Shrinks, items-step, taken-cases, prefixed, prefixed-led}
+use Rattle.json_rules.specs.Members.{Taken, taking, missed, past, ledBy, separated, further, items, anyItems, takeNumber}
+use Rattle.json_rules.specs.Items.{Shrinks, items-step, taken-cases, prefixed, prefixed-led}
 use Rattle.json_reading.specs.Answers.{Separation, more, noMore, broken, separation, isMarked}
 
 -- what stands behind a mark

@@ -8,17 +8,16 @@ use lib.ListN.{length, drop, set, drop-of-length-le, length-append, length-set}
 use lib.Seq.{drop-cons}
 use borrow.Author.Tests.{le-leb, lt-leb}
 use Rattle.lists.specs.Splices.{splice-nil, splice-snoc}
-use Rattle.lists.specs.Lists.{splice}
-use Rattle.paths.specs.Containment.{same}
+use Rattle.lists.specs.Lists.{splice, same}
 use Rattle.register.specs.Limits.{idLimit}
 use Rattle.decimals.specs.Decimals.{Parsed, got, parse}
 use Rattle.actions.specs.Actions.{useLimit}
 use Rattle.json_tokens.specs.Tokens.{Token, mark, text, opensList, closesList, tokens}
-use Rattle.json_actions.specs.Names.{placeOf}
-use Rattle.json_actions.specs.Members.{Taken, taking, missed, past, isExact, exactOf, takeNumber, takeNumbers, ledBy, further, items, anyItems}
-use Rattle.json_actions.specs.Items.{taken-cases, missed-took, items-step, number-shrinks, prefixed, prefixed-nil}
-use Rattle.json_reading.specs.declared.Numbers.{Numbers}
-use Rattle.json_reading.specs.declared.Numbers.the-variants.{Are, Not}
+use Rattle.json_rules.specs.Names.{placeOf}
+use Rattle.json_rules.specs.Members.{Taken, taking, missed, past, isExact, exactOf, takeNumber, takeNumbers, ledBy, further, items, anyItems}
+use Rattle.json_rules.specs.Items.{taken-cases, missed-took, items-step, number-shrinks, prefixed, prefixed-nil}
+use Rattle.json_reading.specs.declared.numbers.Numbers.{Numbers}
+use Rattle.json_reading.specs.declared.numbers.Numbers.the-variants.{Are, Not}
 use Rattle.json_reading.specs.Answers.{Behind, Separation, more, noMore, broken, separation, isMarked, limited, NumbersSays}
 use Rattle.json_reading.proofs.Laws.{past-marked, past-unmarked, continued, separated-natural, items-missed, items-more, items-done, items-broken, any-items-none, any-items-some, number-noToken}
 

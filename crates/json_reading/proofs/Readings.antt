@@ -9,22 +9,21 @@ use lib.Dec.{eqb, leb}
 use lib.ListN.{length, take, drop, getD, replicate, length-append, length-map, length-drop}
 use lib.Seq.{length-take-le}
 use Rattle.lists.specs.Tests.{cases, clash, or-other, iff-same}
-use Rattle.lists.specs.Lists.{any, All, counted}
+use Rattle.lists.specs.Lists.{any, All, counted, distinct}
 use Rattle.lists.specs.Counts.{every-counted-sound, every-counted-complete}
+use Rattle.lists.specs.Distinct.{distinct-nil}
 use Rattle.register.specs.Limits.{momentEnd}
-use Rattle.rules.specs.Sound.{distinct}
-use Rattle.rules.specs.Registers.{distinct-nil}
 use Rattle.actions.specs.Actions.{useLimit, governLimit}
 use Rattle.actions.specs.declared.Usage.{Usage}
 use Rattle.refusals.specs.declared.Outcome.the-variants.{Accepted}
-use Rattle.refusals.specs.declared.Refusal.the-variants.{OutOfRange, BadJson}
+use Rattle.refusals.specs.declared.Refusal.the-variants.{Range, JsonForm}
 use Rattle.json_tokens.specs.Tokens.{Token, tokens}
-use Rattle.json_actions.specs.Names.{idPlace, actorPlace, kindPlace, readPlace, writePlace, executePlace, flagsPlace, domainPlace}
-use Rattle.json_actions.specs.Members.{Member, Value, Taken, missed, membersOf, amongAll, idLength, taking}
-use Rattle.json_actions.specs.Actions.{usesIn, isFull, actionIn, heldId, unread, readWhole, readMembers, jsonRead, memberValue}
-use Rattle.json_actions.specs.declared.JsonRead.{JsonRead}
+use Rattle.json_rules.specs.Names.{idPlace, actorPlace, kindPlace, readPlace, writePlace, executePlace, flagsPlace, domainPlace}
+use Rattle.json_rules.specs.Members.{Member, Value, Taken, missed, membersOf, amongAll, idLength, taking}
+use Rattle.json_rules.specs.Actions.{usesIn, isFull, actionIn, heldId, unread, readWhole, readMembers, jsonRead, memberValue}
+use Rattle.json_rules.specs.declared.JsonRead.{JsonRead}
 use Rattle.json_reading.specs.Answers.{blockOf, listRoom, keysOf, admittedWhole, Drafted, draftFull, usesTaken, usesFrom, HoldsValue, KeptMembers}
-use Rattle.json_reading.specs.declared.Draft.{Draft}
+use Rattle.json_reading.specs.declared.members.Draft.{Draft}
 use Rattle.json_reading.proofs.Wholes.{Whole}
 
 -- what is said of each member is said of what a key among them holds
@@ -128,7 +127,7 @@ module _ {s numbers : List ℕ} {ms : List Member} {seen : List Bool} {figures f
       (leb (reads + writes + executes) useLimit) (kept .once) (sym seen-among) (λ full. rw (uses-length full))
 
 -- a clock out of range
-pub json-late : (t : List ℕ) (moment : ℕ) → momentEnd ≤ moment → jsonRead t moment ≡ unread OutOfRange
+pub json-late : (t : List ℕ) (moment : ℕ) → momentEnd ≤ moment → jsonRead t moment ≡ unread Range
 unfolding jsonRead
 json-late t moment late = rw (le-ltb moment momentEnd late)
 
@@ -137,7 +136,7 @@ unfolding jsonRead
 json-timely t moment timely = rw (lt-ltb moment momentEnd timely)
 
 -- an object that is not admitted
-unadmitted : (moment : ℕ) (p : Taken (List Member)) → admittedWhole p ≡ false → readMembers moment p ≡ unread BadJson
+unadmitted : (moment : ℕ) (p : Taken (List Member)) → admittedWhole p ≡ false → readMembers moment p ≡ unread JsonForm
 unfolding isFull
 unadmitted moment (taking [] ts) e = rw distinct-nil
 unadmitted moment (taking (m ∷ ms) ts) e = rw e
@@ -156,7 +155,7 @@ whole-admitted {d = d} missed h whole = clash (d .ok) whole (h .0)
 
 module _ {t : List ℕ} {moment : ℕ} (timely : moment < momentEnd) {numbers : List ℕ} {d : Draft} where
   -- an object that is not admitted
-  pub json-unadmitted : Whole t numbers d (membersOf (tokens t)) → d .ok ≡ false → jsonRead t moment ≡ unread BadJson
+  pub json-unadmitted : Whole t numbers d (membersOf (tokens t)) → d .ok ≡ false → jsonRead t moment ≡ unread JsonForm
   json-unadmitted h failed = json-timely t moment timely ∙ unadmitted moment (membersOf (tokens t)) (sym (h .0) ∙ failed)
 
   module _ (a : Admitted t numbers d (membersOf (tokens t))) (room : length numbers ≡ listRoom) where
@@ -167,7 +166,7 @@ module _ {t : List ℕ} {moment : ℕ} (timely : moment < momentEnd) {numbers : 
     full-told b e = full-natural (a .drafted .kept) room ∙ e
 
     -- a key is missing, or there are too many uses
-    pub json-partial : membersFull ≡ false → jsonRead t moment ≡ unread BadJson
+    pub json-partial : membersFull ≡ false → jsonRead t moment ≡ unread JsonForm
     json-partial e = json-timely t moment timely ∙ rw (a .taken, full-told false e)
 
     pub json-whole : membersFull ≡ true → jsonRead t moment ≡ readWhole moment (a .members)

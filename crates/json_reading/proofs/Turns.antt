@@ -9,14 +9,14 @@ use lib.Dec.{eqb}
 use lib.ListN.{length, drop, getD, set, replicate}
 use Rattle.lists.specs.Tests.{cases, clash}
 use Rattle.lists.specs.Lists.{any}
-use Rattle.rules.specs.Distinct.{distinct-again}
+use Rattle.lists.specs.Distinct.{distinct-again}
 use Rattle.json_tokens.specs.Tokens.{Token, mark, text, noToken, colon, closesObject, tokens}
-use Rattle.json_actions.specs.Names.{keyNames, placeOf}
-use Rattle.json_actions.specs.Members.{Member, Value, Taken, missed, past, named, takeText, ledBy, further, items, takeValue, takeHeld, takeMember, taking}
-use Rattle.json_actions.specs.Items.{taken-cases, missed-took, items-step, member-shrinks, prefixed, prefixed-nil, prefixed-led, keyCount}
+use Rattle.json_rules.specs.Names.{keyNames, placeOf}
+use Rattle.json_rules.specs.Members.{Member, Value, Taken, missed, past, named, takeText, ledBy, further, items, takeValue, takeHeld, takeMember, taking}
+use Rattle.json_rules.specs.Items.{taken-cases, missed-took, items-step, member-shrinks, prefixed, prefixed-nil, prefixed-led, keyCount}
 use Rattle.json_reading.specs.Answers.{Separation, more, noMore, broken, separation, keyOf, listRoom, Apart, keysOf, DraftSays, admitted, Behind, HeldSays, HoldsValue, KeptMembers}
-use Rattle.json_reading.specs.declared.Held.{Held}
-use Rattle.json_reading.specs.declared.Draft.{Draft}
+use Rattle.json_reading.specs.declared.held.Held.{Held}
+use Rattle.json_reading.specs.declared.members.Draft.{Draft}
 use Rattle.json_reading.proofs.Laws.{continued, separated-natural}
 use Rattle.json_reading.proofs.Drafts.{Placed, kept-none, kept-next, placed-next}
 

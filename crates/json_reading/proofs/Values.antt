@@ -8,16 +8,15 @@ use borrow.Author.Tests.{eqb-true, eqb-false, leb-true, lt-ltb, le-ltb, ltb-true
 use lib.Dec.{eqb, leb, ltb}
 use lib.ListN.{length, take, drop}
 use Rattle.lists.specs.Tests.{cases, and-left}
-use Rattle.lists.specs.Lists.{every, splice}
+use Rattle.lists.specs.Lists.{every, splice, same}
 use Rattle.lists.specs.Splices.{splice-part, splice-behind, splice-before}
-use Rattle.paths.specs.Containment.{same}
 use Rattle.rights.specs.Rights.{rightCount}
 use Rattle.actions.specs.Actions.{useLimit}
 use Rattle.json_tokens.specs.Tokens.{Token, mark, text, noToken, colon, zeroMark, tokens}
-use Rattle.json_actions.specs.Names.{keyNames, kindNames, defaultDomain, placeOf, idPlace, actorPlace, kindPlace, readPlace, writePlace, executePlace, flagsPlace, domainPlace, depthPlace}
-use Rattle.json_actions.specs.Members.{Setting, Value, letters, figure, figures, settings, Taken, missed, made, named, takeText, takeNumber, takeNumbers, takeSettings, takeZero, takeValue, isIdByte, isIdText, idLength, taking}
-use Rattle.json_actions.specs.Actions.{asLetters, asFigure, asFigures, asSettings, flagsOf}
-use Rattle.json_reading.specs.declared.Held.{Held}
+use Rattle.json_rules.specs.Names.{keyNames, kindNames, defaultDomain, placeOf, idPlace, actorPlace, kindPlace, readPlace, writePlace, executePlace, flagsPlace, domainPlace, depthPlace}
+use Rattle.json_rules.specs.Members.{Setting, Value, letters, figure, figures, settings, Taken, missed, made, named, takeText, takeNumber, takeNumbers, takeSettings, takeZero, takeValue, isIdByte, isIdText, idLength, taking}
+use Rattle.json_rules.specs.Actions.{asLetters, asFigure, asFigures, asSettings, flagsOf}
+use Rattle.json_reading.specs.declared.held.Held.{Held}
 use Rattle.json_reading.specs.Answers.{Behind, isMarked, keyOf, isTextKey, blockOf, listRoom, limited, heldWhole, HeldSays, HeldAnyway, Apart, HoldsValue}
 use Rattle.json_reading.proofs.Laws.{past-unmarked}
 use Rattle.json_reading.proofs.Keys.{single-key, domain-last}

@@ -8,10 +8,10 @@ use lib.ListN.{drop}
 use Rattle.lists.specs.Tests.{cases, clash}
 use Rattle.lists.specs.Each.{cons-clash}
 use Rattle.json_tokens.specs.Tokens.{Token, mark, text, noToken, opensObject, closesObject, tokens}
-use Rattle.json_actions.specs.Members.{Member, Taken, taking, missed, past, ledBy, anyItems, takeMember, sole, membersOf}
-use Rattle.json_actions.specs.Items.{taken-cases, missed-took}
+use Rattle.json_rules.specs.Members.{Member, Taken, taking, missed, past, ledBy, anyItems, takeMember, sole, membersOf}
+use Rattle.json_rules.specs.Items.{taken-cases, missed-took}
 use Rattle.json_reading.specs.Answers.{isMarked, admitted, admittedWhole, DraftSays}
-use Rattle.json_reading.specs.declared.Draft.{Draft}
+use Rattle.json_reading.specs.declared.members.Draft.{Draft}
 use Rattle.json_reading.proofs.Turns.{membersIn, members-missed, members-led, Answered}
 
 -- the members of an object, or none

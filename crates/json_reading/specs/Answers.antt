@@ -6,34 +6,33 @@ use mathlib.Core.List.{List, [], _∷_, _++_, map}
 use mathlib.Core.Bool.{Bool, true, false, cond, _||_}
 use lib.Dec.{eqb, leb}
 use lib.ListN.{length, take, drop, getD, replicate}
-use Rattle.lists.specs.Lists.{any, every, All, counted, splice}
-use Rattle.rules.specs.Sound.{distinct}
+use Rattle.lists.specs.Lists.{any, every, All, counted, splice, distinct}
 use Rattle.decimals.specs.Decimals.{Parsed}
 use Rattle.actions.specs.Actions.{noUse, useLimit, flagCount}
 use Rattle.actions.specs.declared.Usage.{Usage}
 use Rattle.json_tokens.specs.Tokens.{Token, mark, text, noToken, comma, tokens}
-use Rattle.json_actions.specs.Names.{keyNames, idPlace, actorPlace, kindPlace, readPlace, writePlace, executePlace, flagsPlace, domainPlace, depthPlace}
-use Rattle.json_actions.specs.Members.{Setting, Value, Member, Taken, taking, missed, made, named, takeText, isExact, exactOf, isFullSet, idLength}
-use Rattle.json_actions.specs.Actions.{asLetters, asFigure, asFigures, asSettings, flagsOf, usedWith}
-use Rattle.json_actions.specs.Items.{keyCount}
-use Rattle.json_reading.specs.declared.Exact.{Exact}
-use Rattle.json_reading.specs.declared.Exact.the-variants.{Is, Not}
-use Rattle.json_reading.specs.declared.NumberAt.{NumberAt}
-use Rattle.json_reading.specs.declared.NumberAt.the-variants.{Is as NumberIs, Not as NoNumber}
-use Rattle.json_reading.specs.declared.Separator.{Separator}
-use Rattle.json_reading.specs.declared.Separator.the-variants.{More, Done, Broken}
-use Rattle.json_reading.specs.declared.Passed.{Passed}
-use Rattle.json_reading.specs.declared.Passed.the-variants.{At, Not as NotPassed}
-use Rattle.json_reading.specs.declared.Numbers.{Numbers}
-use Rattle.json_reading.specs.declared.Numbers.the-variants.{Are, Not as NoNumbers}
-use Rattle.json_reading.specs.declared.SettingAt.{SettingAt}
-use Rattle.json_reading.specs.declared.SettingAt.the-variants.{Is as SettingIs, Not as NoSetting}
-use Rattle.json_reading.specs.declared.Settings.{Settings}
-use Rattle.json_reading.specs.declared.Settings.the-variants.{Are as SettingsAre, Not as NoSettings}
-use Rattle.json_reading.specs.declared.Named.{Named}
-use Rattle.json_reading.specs.declared.Named.the-variants.{At as NamedAt, Not as NotNamed}
-use Rattle.json_reading.specs.declared.Held.{Held}
-use Rattle.json_reading.specs.declared.Draft.{Draft}
+use Rattle.json_rules.specs.Names.{keyNames, idPlace, actorPlace, kindPlace, readPlace, writePlace, executePlace, flagsPlace, domainPlace, depthPlace}
+use Rattle.json_rules.specs.Members.{Setting, Value, Member, Taken, taking, missed, made, named, takeText, isExact, exactOf, isFullSet, idLength}
+use Rattle.json_rules.specs.Actions.{asLetters, asFigure, asFigures, asSettings, flagsOf, usedWith}
+use Rattle.json_rules.specs.Items.{keyCount}
+use Rattle.json_reading.specs.declared.numbers.Exact.{Exact}
+use Rattle.json_reading.specs.declared.numbers.Exact.the-variants.{Is, Not}
+use Rattle.json_reading.specs.declared.numbers.NumberAt.{NumberAt}
+use Rattle.json_reading.specs.declared.numbers.NumberAt.the-variants.{Is as NumberIs, Not as NoNumber}
+use Rattle.json_reading.specs.declared.marks.Separator.{Separator}
+use Rattle.json_reading.specs.declared.marks.Separator.the-variants.{More, Done, Broken}
+use Rattle.json_reading.specs.declared.marks.Passed.{Passed}
+use Rattle.json_reading.specs.declared.marks.Passed.the-variants.{At, Not as NotPassed}
+use Rattle.json_reading.specs.declared.numbers.Numbers.{Numbers}
+use Rattle.json_reading.specs.declared.numbers.Numbers.the-variants.{Are, Not as NoNumbers}
+use Rattle.json_reading.specs.declared.settings.SettingAt.{SettingAt}
+use Rattle.json_reading.specs.declared.settings.SettingAt.the-variants.{Is as SettingIs, Not as NoSetting}
+use Rattle.json_reading.specs.declared.settings.Settings.{Settings}
+use Rattle.json_reading.specs.declared.settings.Settings.the-variants.{Are as SettingsAre, Not as NoSettings}
+use Rattle.json_reading.specs.declared.members.Named.{Named}
+use Rattle.json_reading.specs.declared.members.Named.the-variants.{At as NamedAt, Not as NotNamed}
+use Rattle.json_reading.specs.declared.held.Held.{Held}
+use Rattle.json_reading.specs.declared.members.Draft.{Draft}
 
 -- a text is one of our decimals and nothing else
 abbrev pub ExactSays : Exact → Parsed → Type 0

@@ -2,7 +2,7 @@
 use mathlib.Core.Path.{_≡_, refl}
 use mathlib.Core.List.{[], _∷_, flatten}
 use Rattle.lists.specs.Bytes.{bytes}
-use Rattle.paths.specs.Containment.{same}
+use Rattle.lists.specs.Lists.{same}
 use Rattle.json_tokens.specs.Tokens.{mark, text, noToken, quote, opensObject, closesObject, colon, comma, zeroMark, trueMark, falseMark, unblanked, quoted, closing, leading, tokensWith, tokens}
 use Rattle.json_tokens.specs.Spelling.{spelled, spelledAll, spaced}
 

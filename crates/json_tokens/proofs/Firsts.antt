@@ -8,8 +8,8 @@ use lib.ListN.{length, getD, take, drop, drop-of-length-le, length-drop, length-
 use lib.Seq.{drop-drop}
 use borrow.Author.Tests.{eq-eqb, ne-eqb}
 use Rattle.lists.specs.Loops.{drop-next}
-use Rattle.paths.specs.Containment.{same}
-use Rattle.paths.specs.Trimming.{same-sound}
+use Rattle.lists.specs.Lists.{same}
+use Rattle.lists.specs.Same.{same-sound}
 use Rattle.json_tokens.specs.Tokens.{Token, mark, text, noToken, first, exhausted, isMark, quote, trueMark, falseMark, trueWord, falseWord, unblanked, quoted, closing, quoteClosed, leading, tokens}
 use Rattle.json_tokens.specs.Answers.{part}
 use Rattle.json_tokens.specs.Laws.{tokens-first, tokens-exhausted, tokens-nil}

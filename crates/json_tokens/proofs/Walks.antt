@@ -1,35 +1,15 @@
 -- The definitions of tokens at a position of a text: what one byte more makes of them. Assumes nothing.
 use Prim.Native.Nat.{ℕ, suc, _+_, _-_, _≤_, _<_}
-use mathlib.Core.Path.{_≡_, ap, _∙_}
+use mathlib.Core.Path.{_≡_, _∙_}
 use mathlib.Core.List.{List, [], _∷_, _++_, append-assoc, append-nil}
 use mathlib.Core.Bool.{true, false}
 use native.Mathlib.Omega.{arith}
 use lib.ListN.{length, getD, drop, drop-of-length-le, length-drop}
 use lib.Seq.{take-suc, getD-drop}
 use borrow.Author.Tests.{eq-eqb, ne-eqb}
-use Rattle.lists.specs.Tests.{cases}
 use Rattle.lists.specs.Loops.{drop-next}
-use Rattle.paths.specs.Containment.{same}
-use Rattle.paths.specs.Trimming.{same-sound}
 use Rattle.json_tokens.specs.Tokens.{isBlank, quote, unblanked, quoted, closing}
 use Rattle.json_tokens.specs.Answers.{part}
-
--- texts of different lengths are not the same
-pub same-lengths : (p q : List ℕ) → (length p ≡ length q → ⊥) → same p q ≡ false
-same-lengths p q h = cases (same p q) (λ e. absurd (h (ap length (same-sound p q e)))) (λ e. e)
-
-module _ (a b : List ℕ) (i : ℕ) where
-  pub same-next : i < length a → i < length b → getD a i 0 ≡ getD b i 0 → same (drop i a) (drop i b) ≡ same (drop (i + 1) a) (drop (i + 1) b)
-  unfolding same
-  same-next h k e = rw (drop-next a i 0 h, drop-next b i 0 k, eq-eqb _ _ e)
-
-  pub same-other : i < length a → i < length b → (getD a i 0 ≡ getD b i 0 → ⊥) → same (drop i a) (drop i b) ≡ false
-  unfolding same
-  same-other h k e = rw (drop-next a i 0 h, drop-next b i 0 k, ne-eqb _ _ e)
-
-  pub same-done : length a ≤ i → length b ≤ i → same (drop i a) (drop i b) ≡ true
-  unfolding same
-  same-done h k = rw (drop-of-length-le a h, drop-of-length-le b k)
 
 -- one byte more of a part
 pub part-next : (s : List ℕ) (at i : ℕ) → at ≤ i → i < length s → part at (i + 1) s ≡ part at i s ++ (getD s i 0 ∷ [])

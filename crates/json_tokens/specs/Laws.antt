@@ -7,7 +7,7 @@ use native.Mathlib.Omega.{arith}
 use lib.Dec.{eqb}
 use lib.ListN.{length, take, drop, length-drop}
 use Rattle.lists.specs.Tests.{cases}
-use Rattle.paths.specs.Containment.{same}
+use Rattle.lists.specs.Lists.{same}
 use Rattle.json_tokens.specs.Tokens.{Token, mark, noToken, FirstToken, first, exhausted, isBlank, isMark, quote, trueWord, falseWord, trueMark, falseMark, unblanked, quoted, closing, quoteClosed, leading, tokensWith, tokens}
 
 -- a first token taken apart, with its equation

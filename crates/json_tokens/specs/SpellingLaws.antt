@@ -6,8 +6,7 @@ use mathlib.Core.Bool.{true, false, not, _||_}
 use lib.Dec.{eqb}
 use borrow.Author.Tests.{eqb-true, not-true}
 use Rattle.lists.specs.Tests.{cases, clash, and-left, and-right, or-other}
-use Rattle.lists.specs.Lists.{every, All}
-use Rattle.paths.specs.Containment.{same}
+use Rattle.lists.specs.Lists.{every, All, same}
 use Rattle.json_tokens.specs.Tokens.{Token, mark, text, noToken, first, isBlank, isMark, quote, trueMark, falseMark, unblanked, quoted, closing, leading, tokens}
 use Rattle.json_tokens.specs.Spelling.{spelled, unquoted, Spelt, blanks, spelledAll, spaced}
 use Rattle.json_tokens.specs.Laws.{tokens-first, tokens-nil, tokens-unblanked}

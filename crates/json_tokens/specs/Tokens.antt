@@ -5,7 +5,7 @@ use mathlib.Core.Bool.{Bool, cond, _||_}
 use lib.ListN.{length, take, drop}
 use lib.Dec.{eqb}
 use Rattle.lists.specs.Bytes.{bytes}
-use Rattle.paths.specs.Containment.{same}
+use Rattle.lists.specs.Lists.{same}
 
 -- a token: a mark, by its byte; a text, without its quotes; or what is no token, behind which nothing is looked at
 pub data Token : Type 0 where

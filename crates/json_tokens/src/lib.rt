@@ -1,8 +1,9 @@
-// The tokens of a JSON text, one at a time, from a lent slice of any length and content and a position.
+// The tokens of a JSON text, one at a time.
+// From a lent slice of any length and content, and a position.
 ghost use mathlib.Core.Path.{_≡_};
 ghost use Prim.Native.Nat.{_≤_};
 ghost use lib.ListN.{length, take, drop};
-ghost use Rattle.paths.specs.Containment.{same};
+ghost use Rattle.lists.specs.Lists.{same};
 ghost use Rattle.json_tokens.specs.Tokens.{isBlank, isMark, unblanked, quoted, closing, tokens};
 ghost use Rattle.json_tokens.specs.Answers.{part, TokenSays};
 
@@ -36,23 +37,6 @@ pub enum TokenAt {
     Text(usize, usize),
     End,
     Bad,
-}
-
-// Whether the two texts are the same.
-pub fn is_same(a: &[u8], b: &[u8]) -> bool
-    ensures { λ r. ⌜ r ≡ same (now (a .entry)) (now (b .entry)) ⌝ }
-{
-    if a.len() != b.len() {
-        return false;
-    }
-    let mut i: usize = 0;
-    while i < a.len() {
-        if a[i] != b[i] {
-            return false;
-        }
-        i += 1;
-    }
-    true
 }
 
 // Space, tab, LF, CR.
@@ -111,7 +95,7 @@ fn has_word(s: &[u8], at: usize, word: &[u8]) -> bool
         return false;
     }
     let end = at + word.len();
-    is_same(word, &s[at..end])
+    lists::is_same(word, &s[at..end])
 }
 
 // The first token from `at` on.

@@ -1,5 +1,6 @@
-// The printing program for JSON actions: the verdict on action.json at the moment of clock.txt by register.txt, all of the working folder, as
-// lines on standard output. A file that can't be opened counts as empty, and of a file the first 65,536 bytes are read.
+// The printing program for JSON actions: action.json at the moment of clock.txt.
+// Judged by register.txt, all of the working folder; the lines go to standard output. A file that
+// can't be opened counts as empty, and of a file the first 65,536 bytes are read.
 use libc::STDOUT_FILENO;
 
 fn main() {
@@ -9,8 +10,8 @@ fn main() {
     let clock_end = loading::load(b"clock.txt", &mut clock);
     let mut action = io::large_buffer();
     let action_end = loading::load(b"action.json", &mut action);
-    let mut printed = [0u8; verdict_text::PRINTED];
-    let written = verdict_text::json_verdict_text(
+    let mut printed = [0u8; verdict_printing::PRINTED];
+    let written = verdict_printing::json_verdict_text(
         &register[..register_end],
         &clock[..clock_end],
         &action[..action_end],

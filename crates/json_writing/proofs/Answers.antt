@@ -10,20 +10,20 @@ use lib.ListN.{length}
 use Rattle.lists.specs.Tests.{cases}
 use Rattle.refusals.specs.declared.Outcome.the-variants.{Refused}
 use Rattle.refusals.specs.declared.Refusal.{Refusal}
-use Rattle.refusals.specs.declared.Refusal.the-variants.{OutOfRange, BeyondJson}
+use Rattle.refusals.specs.declared.Refusal.the-variants.{Range, JsonLacks}
 use Rattle.actions.specs.declared.Action.{Action}
-use Rattle.sheets.specs.Sheets.{put}
-use Rattle.sheets.specs.Laws.{put-short}
-use Rattle.texts.specs.Delivery.{delivered, unwritten}
-use Rattle.json_actions.specs.Actions.{jsonText, jsonFits, jsonHolds, jsonWritten, jsonBuffer}
+use Rattle.buffers.specs.Buffers.{put}
+use Rattle.buffers.specs.Laws.{put-short}
+use Rattle.buffers.specs.Delivery.{delivered, unwritten}
+use Rattle.json_rules.specs.Actions.{jsonText, jsonFits, jsonHolds, jsonWritten, jsonBuffer}
 
 module _ (a : Action) (id : List ℕ) (kind : ℕ) (old : List ℕ) where
-  pub json-unfit : jsonFits a id kind ≡ false → (unwritten OutOfRange ≡ jsonWritten a id kind old) × (old ≡ jsonBuffer a id kind old)
+  pub json-unfit : jsonFits a id kind ≡ false → (unwritten Range ≡ jsonWritten a id kind old) × (old ≡ jsonBuffer a id kind old)
   unfolding jsonWritten jsonBuffer
   json-unfit unfit = rw unfit (refl, refl)
 
   pub json-unheld : jsonFits a id kind ≡ true → jsonHolds a ≡ false
-      → (unwritten BeyondJson ≡ jsonWritten a id kind old) × (old ≡ jsonBuffer a id kind old)
+      → (unwritten JsonLacks ≡ jsonWritten a id kind old) × (old ≡ jsonBuffer a id kind old)
   unfolding jsonWritten jsonBuffer
   json-unheld fits unheld = rw (fits, unheld) (refl, refl)
 

@@ -13,9 +13,9 @@ use Rattle.lists.specs.Lists.{splice}
 use Rattle.rights.specs.Rights.{policyModifying}
 use Rattle.actions.specs.Actions.{actionFits}
 use Rattle.actions.specs.declared.Action.{Action}
-use Rattle.sheets.specs.Laws.{Writing, splice-front, writing-start, writing-next, writing-left, writing-last}
-use Rattle.json_actions.specs.Members.{isIdText}
-use Rattle.json_actions.specs.Actions.{jsonText, jsonFits, jsonLimit}
+use Rattle.buffers.specs.Laws.{Writing, splice-front, writing-start, writing-next, writing-left, writing-last}
+use Rattle.json_rules.specs.Members.{isIdText}
+use Rattle.json_rules.specs.Actions.{jsonText, jsonFits, jsonLimit}
 use Rattle.json_writing.specs.Pieces.{headText, tailText}
 use Rattle.json_writing.proofs.Laws.{pieces-natural, json-length}
 

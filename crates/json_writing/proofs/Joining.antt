@@ -6,12 +6,12 @@ use mathlib.Core.List.{List, _++_}
 use mathlib.Core.Bool.{Bool, cond}
 use lib.ListN.{length}
 use Rattle.lists.specs.Lists.{splice}
-use Rattle.sheets.specs.Sheets.{put}
-use Rattle.sheets.specs.Laws.{Writing, put-fits, writing-start, writing-put, writing-next, writing-room, writing-left, writing-last, writing-done}
+use Rattle.buffers.specs.Buffers.{put}
+use Rattle.buffers.specs.Laws.{Writing, put-fits, writing-start, writing-put, writing-next, writing-room, writing-left, writing-last, writing-done}
 use Rattle.actions.specs.Actions.{flagCount}
-use Rattle.sheets.specs.Positions.{behind}
+use Rattle.buffers.specs.Positions.{behind}
 use Rattle.json_tokens.specs.Tokens.{trueWord, falseWord}
-use Rattle.json_actions.specs.Actions.{isSet}
+use Rattle.json_rules.specs.Actions.{isSet}
 use Rattle.json_writing.specs.Pieces.{settingText, flagText, flagsFrom, flagsText}
 
 -- all that is left is put

@@ -20,9 +20,9 @@ use Rattle.actions.specs.declared.Action.{Action}
 use Rattle.json_tokens.specs.Tokens.{Token, mark, text, opensObject, closesObject, opensList, closesList, colon, comma, quote, zeroMark, trueMark, falseMark, trueWord, falseWord}
 use Rattle.json_tokens.specs.Spelling.{spelled, spelledAll}
 use Rattle.json_tokens.specs.SpellingLaws.{spelled-append}
-use Rattle.json_actions.specs.Names.{keyNames, kindNames, flagNames, defaultDomain, idPlace, actorPlace, kindPlace, readPlace, writePlace, executePlace, flagsPlace, domainPlace, depthPlace}
-use Rattle.json_actions.specs.Members.{Value, letters, figure, figures, settings, isIdText, isIdByte, idLength}
-use Rattle.json_actions.specs.Actions.{resourcesWith, isSet, settingsFrom, commaed, settingTokens, numberTokens, valueTokens, memberTokens, objectTokens, membersFrom, jsonText, jsonFits, jsonLimit}
+use Rattle.json_rules.specs.Names.{keyNames, kindNames, flagNames, defaultDomain, idPlace, actorPlace, kindPlace, readPlace, writePlace, executePlace, flagsPlace, domainPlace, depthPlace}
+use Rattle.json_rules.specs.Members.{Value, letters, figure, figures, settings, isIdText, isIdByte, idLength}
+use Rattle.json_rules.specs.Actions.{resourcesWith, isSet, settingsFrom, commaed, settingTokens, numberTokens, valueTokens, memberTokens, objectTokens, membersFrom, jsonText, jsonFits, jsonLimit}
 use Rattle.json_writing.specs.Pieces.{nameText, kindText, resourceEntry, resourcesFrom, resourcesText, settingText, flagText, flagsFrom, flagsText, headText, tailText}
 
 -- The text of the form.

@@ -8,7 +8,7 @@ use lib.ListN.{length, getD, take, drop, drop-of-length-le}
 use Rattle.lists.specs.Loops.{drop-at}
 use Rattle.lists.specs.Lists.{splice}
 use Rattle.actions.specs.declared.Usage.{Usage}
-use Rattle.sheets.specs.Laws.{Writing, writing-room, writing-next, writing-done}
+use Rattle.buffers.specs.Laws.{Writing, writing-room, writing-next, writing-done}
 use Rattle.json_writing.specs.Pieces.{resourceEntry, resourcesFrom, resourcesText}
 
 -- of some uses the first is written, or passed over

@@ -7,7 +7,7 @@ use lib.ListN.{length}
 use Rattle.refusals.specs.declared.Outcome.the-variants.{Refused}
 use Rattle.refusals.specs.declared.Refusal.{Refusal}
 use Rattle.actions.specs.declared.Action.{Action}
-use Rattle.json_actions.specs.Actions.{jsonText, jsonFits, jsonWritten, jsonBuffer, jsonLimit}
+use Rattle.json_rules.specs.Actions.{jsonText, jsonFits, jsonWritten, jsonBuffer, jsonLimit}
 use Rattle.json_writing.proofs.Laws as laws
 use Rattle.json_writing.proofs.Answers as answers
 

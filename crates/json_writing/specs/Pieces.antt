@@ -10,8 +10,8 @@ use Rattle.actions.specs.Actions.{flagCount, usesOf}
 use Rattle.actions.specs.declared.Usage.{Usage}
 use Rattle.actions.specs.declared.Action.{Action}
 use Rattle.json_tokens.specs.Tokens.{opensObject, closesObject, opensList, closesList, colon, comma, quote, zeroMark, trueWord, falseWord}
-use Rattle.json_actions.specs.Names.{keyNames, kindNames, flagNames, defaultDomain, idPlace, actorPlace, kindPlace, readPlace, writePlace, executePlace, flagsPlace, domainPlace, depthPlace}
-use Rattle.json_actions.specs.Actions.{isSet}
+use Rattle.json_rules.specs.Names.{keyNames, kindNames, flagNames, defaultDomain, idPlace, actorPlace, kindPlace, readPlace, writePlace, executePlace, flagsPlace, domainPlace, depthPlace}
+use Rattle.json_rules.specs.Actions.{isSet}
 
 -- a name in quotes with its colon, behind a mark
 abbrev pub nameText : List ℕ → List ℕ

@@ -1,20 +1,21 @@
-// The text of an action in the builder's JSON form, written into a lent buffer. The text is made in one pass on a sheet that every action in
-// range fits, and then delivered whole or not at all.
+// An action written in the builder's JSON form into a lent buffer.
+// The text is made in one pass on an array that every action in range fits, and then delivered
+// whole or not at all.
 ghost use mathlib.Core.Path.{_≡_};
 ghost use Prim.Native.Nat.{_+_, _≤_, _<_};
 ghost use lib.ListN.{length};
 ghost use Rattle.lists.specs.Lists.{splice};
-ghost use Rattle.sheets.specs.Sheets.{put};
+ghost use Rattle.buffers.specs.Buffers.{put};
 ghost use Rattle.actions.specs.Actions.{usesOf};
-ghost use Rattle.sheets.specs.Positions.{behind};
-ghost use Rattle.texts.specs.Delivery.{unwritten};
-ghost use Rattle.json_actions.specs.Actions.{jsonHolds, jsonWritten, jsonBuffer};
+ghost use Rattle.buffers.specs.Positions.{behind};
+ghost use Rattle.buffers.specs.Delivery.{unwritten};
+ghost use Rattle.json_rules.specs.Actions.{jsonHolds, jsonWritten, jsonBuffer};
 ghost use Rattle.json_writing.specs.Pieces.{kindText, openingText, resourcesText, settingText, flagsText, headText, tailText, resourceEntry};
 use actions::Action;
-use json_actions::JSON_TEXT;
+use buffers::Written;
+use json_rules::JSON_TEXT;
 use refusals::Outcome;
 use refusals::Refusal;
-use texts::Written;
 
 // Whether the form has a place for all of the action: no right above 2, nothing governed.
 fn has_place(a: Action) -> bool
@@ -41,23 +42,23 @@ fn put_kind(buf: &mut [u8], at: usize, kind: u32) -> usize
     ensures written { λ _. ⌜ now (buf .exit) ≡ put at (kindText kind) (now (buf .entry)) ⌝ }
 {
     match kind {
-        0 => sheets::put_bytes(buf, at, b"READ"),
-        1 => sheets::put_bytes(buf, at, b"WRITE"),
-        2 => sheets::put_bytes(buf, at, b"EXECUTE"),
-        3 => sheets::put_bytes(buf, at, b"DELETE"),
-        4 => sheets::put_bytes(buf, at, b"DELEGATE"),
-        5 => sheets::put_bytes(buf, at, b"NETWORK_EGRESS"),
-        6 => sheets::put_bytes(buf, at, b"NETWORK_INGRESS"),
-        7 => sheets::put_bytes(buf, at, b"FILE_SYSTEM"),
-        8 => sheets::put_bytes(buf, at, b"PROCESS_SPAWN"),
-        9 => sheets::put_bytes(buf, at, b"MEMORY_WRITE"),
-        10 => sheets::put_bytes(buf, at, b"CREDENTIAL_READ"),
-        11 => sheets::put_bytes(buf, at, b"CREDENTIAL_WRITE"),
-        12 => sheets::put_bytes(buf, at, b"AUDIT_READ"),
-        13 => sheets::put_bytes(buf, at, b"AUDIT_WRITE"),
-        14 => sheets::put_bytes(buf, at, b"POLICY_READ"),
-        15 => sheets::put_bytes(buf, at, b"REGISTRY_MODIFY"),
-        16 => sheets::put_bytes(buf, at, b"POLICY_MODIFY"),
+        0 => buffers::put_bytes(buf, at, b"READ"),
+        1 => buffers::put_bytes(buf, at, b"WRITE"),
+        2 => buffers::put_bytes(buf, at, b"EXECUTE"),
+        3 => buffers::put_bytes(buf, at, b"DELETE"),
+        4 => buffers::put_bytes(buf, at, b"DELEGATE"),
+        5 => buffers::put_bytes(buf, at, b"NETWORK_EGRESS"),
+        6 => buffers::put_bytes(buf, at, b"NETWORK_INGRESS"),
+        7 => buffers::put_bytes(buf, at, b"FILE_SYSTEM"),
+        8 => buffers::put_bytes(buf, at, b"PROCESS_SPAWN"),
+        9 => buffers::put_bytes(buf, at, b"MEMORY_WRITE"),
+        10 => buffers::put_bytes(buf, at, b"CREDENTIAL_READ"),
+        11 => buffers::put_bytes(buf, at, b"CREDENTIAL_WRITE"),
+        12 => buffers::put_bytes(buf, at, b"AUDIT_READ"),
+        13 => buffers::put_bytes(buf, at, b"AUDIT_WRITE"),
+        14 => buffers::put_bytes(buf, at, b"POLICY_READ"),
+        15 => buffers::put_bytes(buf, at, b"REGISTRY_MODIFY"),
+        16 => buffers::put_bytes(buf, at, b"POLICY_MODIFY"),
         _ => at,
     }
 }
@@ -69,9 +70,9 @@ fn put_opening(buf: &mut [u8], at: usize, first: bool) -> usize
     ensures written { λ _. ⌜ now (buf .exit) ≡ put at (openingText first) (now (buf .entry)) ⌝ }
 {
     if first {
-        return sheets::put_bytes(buf, at, b"\"");
+        return buffers::put_bytes(buf, at, b"\"");
     }
-    sheets::put_bytes(buf, at, b",\"")
+    buffers::put_bytes(buf, at, b",\"")
 }
 
 // Puts a resource's number in quotes into the buffer at `at`, with a comma before it where it is not the first, and answers the position
@@ -82,8 +83,8 @@ fn put_resource(buf: &mut [u8], at: usize, first: bool, resource: u32) -> usize
     ensures written { λ _. ⌜ now (buf .exit) ≡ splice at (resourceEntry first resource) (now (buf .entry)) ⌝ }
 {
     let number_at = put_opening(buf, at, first);
-    let end = sheets::put_number(buf, number_at, resource as u64);
-    sheets::put_bytes(buf, end, b"\"")
+    let end = buffers::put_number(buf, number_at, resource as u64);
+    buffers::put_bytes(buf, end, b"\"")
 }
 
 // Puts the resources that are used with a right into the buffer at `at`, and answers the position behind them.
@@ -116,11 +117,11 @@ fn put_setting(buf: &mut [u8], at: usize, name: &[u8], flags: u32, flag: u32) ->
     ensures behind { λ r. ⌜ r ≡ at + length (settingText (now (name .entry)) flags flag) ⌝ }
     ensures written { λ _. ⌜ now (buf .exit) ≡ splice at (settingText (now (name .entry)) flags flag) (now (buf .entry)) ⌝ }
 {
-    let word_at = sheets::put_bytes(buf, at, name);
+    let word_at = buffers::put_bytes(buf, at, name);
     if (flags >> flag) % 2 == 1 {
-        sheets::put_bytes(buf, word_at, b"true")
+        buffers::put_bytes(buf, word_at, b"true")
     } else {
-        sheets::put_bytes(buf, word_at, b"false")
+        buffers::put_bytes(buf, word_at, b"false")
     }
 }
 
@@ -160,13 +161,13 @@ fn put_head(buf: &mut [u8], actor: u32, id: &[u8], kind: u32) -> usize
     ensures behind { λ r. ⌜ r ≡ length (headText actor (now (id .entry)) kind) ⌝ }
     ensures written { λ _. ⌜ now (buf .exit) ≡ splice 0 (headText actor (now (id .entry)) kind) (now (buf .entry)) ⌝ }
 {
-    let id_at = sheets::put_bytes(buf, 0, b"{\"id\":\"");
-    let id_end = sheets::put_bytes(buf, id_at, id);
-    let actor_at = sheets::put_bytes(buf, id_end, b"\",\"actor\":\"");
-    let actor_end = sheets::put_number(buf, actor_at, actor as u64);
-    let kind_at = sheets::put_bytes(buf, actor_end, b"\",\"capability_kind\":\"");
+    let id_at = buffers::put_bytes(buf, 0, b"{\"id\":\"");
+    let id_end = buffers::put_bytes(buf, id_at, id);
+    let actor_at = buffers::put_bytes(buf, id_end, b"\",\"actor\":\"");
+    let actor_end = buffers::put_number(buf, actor_at, actor as u64);
+    let kind_at = buffers::put_bytes(buf, actor_end, b"\",\"capability_kind\":\"");
     let kind_end = put_kind(buf, kind_at, kind);
-    sheets::put_bytes(buf, kind_end, b"\",\"resources_read\":[")
+    buffers::put_bytes(buf, kind_end, b"\",\"resources_read\":[")
 }
 
 // Puts the text of an action from its resources on into the buffer at `at`, and answers the position behind it.
@@ -176,13 +177,13 @@ fn put_tail(buf: &mut [u8], at: usize, a: Action) -> usize
     ensures written { λ _. ⌜ now (buf .exit) ≡ splice at (tailText a) (now (buf .entry)) ⌝ }
 {
     let read_end = put_resources(buf, at, a, rights::READ);
-    let write_at = sheets::put_bytes(buf, read_end, b"],\"resources_write\":[");
+    let write_at = buffers::put_bytes(buf, read_end, b"],\"resources_write\":[");
     let write_end = put_resources(buf, write_at, a, rights::WRITE);
-    let execute_at = sheets::put_bytes(buf, write_end, b"],\"resources_execute\":[");
+    let execute_at = buffers::put_bytes(buf, write_end, b"],\"resources_execute\":[");
     let execute_end = put_resources(buf, execute_at, a, rights::EXECUTE);
-    let flags_at = sheets::put_bytes(buf, execute_end, b"],\"flags\":{");
+    let flags_at = buffers::put_bytes(buf, execute_end, b"],\"flags\":{");
     let flags_end = put_flags(buf, flags_at, a.flags);
-    sheets::put_bytes(
+    buffers::put_bytes(
         buf,
         flags_end,
         b"},\"trust_domain\":\"default\",\"delegation_depth\":0}",
@@ -204,15 +205,15 @@ pub fn write_json(a: Action, id: &[u8], kind: u32, buf: &mut [u8]) -> Written
     ensures answer { λ r. ⌜ r ≡ jsonWritten a (now (id .entry)) kind (now (buf .entry)) ⌝ }
     ensures buffer { λ _. ⌜ now (buf .exit) ≡ jsonBuffer a (now (id .entry)) kind (now (buf .entry)) ⌝ }
 {
-    if !(actions::action_fits(a) & json_actions::is_id(id) & (kind <= rights::POLICY_MODIFY)) {
-        return refused(Refusal::OutOfRange);
+    if !(actions::action_fits(a) & json_rules::is_id(id) & (kind <= rights::POLICY_MODIFY)) {
+        return refused(Refusal::Range);
     }
     if !has_place(a) {
-        return refused(Refusal::BeyondJson);
+        return refused(Refusal::JsonLacks);
     }
     let mut sheet = [0u8; JSON_TEXT];
     let head_end = put_head(&mut sheet, a.actor, id, kind);
     let length = put_tail(&mut sheet, head_end, a);
     let text: &[u8] = &sheet;
-    writing::deliver(buf, &text[..length])
+    buffers::deliver(buf, &text[..length])
 }

@@ -10,7 +10,7 @@ use borrow.Author.Tests.{ne-eqb, le-leb, leb-true}
 use Rattle.lists.specs.Tests.{and-left, and-right, clash}
 use Rattle.decimals.specs.Walk.{drop-byte}
 use Rattle.lines.specs.Lines.{Line, line, beyond, fault, parseScope, heldPath}
-use Rattle.lines.specs.Reading.{formRefusal, going, failed, Form, parseForm, aboveRefusal, readForm, readScope, closed}
+use Rattle.lines.specs.Reading.{formRefusal, going, failed, LineForm, parseForm, aboveRefusal, readForm, readScope, closed}
 use Rattle.lines.specs.Answers.{FieldSays, PathSays, ScopeSays, stateOf}
 use Rattle.lines.specs.declared.Cursor.{Cursor}
 use Rattle.lines.specs.declared.Scope.{Scope}
@@ -58,7 +58,7 @@ module _ (s : List ℕ) (c : Cursor) where
   closed-trailing d h k e = rw (state-on h, drop-byte s (c .at) k, e) (state-fails formRefusal (omega arith))
 
   -- a number's reading, by what the text at the cursor begins with
-  module _ (f : Form) where
+  module _ (f : LineForm) where
     pub field-off : goesOn s c ≡ false → FieldSays s (record { value = 0; cursor = c }) (readForm f (stateOf s c))
     field-off h = rw (state-off h) (record { value = refl; state = state-off h })
 

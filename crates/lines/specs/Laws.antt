@@ -16,9 +16,9 @@ use Rattle.decimals.specs.Decimals.{digits, Parsed, got, large, bad, parse}
 use Rattle.decimals.specs.Laws.{parse-digits, digits-parse}
 use Rattle.decimals.specs.Answers.{starts}
 use Rattle.lines.specs.Lines.{lineFeed, Line, line, beyond, fault, begins, ended, parseLimited, atLeast, parseDecimal, decimalLine, humanLine, machineLine, parseKind, kindLine, scopeKey, pathOn, parseScope, scopeLine}
-use Rattle.lines.specs.Reading.{State, going, failed, decimal, taken, readForm, Form, kind}
+use Rattle.lines.specs.Reading.{State, going, failed, decimal, taken, readForm, LineForm, kind}
 
-abbrev pub formFits : Form → ℕ → Bool
+abbrev pub formFits : LineForm → ℕ → Bool
 formFits (decimal key least greatest above) n = ranged least greatest n
 formFits kind n = eqb n humanKind || eqb n machineKind
 

@@ -22,29 +22,29 @@ pub record Read (A : Type 0) : Type 0 where
 
 -- the forms of a line that holds a number: a decimal, with its key, the least and the greatest number and the refusal of one above; an
 -- actor's kind
-pub data Form : Type 0 where
-  decimal : List ℕ → ℕ → ℕ → ℕ → Form
-  kind : Form
+pub data LineForm : Type 0 where
+  decimal : List ℕ → ℕ → ℕ → ℕ → LineForm
+  kind : LineForm
 
 -- a number outside its field's range is not of the form
-abbrev pub number : List ℕ → ℕ → ℕ → Form
+abbrev pub number : List ℕ → ℕ → ℕ → LineForm
 number key least greatest = decimal key least greatest formRefusal
 
 -- a count above its limit has its own refusal
-abbrev pub count : List ℕ → ℕ → Form
+abbrev pub count : List ℕ → ℕ → LineForm
 count key limit = decimal key 0 limit countRefusal
 
 -- what a text begins with, by the form
-abbrev pub parseForm : Form → List ℕ → Line ℕ
+abbrev pub parseForm : LineForm → List ℕ → Line ℕ
 parseForm (decimal key least greatest above) t = parseDecimal key least greatest t
 parseForm kind t = parseKind t
 
-abbrev pub aboveRefusal : Form → ℕ
+abbrev pub aboveRefusal : LineForm → ℕ
 aboveRefusal (decimal key least greatest above) = above
 aboveRefusal kind = formRefusal
 
 -- the text of a number by the form, and whether the number may stand there
-abbrev pub formLine : Form → ℕ → List ℕ
+abbrev pub formLine : LineForm → ℕ → List ℕ
 formLine (decimal key least greatest above) n = decimalLine key n
 formLine kind n = kindLine n
 
@@ -55,7 +55,7 @@ taken none above l beyond = record { value = none; state = failed above l }
 taken none above l fault = record { value = none; state = failed formRefusal l }
 
 -- the next line, by the form
-abbrev pub readForm : Form → State → Read ℕ
+abbrev pub readForm : LineForm → State → Read ℕ
 readForm f (going t l) = taken 0 (aboveRefusal f) l (parseForm f t)
 readForm f (failed why l) = record { value = 0; state = failed why l }
 

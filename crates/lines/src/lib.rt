@@ -1,5 +1,6 @@
-// Lines `key=value` of a text, each ended by LF, read one behind the other from a lent slice of any length and content. A reading that
-// failed stays as it is: the first failing line decides.
+// Lines `key=value` of a text, each ended by LF, read one behind the other.
+// The slice is lent, of any length and content. A reading that failed stays as it is: the first
+// failing line decides.
 ghost use mathlib.Core.Path.{_≡_};
 ghost use mathlib.Core.Bool.{false, _&&_};
 ghost use mathlib.Core.List.{[]};

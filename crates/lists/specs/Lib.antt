@@ -1,9 +1,11 @@
 pub mod Tests
 pub mod Lists
 pub mod Each
-pub mod Trims
+pub mod Filters
 pub mod Loops
 pub mod Counts
 pub mod Splices
 pub mod Fills
+pub mod Distinct
+pub mod Same
 pub mod Bytes

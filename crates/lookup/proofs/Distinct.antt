@@ -10,9 +10,8 @@ use lib.Dec.{eqb, leb}
 use lib.ListN.{length, take, getD}
 use lib.Seq.{take-suc, take-all}
 use Rattle.lists.specs.Tests.{cases}
-use Rattle.lists.specs.Lists.{any}
-use Rattle.rules.specs.Sound.{distinct}
-use Rattle.rules.specs.Distinct.{distinct-more}
+use Rattle.lists.specs.Lists.{any, distinct}
+use Rattle.lists.specs.Distinct.{distinct-more}
 use Rattle.columns.specs.Columns.{latestPlace}
 use Rattle.columns.specs.Laws.{place-cases, place-found, place-among, nowhere-none}
 use Rattle.lookup.specs.Finding.{placeNumber}

@@ -13,17 +13,17 @@ use Rattle.register.specs.Limits.{claimLimit}
 use Rattle.lookup.specs.Finding.{tabled, asked, shared}
 
 -- the first i places, of top that are to be filled, hold f of the place
-pub record Filling (f : ℕ → ℕ) (top none i : ℕ) (places : List ℕ) : Type 0 where
+pub record Filling (f : ℕ → ℕ) (top i : ℕ) (places : List ℕ) : Type 0 where
   pub within : i ≤ top
   pub room : top ≤ claimLimit
-  pub filled : places ≡ tabled f i none
+  pub filled : places ≡ tabled f i
 
-module _ {f : ℕ → ℕ} {top none : ℕ} where
-  pub empty : {places : List ℕ} → top ≤ claimLimit → places ≡ replicate claimLimit none → Filling f top none 0 places
+module _ {f : ℕ → ℕ} {top : ℕ} where
+  pub empty : {places : List ℕ} → top ≤ claimLimit → places ≡ replicate claimLimit claimLimit → Filling f top 0 places
   empty h e = record { within = omega arith; room = h; filled = e }
 
-  module _ {i : ℕ} {places : List ℕ} (s : Filling f top none i places) where
-    pub fill : (x : ℕ) → i < top → x ≡ f i → Filling f top none (i + 1) (set places i x)
+  module _ {i : ℕ} {places : List ℕ} (s : Filling f top i places) where
+    pub fill : (x : ℕ) → i < top → x ≡ f i → Filling f top (i + 1) (set places i x)
     fill x h e =
         let long : length (map f (counted 0 i)) ≡ i = length-map (counted 0 i) f ∙ counted-length 0 i in
         let more : map f (counted 0 (i + 1)) ≡ map f (counted 0 i) ++ (f i ∷ []) =
@@ -31,11 +31,11 @@ module _ {f : ℕ → ℕ} {top none : ℕ} where
         record {
           within = omega arith;
           room = s .room;
-          filled = rw (s .filled, more, e) (put-first (map f (counted 0 i)) claimLimit i none (f i) long (omega arith));
+          filled = rw (s .filled, more, e) (put-first (map f (counted 0 i)) claimLimit i claimLimit (f i) long (omega arith));
         }
 
-    pub full : top ≤ i → places ≡ tabled f top none
-    full h = let same : i ≡ top = omega arith in s .filled ∙ ap (λ n. tabled f n none) same
+    pub full : top ≤ i → places ≡ tabled f top
+    full h = let same : i ≡ top = omega arith in s .filled ∙ ap (λ n. tabled f n) same
 
 -- one place more is filled, so less is left
 pub less : (top i : ℕ) → i < top → top - (i + 1) < top - i

@@ -9,10 +9,9 @@ use lib.Dec.{eqb, ltb}
 use lib.ListN.{length, take, getD, length-map, List·getD-map}
 use lib.Seq.{take-suc, take-all}
 use Rattle.lists.specs.Tests.{cases, and-left}
-use Rattle.lists.specs.Lists.{any}
+use Rattle.lists.specs.Lists.{any, distinct}
 use Rattle.lists.specs.Each.{any-map, none-weaken, any-append}
-use Rattle.rules.specs.Sound.{distinct}
-use Rattle.rules.specs.Distinct.{LastApart, last-apart}
+use Rattle.lists.specs.Distinct.{LastApart, last-apart}
 use Rattle.columns.specs.Columns.{latestPlace}
 use Rattle.columns.specs.Laws.{place-none, place-hit, place-miss, place-past}
 use Rattle.columns.specs.declared.Place.{Place}

@@ -31,50 +31,50 @@ behind-none n i none =
     (λ t. getD-replicate n i none none (ltb-true i n t))
     (λ t. List·getD-eq-default (replicate n none) none (omega (arith, ltb-false i n t, length-replicate n none)))
 
-module _ (f : ℕ → ℕ) (top none : ℕ) where
-  pub tabled-length : top ≤ claimLimit → length (tabled f top none) ≡ claimLimit
+module _ (f : ℕ → ℕ) (top : ℕ) where
+  pub tabled-length : top ≤ claimLimit → length (tabled f top) ≡ claimLimit
   tabled-length h =
-      length-append (map f (counted 0 top)) (replicate (claimLimit - top) none)
+      length-append (map f (counted 0 top)) (replicate (claimLimit - top) claimLimit)
       ∙ rw (length-map (counted 0 top) f, counted-length 0 top, length-replicate) (omega arith)
 
-  pub tabled-at : (i d : ℕ) → i < top → getD (tabled f top none) i d ≡ f i
+  pub tabled-at : (i d : ℕ) → i < top → getD (tabled f top) i d ≡ f i
   tabled-at i d h =
       let there : i < length (map f (counted 0 top)) = omega (arith, length-map (counted 0 top) f, counted-length 0 top) in
-      List·getD-append (map f (counted 0 top)) (replicate (claimLimit - top) none) d i there
+      List·getD-append (map f (counted 0 top)) (replicate (claimLimit - top) claimLimit) d i there
       ∙ getD-inside (map f (counted 0 top)) i d (f 0) there
       ∙ List·getD-map f (counted 0 top) i 0
       ∙ ap f (counted-number top 0 i 0 h ∙ zero-add i)
 
-pub places-at : (column : List ℕ) (n : ℕ) (wanted : List ℕ) (m none i d : ℕ) → i < asked m wanted →
-    getD (placesOf column n wanted m none) i d ≡ placeNumber none (latestPlace column (min n claimLimit) (getD wanted i 0))
+pub places-at : (column : List ℕ) (n : ℕ) (wanted : List ℕ) (m i d : ℕ) → i < asked m wanted →
+    getD (placesOf column n wanted m) i d ≡ placeNumber claimLimit (latestPlace column (min n claimLimit) (getD wanted i 0))
 unfolding placesOf
-places-at column n wanted m none i d h = tabled-at (λ i. placeNumber none (latestPlace column (min n claimLimit) (getD wanted i 0))) (asked m wanted) none i d h
+places-at column n wanted m i d h = tabled-at (λ i. placeNumber claimLimit (latestPlace column (min n claimLimit) (getD wanted i 0))) (asked m wanted) i d h
 
-pub earlier-at : (column wanted : List ℕ) (m none i d : ℕ) → i < asked m wanted →
-    getD (earlierPlaces column wanted m none) i d ≡ placeNumber none (latestPlace column i (getD wanted i 0))
+pub earlier-at : (column wanted : List ℕ) (m i d : ℕ) → i < asked m wanted →
+    getD (earlierPlaces column wanted m) i d ≡ placeNumber claimLimit (latestPlace column i (getD wanted i 0))
 unfolding earlierPlaces
-earlier-at column wanted m none i d h = tabled-at (λ i. placeNumber none (latestPlace column i (getD wanted i 0))) (asked m wanted) none i d h
+earlier-at column wanted m i d h = tabled-at (λ i. placeNumber claimLimit (latestPlace column i (getD wanted i 0))) (asked m wanted) i d h
 
 -- where both lists have as many as are asked for, each is looked up as it is alone
-module _ (column wanted other : List ℕ) (m none : ℕ) (few : m ≤ length wanted) (fewer : m ≤ length other) where
+module _ (column wanted other : List ℕ) (m : ℕ) (few : m ≤ length wanted) (fewer : m ≤ length other) where
   all-shared : shared m wanted other ≡ m
   all-shared = omega arith
 
-  pub first-places : (n : ℕ) → bothPlaces column n wanted other m none .first ≡ placesOf column n wanted m none
+  pub first-places : (n : ℕ) → bothPlaces column n wanted other m .first ≡ placesOf column n wanted m
   unfolding bothPlaces
-  first-places n = ap (λ k. placesOf column n wanted k none) all-shared
+  first-places n = ap (λ k. placesOf column n wanted k) all-shared
 
-  pub second-places : (n : ℕ) → bothPlaces column n wanted other m none .second ≡ placesOf column n other m none
+  pub second-places : (n : ℕ) → bothPlaces column n wanted other m .second ≡ placesOf column n other m
   unfolding bothPlaces
-  second-places n = ap (λ k. placesOf column n other k none) all-shared
+  second-places n = ap (λ k. placesOf column n other k) all-shared
 
 -- the places of the parents of the first n claims, none of which has the number 0
 module _ (ids parents : List ℕ) (n : ℕ) (few : n ≤ claimLimit) (long : n ≤ length parents) (numbered : (j : ℕ) → j < n → getD ids j 0 ≡ 0 → ⊥) where
   abbrev ups : List ℕ
-  ups = earlierPlaces ids parents n claimLimit
+  ups = earlierPlaces ids parents n
 
   up-at : (j : ℕ) → j < n → getD ups j j ≡ placeNumber claimLimit (latestPlace ids j (getD parents j 0))
-  up-at j h = earlier-at ids parents n claimLimit j j (omega arith)
+  up-at j h = earlier-at ids parents n j j (omega arith)
 
   up-to : (bound j : ℕ) → j < bound → j < n → placesUp ups j ≡ chainPlaces ids parents j (getD parents j 0)
   up-to zero j h inside = absurd (omega arith)
@@ -96,7 +96,7 @@ module _ (ids parents : List ℕ) (n : ℕ) (few : n ≤ claimLimit) (long : n �
 
 -- so the walk counts the hops of the claim at a place
 pub hop-count-natural : (cs : List Claim) (n : ℕ) → n ≤ claimLimit → n ≤ length cs → ((j : ℕ) → j < n → getD cs j noClaim .id ≡ 0 → ⊥) → (j : ℕ) → j < n
-    → length (placesUp (earlierPlaces (map claimId cs) (map parentOf cs) n claimLimit) j) ≡ hopsOf (latest (take j cs)) (getD cs j noClaim)
+    → length (placesUp (earlierPlaces (map claimId cs) (map parentOf cs) n) j) ≡ hopsOf (latest (take j cs)) (getD cs j noClaim)
 hop-count-natural cs n few long numbered j inside =
     ap length (places-up-natural (map claimId cs) (map parentOf cs) n few (omega (arith, length-map cs parentOf))
     (λ i below z. numbered i below (sym (List·getD-map claimId cs i noClaim) ∙ z)) j inside)

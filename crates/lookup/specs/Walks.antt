@@ -1,7 +1,7 @@
 -- Working: The chain from a number up as places: the latest place of the number, and from there up by the places of the parents. It is shaped for the
 -- code; what it is in 01's words is proved here, of the claims of a sheet (`up-from-natural`, `above-natural`) and of a sound register (`sheet-chain`).
 -- Assumes nothing.
-use mathlib.Core.Path.{_≡_, sym, ap, _∙_, fun-ext}
+use mathlib.Core.Path.{_≡_, sym, ap, _∙_, fun-ext, refl}
 use mathlib.Core.Bool.{true}
 use mathlib.Core.List.{List, [], _∷_, map}
 use Prim.Native.Nat.{ℕ, _≤_, _<_}
@@ -12,15 +12,15 @@ use Rattle.register.specs.Limits.{claimLimit}
 use Rattle.register.specs.Register.{actorsOf, resourcesOf, claimsOf, noClaim}
 use Rattle.register.specs.Chain.{latest, chain, above}
 use Rattle.register.specs.declared.Register.{Register}
-use Rattle.rules.specs.Sound.{worldOf, sound}
-use Rattle.rules.specs.Registers.{sound-out}
-use Rattle.rules.specs.Places.{claim-numbered}
+use Rattle.soundness_rules.specs.Sound.{worldOf, sound}
+use Rattle.soundness_rules.specs.Registers.{sound-out}
+use Rattle.soundness_rules.specs.Places.{claim-numbered}
 use Rattle.columns.specs.Columns.{claimId, parentOf, latestPlace, chainPlaces, placesUp}
 use Rattle.columns.specs.declared.Place.{Place}
 use Rattle.columns.specs.declared.Place.the-variants.{At, Nowhere}
 use Rattle.columns.specs.Laws.{place-cases, place-found, chain-places-at, chain-places-nowhere, chain-natural}
-use Rattle.columns.specs.Sheet.{sheetLimit, sheetOf, columnOf, claimAt, claimsIn}
-use Rattle.columns.specs.SheetLaws.{column-length, column-natural-ids, column-natural-parents, claims-in-at, sheet-long, sheet-claims}
+use Rattle.columns.specs.Sheet.{sheetLimit, sheetOf, columnOf, claimAt, claimsIn, idColumn, parentColumn}
+use Rattle.columns.specs.SheetLaws.{column-length, column-natural, claims-in-at, sheet-long, sheet-claims}
 use Rattle.lookup.specs.Finding.{earlierPlaces}
 use Rattle.lookup.specs.Laws.{places-up-natural}
 
@@ -32,33 +32,33 @@ upFrom ups Nowhere = []
 -- the first n claims of a sheet, none of which has the number 0
 module _ (s : List ℕ) (long : length s ≡ sheetLimit) (n : ℕ) (few : n ≤ claimLimit) (numbered : (j : ℕ) → j < n → claimAt s j .id ≡ 0 → ⊥) where
   abbrev ups : List ℕ
-  ups = earlierPlaces (columnOf 0 s) (columnOf 1 s) n claimLimit
+  ups = earlierPlaces (columnOf idColumn s) (columnOf parentColumn s) n
 
-  up-places : (j : ℕ) → j < n → placesUp ups j ≡ chainPlaces (columnOf 0 s) (columnOf 1 s) j (getD (columnOf 1 s) j 0)
-  up-places j inside = places-up-natural (columnOf 0 s) (columnOf 1 s) n few (omega (arith, column-length s 1 long (omega arith))) numbered j inside
+  up-places : (j : ℕ) → j < n → placesUp ups j ≡ chainPlaces (columnOf idColumn s) (columnOf parentColumn s) j (getD (columnOf parentColumn s) j 0)
+  up-places j inside = places-up-natural (columnOf idColumn s) (columnOf parentColumn s) n few (omega (arith, column-length s 1 long (omega arith))) numbered j inside
 
   -- the claims at the places of a chain are the claims of the chain
-  claims-natural : (m p : ℕ) → map (claimAt s) (chainPlaces (columnOf 0 s) (columnOf 1 s) m p) ≡ chain claimId parentOf (latest (take m (claimsIn s))) p
+  claims-natural : (m p : ℕ) → map (claimAt s) (chainPlaces (columnOf idColumn s) (columnOf parentColumn s) m p) ≡ chain claimId parentOf (latest (take m (claimsIn s))) p
   claims-natural m p =
-      ap (λ f. map f (chainPlaces (columnOf 0 s) (columnOf 1 s) m p)) (fun-ext (λ i. sym (claims-in-at s i)))
-      ∙ ap (λ l. map (λ i. getD (claimsIn s) i noClaim) (chainPlaces l (columnOf 1 s) m p)) (column-natural-ids s long)
-      ∙ ap (λ l. map (λ i. getD (claimsIn s) i noClaim) (chainPlaces (map claimId (claimsIn s)) l m p)) (column-natural-parents s long)
+      ap (λ f. map f (chainPlaces (columnOf idColumn s) (columnOf parentColumn s) m p)) (fun-ext (λ i. sym (claims-in-at s i)))
+      ∙ ap (λ l. map (λ i. getD (claimsIn s) i noClaim) (chainPlaces l (columnOf parentColumn s) m p)) (column-natural s long claimId idColumn (omega arith) (λ g. refl))
+      ∙ ap (λ l. map (λ i. getD (claimsIn s) i noClaim) (chainPlaces (map claimId (claimsIn s)) l m p)) (column-natural s long parentOf parentColumn (omega arith) (λ g. refl))
       ∙ chain-natural (claimsIn s) m p
 
   -- the places above one are those of the chain above the claim there
   pub above-natural : (j : ℕ) → j < n → map (claimAt s) (placesUp ups j) ≡ above (latest (take j (claimsIn s))) (claimAt s j)
-  above-natural j inside = ap (map (claimAt s)) (up-places j inside) ∙ claims-natural j (getD (columnOf 1 s) j 0)
+  above-natural j inside = ap (map (claimAt s)) (up-places j inside) ∙ claims-natural j (getD (columnOf parentColumn s) j 0)
 
-  up-from : (p : ℕ) → upFrom ups (latestPlace (columnOf 0 s) n p) ≡ chainPlaces (columnOf 0 s) (columnOf 1 s) n p
+  up-from : (p : ℕ) → upFrom ups (latestPlace (columnOf idColumn s) n p) ≡ chainPlaces (columnOf idColumn s) (columnOf parentColumn s) n p
   up-from p =
-      place-cases (latestPlace (columnOf 0 s) n p)
-      (λ k q. let found = place-found (columnOf 0 s) p n k q in
+      place-cases (latestPlace (columnOf idColumn s) n p)
+      (λ k q. let found = place-found (columnOf idColumn s) p n k q in
       let other : (p ≡ 0 → ⊥) = λ z. numbered k (found .0) (found .2 ∙ z) in
-      ap (upFrom ups) q ∙ ap (λ l. k ∷ l) (up-places k (found .0)) ∙ sym (chain-places-at (columnOf 0 s) (columnOf 1 s) n p k other q))
-      (λ q. ap (upFrom ups) q ∙ sym (chain-places-nowhere (columnOf 0 s) (columnOf 1 s) n p q))
+      ap (upFrom ups) q ∙ ap (λ l. k ∷ l) (up-places k (found .0)) ∙ sym (chain-places-at (columnOf idColumn s) (columnOf parentColumn s) n p k other q))
+      (λ q. ap (upFrom ups) q ∙ sym (chain-places-nowhere (columnOf idColumn s) (columnOf parentColumn s) n p q))
 
   -- the places from that of a number up are those of the number's chain
-  pub up-from-natural : (p : ℕ) → map (claimAt s) (upFrom ups (latestPlace (columnOf 0 s) n p)) ≡ chain claimId parentOf (latest (take n (claimsIn s))) p
+  pub up-from-natural : (p : ℕ) → map (claimAt s) (upFrom ups (latestPlace (columnOf idColumn s) n p)) ≡ chain claimId parentOf (latest (take n (claimsIn s))) p
   up-from-natural p = ap (map (claimAt s)) (up-from p) ∙ claims-natural n p
 
 -- the sheet of a sound register
@@ -88,7 +88,7 @@ module _ (r : Register) (places : length (r .claims .list) ≡ claimLimit) (whol
       (ap (λ c. c .id) (sym (sheet-at j h)) ∙ none)
 
   -- the places from that of a number up are those of the number's chain
-  pub sheet-chain : (p : ℕ) → map (claimAt sheet) (upFrom (earlierPlaces (columnOf 0 sheet) (columnOf 1 sheet) claimTotal claimLimit) (latestPlace (columnOf 0 sheet) claimTotal p))
+  pub sheet-chain : (p : ℕ) → map (claimAt sheet) (upFrom (earlierPlaces (columnOf idColumn sheet) (columnOf parentColumn sheet) claimTotal) (latestPlace (columnOf idColumn sheet) claimTotal p))
       ≡ chain claimId parentOf (latest (claimsOf (r .claims))) p
   sheet-chain p =
       up-from-natural sheet (sheet-long (r .claims)) claimTotal sheet-few sheet-numbered p

@@ -1,9 +1,10 @@
-// Where each of many numbers stands in a column, for every column and count; at most the first 256 places are looked at.
+// Where each of many numbers stands in a column.
+// Every column and count is taken; at most the first 256 places are looked at.
 ghost use mathlib.Core.Path.{_≡_};
 ghost use Prim.Native.Nat.{min};
 ghost use lib.ListN.{length, take};
+ghost use Rattle.lists.specs.Lists.{distinct};
 ghost use Rattle.register.specs.Limits.{claimLimit};
-ghost use Rattle.rules.specs.Sound.{distinct};
 ghost use Rattle.columns.specs.Columns.{latestPlace};
 ghost use Rattle.lookup.specs.Finding.{placeNumber, placesFound, earlierFound, bothPlaces};
 ghost use Rattle.lookup.specs.Tables.{bucketOf, Indexing, Sought};
@@ -25,8 +26,8 @@ pub struct Both {
 // How many buckets a table has.
 const BUCKETS: usize = 512;
 
-// The place that says nowhere while a table is made: it is past them all.
-const NOWHERE: u16 = Register::CLAIMS as u16;
+// The place that says nowhere: it is past them all.
+pub const NOWHERE: u16 = Register::CLAIMS as u16;
 
 // The places of a column by buckets, so that few places are looked at for a number. A link is 0 for none, else a place and 1: a
 // bucket's head links to its latest place, and each place to the latest before it in its bucket. It tells besides whether the numbers
@@ -59,7 +60,7 @@ fn tabulate(column: &[u32], n: usize) -> Table
     let mut distinct = true;
     let mut i: usize = 0;
     while i < count {
-        let before = seek(&table.heads, &table.nexts, column, i, column[i], NOWHERE);
+        let before = seek(&table.heads, &table.nexts, column, i, column[i]);
         distinct = distinct & (before == NOWHERE);
         let bucket = bucket_of(column[i]);
         table.nexts[i] = table.heads[bucket];
@@ -70,17 +71,11 @@ fn tabulate(column: &[u32], n: usize) -> Table
     table
 }
 
-// The latest place below `below` at which a column holds `x`, by a table that has all of these places; `none` where there is none.
-fn seek<'a>(
-    heads: &'a [u16],
-    nexts: &'a [u16],
-    column: &'a [u32],
-    below: usize,
-    x: u32,
-    none: u16,
-) -> u16
+// The latest place below `below` at which a column holds `x`, by a table that has all of these places; `NOWHERE` where there is
+// none.
+fn seek<'a>(heads: &'a [u16], nexts: &'a [u16], column: &'a [u32], below: usize, x: u32) -> u16
     requires { ⌜ Sought (now column) below (now heads) (now nexts) ⌝ }
-    ensures { λ r. ⌜ r ≡ placeNumber none (latestPlace (now (column .entry)) below x) ⌝ }
+    ensures { λ r. ⌜ r ≡ placeNumber claimLimit (latestPlace (now (column .entry)) below x) ⌝ }
 {
     let mut link = heads[bucket_of(x)];
     while link != 0 {
@@ -91,41 +86,43 @@ fn seek<'a>(
         }
         link = nexts[at];
     }
-    none
+    NOWHERE
 }
 
-// The latest place of each of the first `m` wanted numbers among the first `n` of a column; `none` where there is none, and past them.
-pub fn places_of<'a>(column: &'a [u32], n: usize, wanted: &'a [u32], m: usize, none: u16) -> Found
-    ensures { λ r. ⌜ r ≡ placesFound (now (column .entry)) n (now (wanted .entry)) m none ⌝ }
+// The latest place of each of the first `m` wanted numbers among the first `n` of a column; `NOWHERE` where there is
+// none, and past them.
+pub fn places_of<'a>(column: &'a [u32], n: usize, wanted: &'a [u32], m: usize) -> Found
+    ensures { λ r. ⌜ r ≡ placesFound (now (column .entry)) n (now (wanted .entry)) m ⌝ }
 {
     let below = lists::least(n, Register::CLAIMS);
     let table = tabulate(column, below);
     let top = lists::least(m, lists::least(Register::CLAIMS, wanted.len()));
     let mut found = Found {
-        places: [none; Register::CLAIMS],
+        places: [NOWHERE; Register::CLAIMS],
         distinct: table.distinct,
     };
     let mut i: usize = 0;
     while i < top {
-        found.places[i] = seek(&table.heads, &table.nexts, column, below, wanted[i], none);
+        found.places[i] = seek(&table.heads, &table.nexts, column, below, wanted[i]);
         i += 1;
     }
     found
 }
 
-// The latest place before `i` of the number wanted at `i`, for each of the first `m`; `none` where there is none, and past them.
-pub fn earlier_places<'a>(column: &'a [u32], wanted: &'a [u32], m: usize, none: u16) -> Found
-    ensures { λ r. ⌜ r ≡ earlierFound (now (column .entry)) (now (wanted .entry)) m none ⌝ }
+// The latest place before `i` of the number wanted at `i`, for each of the first `m`; `NOWHERE` where there is none, and
+// past them.
+pub fn earlier_places<'a>(column: &'a [u32], wanted: &'a [u32], m: usize) -> Found
+    ensures { λ r. ⌜ r ≡ earlierFound (now (column .entry)) (now (wanted .entry)) m ⌝ }
 {
     let top = lists::least(m, lists::least(Register::CLAIMS, wanted.len()));
     let table = tabulate(column, top);
     let mut found = Found {
-        places: [none; Register::CLAIMS],
+        places: [NOWHERE; Register::CLAIMS],
         distinct: table.distinct,
     };
     let mut i: usize = 0;
     while i < top {
-        found.places[i] = seek(&table.heads, &table.nexts, column, i, wanted[i], none);
+        found.places[i] = seek(&table.heads, &table.nexts, column, i, wanted[i]);
         i += 1;
     }
     found
@@ -138,23 +135,22 @@ pub fn both_places<'a>(
     wanted: &'a [u32],
     other: &'a [u32],
     m: usize,
-    none: u16,
 ) -> Both
-    ensures { λ r. ⌜ r ≡ bothPlaces (now (column .entry)) n (now (wanted .entry)) (now (other .entry)) m none ⌝ }
+    ensures { λ r. ⌜ r ≡ bothPlaces (now (column .entry)) n (now (wanted .entry)) (now (other .entry)) m ⌝ }
 {
     let below = lists::least(n, Register::CLAIMS);
     let table = tabulate(column, below);
     let long = lists::least(wanted.len(), other.len());
     let top = lists::least(m, lists::least(Register::CLAIMS, long));
     let mut places = Both {
-        first: [none; Register::CLAIMS],
-        second: [none; Register::CLAIMS],
+        first: [NOWHERE; Register::CLAIMS],
+        second: [NOWHERE; Register::CLAIMS],
         distinct: table.distinct,
     };
     let mut i: usize = 0;
     while i < top {
-        places.first[i] = seek(&table.heads, &table.nexts, column, below, wanted[i], none);
-        places.second[i] = seek(&table.heads, &table.nexts, column, below, other[i], none);
+        places.first[i] = seek(&table.heads, &table.nexts, column, below, wanted[i]);
+        places.second[i] = seek(&table.heads, &table.nexts, column, below, other[i]);
         i += 1;
     }
     places

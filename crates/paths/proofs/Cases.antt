@@ -3,7 +3,8 @@
 use mathlib.Core.Path.{_≡_, refl}
 use mathlib.Core.Bool.{true, false}
 use mathlib.Core.List.{[], _∷_}
-use Rattle.paths.specs.Containment.{slash, dot, same, isEmpty, joined, components, climbing, trimmed, starting, slashed, contained, reached}
+use Rattle.lists.specs.Lists.{same}
+use Rattle.paths.specs.Containment.{slash, dot, isEmpty, joined, components, climbing, trimmed, starting, slashed, contained, reached}
 use Rattle.paths.specs.Readings.{written, unslashed}
 use Rattle.paths.specs.Lent.{dotted, paired, beneath}
 

@@ -9,7 +9,8 @@ use lib.Dec.{eqb, ltb}
 use lib.ListN.{replicate}
 use borrow.Author.Tests.{ne-eqb, eqb-true, eqb-false, ltb-true}
 use Rattle.lists.specs.Tests.{cases, and-right}
-use Rattle.paths.specs.Containment.{slash, dot, same, components, climbing}
+use Rattle.lists.specs.Lists.{same}
+use Rattle.paths.specs.Containment.{slash, dot, components, climbing}
 use Rattle.paths.specs.Components.{components-first}
 
 -- nothing is left: the last component is these dots

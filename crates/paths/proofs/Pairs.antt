@@ -6,8 +6,8 @@ use Prim.Native.Nat.{ℕ}
 use lib.Dec.{eqb}
 use borrow.Author.Tests.{ne-eqb, eqb-true, eqb-false}
 use Rattle.lists.specs.Tests.{cases, or-left, or-right}
-use Rattle.lists.specs.Lists.{any}
-use Rattle.paths.specs.Containment.{slash, dot, same, components, climbing}
+use Rattle.lists.specs.Lists.{any, same}
+use Rattle.paths.specs.Containment.{slash, dot, components, climbing}
 use Rattle.paths.specs.Components.{components-first, components-cut, components-joined}
 use Rattle.paths.specs.Lent.{dotted, paired}
 

@@ -5,10 +5,11 @@ use mathlib.Core.Bool.{true, false, not}
 use mathlib.Core.List.{List, [], _∷_, _++_}
 use Prim.Native.Nat.{ℕ, _≤_}
 use lib.ListN.{length, replicate}
-use Rattle.lists.specs.Lists.{every}
-use Rattle.paths.specs.Containment.{slash, same, isEmpty, components, climbing, trimmed, contained, reached, reachBetween, isInside, lengthOf}
+use Rattle.lists.specs.Lists.{every, same}
+use Rattle.lists.specs.Same.{same-sound, same-complete}
+use Rattle.paths.specs.Containment.{slash, isEmpty, components, climbing, trimmed, contained, reached, reachBetween, isInside, lengthOf}
 use Rattle.paths.specs.Components.{components-natural}
-use Rattle.paths.specs.Trimming.{same-sound, same-complete, trimmed-twice}
+use Rattle.paths.specs.Trimming.{trimmed-twice}
 use Rattle.paths.specs.Laws.{contained-clean, contained-sound, contained-complete, contained-refl, contained-trans, contained-not-trans, contained-antisym, contained-trimmed, trimmed-natural}
 use Rattle.paths.specs.Laws as laws
 use Rattle.paths.specs.Readings.{written, unslashed, Under}

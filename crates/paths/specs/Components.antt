@@ -7,9 +7,9 @@ use lib.Dec.{eqb}
 use lib.ListN.{replicate}
 use borrow.Author.Tests.{eqb-true}
 use Rattle.lists.specs.Tests.{cases}
-use Rattle.lists.specs.Lists.{every}
+use Rattle.lists.specs.Lists.{every, same}
 use Rattle.lists.specs.Each.{any-append}
-use Rattle.paths.specs.Containment.{slash, dot, same, joined, components, climbing}
+use Rattle.paths.specs.Containment.{slash, dot, joined, components, climbing}
 use Rattle.paths.specs.Readings.{written, unslashed}
 
 module _ (b : ℕ) (p : List ℕ) where

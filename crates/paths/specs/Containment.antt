@@ -5,7 +5,7 @@ use mathlib.Core.List.{List, [], _∷_}
 use Prim.Native.Nat.{ℕ}
 use lib.Dec.{eqb}
 use lib.ListN.{length, drop}
-use Rattle.lists.specs.Lists.{any}
+use Rattle.lists.specs.Lists.{any, same}
 use Rattle.paths.specs.declared.Reach.{Reach}
 use Rattle.paths.specs.declared.Reach.the-variants.{Outside, Inside}
 
@@ -15,13 +15,6 @@ slash = 47
 
 abbrev pub dot : ℕ
 dot = 46
-
--- whether two byte strings are the same
-unfoldable pub same : List ℕ → List ℕ → Bool
-same [] [] = true
-same [] (c ∷ q) = false
-same (b ∷ p) [] = false
-same (b ∷ p) (c ∷ q) = eqb b c && same p q
 
 -- whether a byte string is empty
 abbrev pub isEmpty : List ℕ → Bool

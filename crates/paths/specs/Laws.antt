@@ -10,7 +10,8 @@ use lib.ListN.{length, drop, replicate, length-append}
 use lib.Seq.{drop-append-seam}
 use borrow.Author.Tests.{eqb-true, not-true}
 use Rattle.lists.specs.Tests.{cases, and-left, and-right, or-left}
-use Rattle.paths.specs.Containment.{slash, same, isEmpty, components, climbing, trimmed, starting, slashed, contained, reached, reachBetween, isInside, lengthOf}
+use Rattle.lists.specs.Lists.{same}
+use Rattle.paths.specs.Containment.{slash, isEmpty, components, climbing, trimmed, starting, slashed, contained, reached, reachBetween, isInside, lengthOf}
 use Rattle.paths.specs.Components.{climbing-append, climbing-behind}
 use Rattle.paths.specs.Trimming.{isEmpty-sound, starting-sound, starting-complete, trimmed-append, trimmed-twice, trimmed-slashes, trimmed-length, trimmed-end, followed}
 use Rattle.paths.specs.Readings.{Under}

@@ -8,26 +8,11 @@ use lib.Dec.{eqb}
 use lib.ListN.{length, drop, replicate, length-append}
 use borrow.Author.Tests.{eq-eqb, ne-eqb, eqb-true, eqb-false}
 use Rattle.lists.specs.Tests.{cases, and-left, and-right}
-use Rattle.paths.specs.Containment.{slash, same, isEmpty, trimmed, starting, slashed}
+use Rattle.lists.specs.Lists.{same}
+use Rattle.paths.specs.Containment.{slash, isEmpty, trimmed, starting, slashed}
 use Rattle.paths.specs.declared.Reach.{Reach}
 use Rattle.paths.specs.declared.Reach.the-variants.{Outside, Inside}
 use Rattle.paths.specs.Lent.{beneath}
-
--- two byte strings are the same exactly when they are equal
-pub same-sound : (p q : List ℕ) → same p q ≡ true → p ≡ q
-unfolding same
-same-sound [] [] h = refl
-same-sound [] (c ∷ q) h = cc
-same-sound (b ∷ p) [] h = cc
-same-sound (b ∷ p) (c ∷ q) h =
-    let first = eqb-true b c (and-left (eqb b c) (same p q) h) in
-    let rest = same-sound p q (and-right (eqb b c) (same p q) h) in
-    cc
-
-pub same-complete : (p : List ℕ) → same p p ≡ true
-unfolding same
-same-complete [] = refl
-same-complete (b ∷ p) = rw (eq-eqb b b refl) (same-complete p)
 
 pub isEmpty-sound : (p : List ℕ) → isEmpty p ≡ true → p ≡ []
 isEmpty-sound [] h = refl

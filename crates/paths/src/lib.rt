@@ -1,6 +1,7 @@
-// Path containment of two lent paths, of any length and any bytes. Nothing is copied: the outer path is trimmed by its length,
-// and the inner path's tail from that length on is handed as a part to the judgement of what follows. All tests must hold, so the
-// cheap ones are made first and `..` is looked for last.
+// Path containment, judged on the two paths as they are lent.
+// Any length and any bytes are taken, and nothing is copied: the outer path is trimmed by its
+// length, and the inner path's tail from that length on is handed as a part to the judgement of
+// what follows. All tests must hold, so the cheap ones are made first and `..` is looked for last.
 ghost use mathlib.Core.Path.{_≡_};
 ghost use mathlib.Core.Bool.{_&&_, _||_, cond};
 ghost use Prim.Native.Nat.{_+_, _≤_};

@@ -21,14 +21,11 @@ use Rattle.actions.specs.declared.Judgement.{Judgement}
 use Rattle.actions.specs.declared.Judgement.the-variants.{Permitted, Refused, Cancelled}
 use Rattle.actions.specs.declared.Plan.{Plan}
 use Rattle.actions.specs.declared.PlanVerdict.{PlanVerdict}
-use Rattle.verdicts.specs.Plans.{actionsOf, runs, haltOf, held, planned}
-use Rattle.verdicts.specs.Cancelling.{halt-runs, planned-runs}
-use Rattle.verdicts.specs.Sameness.{planned-same}
-use Rattle.columns.specs.Sheet.{sheetOf}
-use Rattle.coverage.specs.Laid.{laid}
-use Rattle.gate.specs.Judged.{Lent, viewOf, lentOf, lentJudged}
+use Rattle.gate_rules.specs.Plans.{actionsOf, runs, haltOf, held, planned}
+use Rattle.gate_rules.specs.Cancelling.{halt-runs, planned-runs}
+use Rattle.gate_rules.specs.Sameness.{planned-same}
+use Rattle.gate.specs.Judged.{Lent, lentIn, lentJudged}
 use Rattle.gate.specs.Sheets.{sheeted, sheeted-same}
-use Rattle.gate.specs.declared.View.{View}
 use Rattle.plans.specs.Judgements.{judgedAs, judgementsBy}
 use Rattle.plans.proofs.Laws.{judgements-by-nil, judgements-by-cons, judgements-natural}
 
@@ -117,13 +114,13 @@ module _ {l : Lent} {p : Plan} {top : ℕ} where
         rw all (held-same list top (s .passed) (omega arith) (rw (s .long) (s .put)))
 
 -- the verdicts by what is lent of a register are those of the plan
-pub planned-lent : (r : Register) (p : Plan) → Shaped r → haltOf (sheeted r) p ≡ runs → {v : View} → v ≡ viewOf r → {sheet bytes : List ℕ}
-    → sheet ≡ sheetOf (r .claims) → bytes ≡ laid (r .resources) .bytes → {answer : PlanVerdict}
-    → answer ≡ held (judgementsBy (lentOf v sheet bytes) false (actionsOf p)) → answer ≡ planned (sheeted r) p
-planned-lent r p shaped e viewed put of-bytes answered =
+pub planned-lent : (r : Register) (p : Plan) → Shaped r → haltOf (sheeted r) p ≡ runs → {l : Lent} → l ≡ lentIn r → {answer : PlanVerdict}
+    → answer ≡ held (judgementsBy l false (actionsOf p)) → answer ≡ planned (sheeted r) p
+planned-lent r p shaped e same answered =
     let passed = halt-runs (sheeted r) p e in
     answered
-    ∙ rw (viewed, put, of-bytes) (ap held (judgements-natural r shaped (passed .soundly) false (actionsOf p) (passed .fit)) ∙ sym (planned-runs (sheeted r) p e))
+    ∙ ap (λ l. held (judgementsBy l false (actionsOf p))) same
+    ∙ ap held (judgements-natural r shaped (passed .soundly) false (actionsOf p) (passed .fit)) ∙ sym (planned-runs (sheeted r) p e)
 
 -- a register whose claims are read from their sheet gets the same verdicts
 pub planned-sheeted : (r : Register) → length (r .claims .list) ≡ claimLimit → (p : Plan) → planned (sheeted r) p ≡ planned r p

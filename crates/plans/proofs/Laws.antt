@@ -1,4 +1,4 @@
--- What stops a plan, and the verdicts on its actions, by what is lent of a register's view: those of the register. Assumes nothing.
+-- What stops a plan, and the verdicts on its actions, by what is lent of a register: those of the register. Assumes nothing.
 use mathlib.Core.Path.{_≡_, refl, sym, ap, _∙_}
 use mathlib.Core.Bool.{Bool, true, not, _||_, cond}
 use mathlib.Core.List.{List, [], _∷_}
@@ -8,20 +8,20 @@ use lib.ListN.{length}
 use Rattle.lists.specs.Lists.{All}
 use Rattle.register.specs.Register.{Shaped}
 use Rattle.register.specs.declared.Register.{Register}
-use Rattle.rules.specs.Sound.{sound}
+use Rattle.soundness_rules.specs.Sound.{sound}
 use Rattle.refusals.specs.Refusals.{outcomeOf}
 use Rattle.refusals.specs.declared.Outcome.the-variants.{Accepted, Refused}
 use Rattle.refusals.specs.declared.Refusal.{Refusal}
 use Rattle.actions.specs.declared.Action.{Action}
 use Rattle.actions.specs.declared.Violation.{Violation}
 use Rattle.actions.specs.declared.Judgement.the-variants.{Cancelled}
-use Rattle.verdicts.specs.Gate.{violationsOf}
-use Rattle.verdicts.specs.Laws.{Fit}
-use Rattle.verdicts.specs.Plans.{judged, judgements, runs, halts, firstHalt}
-use Rattle.verdicts.specs.Cancelling.{judgements-nil, judgements-cons}
-use Rattle.gate.specs.Judged.{Lent, viewOf, lentIn, lentTests, lentJudged}
+use Rattle.gate_rules.specs.Gate.{violationsOf}
+use Rattle.gate_rules.specs.Laws.{Fit}
+use Rattle.gate_rules.specs.Plans.{judged, judgements, runs, halts, firstHalt}
+use Rattle.gate_rules.specs.Cancelling.{judgements-nil, judgements-cons}
+use Rattle.gate.specs.Judged.{Lent, lentIn, lentTests, lentJudged}
 use Rattle.gate.specs.Sheets.{sheeted, sheeted-shaped}
-use Rattle.gate.specs.Laws.{tests-natural, view-natural, judged-natural}
+use Rattle.gate.specs.Laws.{tests-natural, lent-natural, judged-natural}
 use Rattle.plans.specs.Stops.{haltBy}
 use Rattle.plans.specs.Judgements.{judgedAs, judgementsBy}
 
@@ -41,7 +41,7 @@ module _ (names : List ℕ) (n i : ℕ) where
   unfolding haltBy
   halt-by-fail a actions why e = rw e
 
-pub halt-natural : (r : Register) (i : ℕ) (actions : List Action) → haltBy (viewOf r .actors .names) (viewOf r .counts .actors) i actions ≡ firstHalt (sheeted r) i actions
+pub halt-natural : (r : Register) (i : ℕ) (actions : List Action) → haltBy (lentIn r .names) (lentIn r .actors) i actions ≡ firstHalt (sheeted r) i actions
 unfolding haltBy firstHalt
 halt-natural r i [] = refl
 halt-natural r i (a ∷ actions) = rw (tests-natural r a, halt-natural r (suc i) actions)
@@ -68,7 +68,7 @@ module _ (r : Register) (shaped : Shaped r) (h : sound (sheeted r) ≡ true) whe
   verdict-natural : (a : Action) → Fit (sheeted r) a → judgedAs (lentJudged (lentIn r) a .violations .count) ≡ judged (violationsOf (sheeted r) a)
   verdict-natural a fit =
       ap (λ y. judgedAs (y .violations .count))
-      (view-natural r shaped h a (fit .fits) ∙ judged-natural (sheeted r) (sheeted-shaped r shaped) h a (fit .fits)) ∙ judged-counted (violationsOf (sheeted r) a)
+      (lent-natural r shaped h a (fit .fits) ∙ judged-natural (sheeted r) (sheeted-shaped r shaped) h a (fit .fits)) ∙ judged-counted (violationsOf (sheeted r) a)
 
   -- the verdicts on actions in range
   pub judgements-natural : (cancelled : Bool) (actions : List Action) → All (λ a. Fit (sheeted r) a) actions

@@ -8,21 +8,20 @@ use borrow.Author.Tests.{le-leb, lt-leb}
 use lib.ListN.{length, drop, getD}
 use Rattle.lists.specs.Loops.{Loop, start, turn, next, done}
 use Rattle.register.specs.declared.Register.{Register}
-use Rattle.rules.specs.Sound.{sound}
+use Rattle.soundness_rules.specs.Sound.{sound}
 use Rattle.refusals.specs.Refusals.{outcomeOf}
 use Rattle.refusals.specs.Laws.{outcome-clash}
 use Rattle.refusals.specs.declared.Outcome.{Outcome}
 use Rattle.refusals.specs.declared.Outcome.the-variants.{Accepted, Refused}
 use Rattle.refusals.specs.declared.Refusal.{Refusal}
-use Rattle.refusals.specs.declared.Refusal.the-variants.{Unsound, OutOfRange}
+use Rattle.refusals.specs.declared.Refusal.the-variants.{Unsound, Range}
 use Rattle.actions.specs.Actions.{actionLimit}
 use Rattle.actions.specs.declared.Action.{Action}
 use Rattle.actions.specs.declared.Plan.{Plan}
-use Rattle.verdicts.specs.Plans.{actionsOf, Halt, runs, halts, firstHalt, haltOf, stopped, planned}
-use Rattle.verdicts.specs.Cancelling.{planned-stopped}
-use Rattle.gate.specs.Judged.{viewOf, lentTests}
+use Rattle.gate_rules.specs.Plans.{actionsOf, Halt, runs, halts, firstHalt, haltOf, stopped, planned}
+use Rattle.gate_rules.specs.Cancelling.{planned-stopped}
+use Rattle.gate.specs.Judged.{Lent, lentIn, lentTests}
 use Rattle.gate.specs.Sheets.{sheeted}
-use Rattle.gate.specs.declared.View.{View}
 use Rattle.plans.specs.Stops.{stopOf, haltBy}
 use Rattle.plans.proofs.Laws.{halt-by-nil, halt-by-pass, halt-by-fail, halt-natural}
 use Rattle.plans.specs.declared.Stop.{Stop}
@@ -64,22 +63,22 @@ module _ (r : Register) (p : Plan) where
   stop-unsound fails = sym (planned-stopped r p Unsound 0 (halt-unsound fails))
 
   module _ (h : sound r ≡ true) where
-    halt-many : actionLimit < p .count → haltOf r p ≡ halts OutOfRange 0
+    halt-many : actionLimit < p .count → haltOf r p ≡ halts Range 0
     unfolding haltOf
     halt-many many = rw (h, lt-leb (p .count) actionLimit many)
 
-    pub stop-many : actionLimit < p .count → stopped OutOfRange 0 ≡ planned r p
-    stop-many many = sym (planned-stopped r p OutOfRange 0 (halt-many many))
+    pub stop-many : actionLimit < p .count → stopped Range 0 ≡ planned r p
+    stop-many many = sym (planned-stopped r p Range 0 (halt-many many))
 
     halt-actions : p .count ≤ actionLimit → haltOf r p ≡ firstHalt r 0 (actionsOf p)
     unfolding haltOf
     halt-actions few = rw (h, le-leb (p .count) actionLimit few)
 
--- what is found by the view of the register stops the plan
-pub stop-found : (r : Register) (p : Plan) → sound (sheeted r) ≡ true → p .count ≤ actionLimit → {v : View} → v ≡ viewOf r → {stop : Stop}
-    → stop ≡ stopOf (haltBy (v .actors .names) (v .counts .actors) 0 (actionsOf p)) → stop ≡ stopOf (haltOf (sheeted r) p)
-stop-found r p h few viewed found =
-    found ∙ ap (λ w. stopOf (haltBy (w .actors .names) (w .counts .actors) 0 (actionsOf p))) viewed
+-- what is found by what is lent of the register stops the plan
+pub stop-found : (r : Register) (p : Plan) → sound (sheeted r) ≡ true → p .count ≤ actionLimit → {l : Lent} → l ≡ lentIn r → {stop : Stop}
+    → stop ≡ stopOf (haltBy (l .names) (l .actors) 0 (actionsOf p)) → stop ≡ stopOf (haltOf (sheeted r) p)
+stop-found r p h few same found =
+    found ∙ ap (λ w. stopOf (haltBy (w .names) (w .actors) 0 (actionsOf p))) same
     ∙ ap stopOf (halt-natural r 0 (actionsOf p) ∙ sym (halt-actions (sheeted r) p h few))
 
 -- what the code holds tells what stops a plan

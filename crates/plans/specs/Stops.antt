@@ -4,7 +4,7 @@ use Prim.Native.Nat.{ℕ, suc}
 use Rattle.refusals.specs.Refusals.{outcomeOf}
 use Rattle.refusals.specs.declared.Outcome.the-variants.{Accepted, Refused}
 use Rattle.actions.specs.declared.Action.{Action}
-use Rattle.verdicts.specs.Plans.{Halt, runs, halts, haltOn}
+use Rattle.gate_rules.specs.Plans.{Halt, runs, halts, haltOn}
 use Rattle.gate.specs.Judged.{lentTests}
 use Rattle.plans.specs.declared.Stop.{Stop}
 

@@ -1,24 +1,25 @@
-// The gate for a plan of up to 16 actions, in order. Refused with 1 where the register is not sound and then with 2 where the count is above
-// 16, both with position 0; then the first action with 2 or 3 stops the whole plan and is named by its position from 0, a cancelled one too.
-// A stopped plan has no verdicts. Otherwise each action has one: every action after the first with a flag set is cancelled, and any other is
-// permitted, or refused with its number of violations. Soundness is judged, and what is looked at of the register is taken out
-// of it, once for the whole plan; it is lent to each action.
+// The gate for a plan of up to 16 actions, in order.
+// Refused with 1 where the register is not sound and then with 2 where the count is above 16, both
+// with position 0; then the first action with 2 or 3 stops the whole plan and is named by its
+// position from 0, a cancelled one too. A stopped plan has no verdicts. Otherwise each action has
+// one: every action after the first with a flag set is cancelled, and any other is permitted, or
+// refused with its number of violations. Soundness is judged, and what is looked at of the register
+// is taken out of it, once for the whole plan; it is lent to each action.
 ghost use mathlib.Core.Path.{_≡_};
-ghost use mathlib.Core.Bool.{false, cond};
-ghost use Rattle.verdicts.specs.Plans.{actionsOf, held, stopped, planned};
-ghost use Rattle.gate.specs.Judged.{lentOf, lentJudged};
+ghost use mathlib.Core.Bool.{false};
+ghost use Rattle.gate_rules.specs.Plans.{actionsOf, held, stopped, planned};
+ghost use Rattle.gate.specs.Judged.{lentOf};
 ghost use Rattle.plans.specs.Stops.{stopOf, haltBy};
 ghost use Rattle.plans.specs.Judgements.{judgedAs, judgementsBy};
-use actions::Action;
 use actions::Judged;
 use actions::Judgement;
 use actions::Plan;
 use actions::PlanVerdict;
 use gate::Counts;
-use gate::View;
 use refusals::Outcome;
 use refusals::Refusal;
 use register::Register;
+use soundness::Findings;
 
 // What stops a plan, and at which position; accepted, with position 0, where nothing does.
 struct Stop {
@@ -69,15 +70,10 @@ fn stopped(why: Refusal, position: usize) -> PlanVerdict
     }
 }
 
-// The verdict on an action, by what is lent.
-fn judge<'a>(v: View, sheet: &'a [u32], bytes: &'a [u8], a: Action, cancelled: bool) -> Judgement
-    ensures { λ y. ⌜ y ≡ cond cancelled Judgement.Cancelled (judgedAs (lentJudged (lentOf v (now (sheet .entry)) (now (bytes .entry))) a .violations .count)) ⌝ }
+// The verdict on an action that is judged, by its number of violations.
+fn verdict_by(count: usize) -> Judgement
+    ensures { λ y. ⌜ y ≡ judgedAs count ⌝ }
 {
-    if cancelled {
-        return Judgement::Cancelled;
-    }
-    let judged = gate::judge_by(v, sheet, bytes, a);
-    let count = judged.violations.count;
     if count == 0 {
         return Judgement::Permitted;
     }
@@ -85,8 +81,16 @@ fn judge<'a>(v: View, sheet: &'a [u32], bytes: &'a [u8], a: Action, cancelled: b
 }
 
 // The verdicts on the actions of a plan, by what is lent.
-fn judge_all<'a>(v: View, sheet: &'a [u32], bytes: &'a [u8], p: Plan) -> PlanVerdict
-    ensures { λ y. ⌜ y ≡ held (judgementsBy (lentOf v (now (sheet .entry)) (now (bytes .entry))) false (actionsOf p)) ⌝ }
+fn judge_all<'a>(
+    counts: Counts,
+    found: Findings,
+    lens: &'a [usize],
+    ends: &'a [u64],
+    sheet: &'a [u32],
+    bytes: &'a [u8],
+    p: Plan,
+) -> PlanVerdict
+    ensures { λ y. ⌜ y ≡ held (judgementsBy (lentOf counts found (now (lens .entry)) (now (ends .entry)) (now (sheet .entry)) (now (bytes .entry))) false (actionsOf p)) ⌝ }
 {
     let top = lists::least(p.count, Plan::ACTIONS);
     let none = Judged {
@@ -97,10 +101,19 @@ fn judge_all<'a>(v: View, sheet: &'a [u32], bytes: &'a [u8], p: Plan) -> PlanVer
     let mut i: usize = 0;
     while i < top {
         let a = p.actions[i];
-        let what = judge(v, sheet, bytes, a, flagged);
-        list[i] = Judged { what };
+        let cancelled = flagged;
         flagged = flagged | (a.flags != 0);
-        i += 1;
+        if cancelled {
+            list[i] = Judged {
+                what: Judgement::Cancelled,
+            };
+            i += 1;
+        } else {
+            let judged = gate::judge_by(counts, found, lens, ends, sheet, bytes, a);
+            let what = verdict_by(judged.violations.count);
+            list[i] = Judged { what };
+            i += 1;
+        }
     }
     PlanVerdict {
         outcome: Outcome::Accepted,
@@ -117,28 +130,26 @@ pub fn plan(r: Register, p: Plan) -> PlanVerdict
     let actors = r.actors;
     let o = r.resources;
     let k = r.claims;
-    let n = k.count;
     let mut sheet = [0u32; columns::SHEET];
-    columns::put_claims(&mut sheet, k);
-    let known = soundness::judged(actors, o, &sheet, n);
-    if !known.sound {
+    let found = soundness::examine(&mut sheet, actors, o, k);
+    if !found.sound {
         return stopped(Refusal::Unsound, 0);
     }
     if Plan::ACTIONS < p.count {
-        return stopped(Refusal::OutOfRange, 0);
+        return stopped(Refusal::Range, 0);
     }
     let mut bytes = [0u8; coverage::BYTES];
     let lens = coverage::lay(&mut bytes, o);
     let counts = Counts {
         actors: actors.count,
         resources: o.count,
-        claims: n,
+        claims: k.count,
     };
-    let v = gate::view_of(counts, &sheet, lens, known);
-    let stop = first_stop(&v.actors.names, v.counts.actors, p);
+    let ends = gate::claim_ends(&sheet, &found.ups, counts.claims);
+    let stop = first_stop(&found.actors.names, counts.actors, p);
     let outcome = stop.outcome;
     match outcome {
         Outcome::Refused(why) => stopped(why, stop.position),
-        Outcome::Accepted => judge_all(v, &sheet, &bytes, p),
+        Outcome::Accepted => judge_all(counts, found, &lens, &ends, &sheet, &bytes, p),
     }
 }

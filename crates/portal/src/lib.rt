@@ -1,18 +1,19 @@
-// The calls that the portal links: `rt staticlib portal` exports them, and include/guvrendik.h declares them. Nothing is decided
-// here: each call hands its arguments on, and gives the inner answer as a struct of numbers. No call asks anything of its caller,
-// and no answer whose numbers are all zero is a yes.
+// The calls that the portal links.
+// `rt staticlib portal` exports them, and include/guvrendik.h declares them. Nothing is decided
+// here: each call hands its arguments on, and gives the inner answer as a struct of numbers. No
+// call asks anything of its caller, and no answer whose numbers are all zero is a yes.
 ghost use mathlib.Core.Path.{_≡_};
-ghost use Rattle.rules.specs.Sound.{sound};
-ghost use Rattle.changes.specs.Changes.{granted, revoke, clearResource, clearExpired, withdrawn};
-ghost use Rattle.verdicts.specs.Gate.{gated};
-ghost use Rattle.verdicts.specs.Plans.{planned};
-ghost use Rattle.texts.specs.Registers.{registerRead};
-ghost use Rattle.texts.specs.Actions.{actionRead};
-ghost use Rattle.sheets.specs.Sheets.{put};
-ghost use Rattle.writing.specs.Writing.{registerWritten, registerBuffer};
-ghost use Rattle.texts.specs.Delivery.{delivered};
-ghost use Rattle.verdict_text.specs.Printed.{printed};
-ghost use Rattle.json_actions.specs.Actions.{jsonRead, jsonWritten, jsonBuffer};
+ghost use Rattle.soundness_rules.specs.Sound.{sound};
+ghost use Rattle.change_rules.specs.Changes.{granted, revoke, clearResource, clearExpired, withdrawn};
+ghost use Rattle.gate_rules.specs.Gate.{gated};
+ghost use Rattle.gate_rules.specs.Plans.{planned};
+ghost use Rattle.text_rules.specs.Registers.{registerRead};
+ghost use Rattle.text_rules.specs.Actions.{actionRead};
+ghost use Rattle.buffers.specs.Buffers.{put};
+ghost use Rattle.register_writing.specs.Writing.{registerWritten, registerBuffer};
+ghost use Rattle.buffers.specs.Delivery.{delivered};
+ghost use Rattle.verdict_printing.specs.Printed.{printed};
+ghost use Rattle.json_rules.specs.Actions.{jsonRead, jsonWritten, jsonBuffer};
 ghost use Rattle.answers.specs.Answers.{containment, soundness, grantAnswer, revokeAnswer, gateAnswer, planAnswer, registerAnswer, actionAnswer, writtenAnswer, jsonAnswer, versionNumbers};
 ghost use Rattle.words.specs.Words.{refusalText, violationText, rightName, flagName};
 use actions::Action;
@@ -124,7 +125,7 @@ pub extern "C" fn guvrendik_judge_plan(r: Register, p: Plan) -> PlanAnswer
 pub extern "C" fn guvrendik_read_register(text: &[u8]) -> RegisterAnswer
     ensures { λ y. ⌜ y ≡ registerAnswer (registerRead (now (text .entry))) ⌝ }
 {
-    let read = reading::read_register(text);
+    let read = register_reading::read_register(text);
     let state = read.register;
     let outcome = read.outcome;
     RegisterAnswer {
@@ -157,7 +158,7 @@ pub extern "C" fn guvrendik_write_register(r: Register, buffer: &mut [u8]) -> Wr
     ensures answer { λ y. ⌜ y ≡ writtenAnswer (registerWritten r (now (buffer .entry))) ⌝ }
     ensures buffer { λ _. ⌜ now (buffer .exit) ≡ registerBuffer r (now (buffer .entry)) ⌝ }
 {
-    answers::written(writing::write(r, buffer))
+    answers::written(register_writing::write(r, buffer))
 }
 
 // Puts the lines that 01's program prints of the two texts into the buffer.
@@ -170,7 +171,7 @@ pub extern "C" fn guvrendik_verdict_text(
     ensures answer { λ y. ⌜ y ≡ writtenAnswer (delivered (printed (now (register .entry)) (now (action .entry))) (now (buffer .entry))) ⌝ }
     ensures buffer { λ _. ⌜ now (buffer .exit) ≡ put 0 (printed (now (register .entry)) (now (action .entry))) (now (buffer .entry)) ⌝ }
 {
-    answers::written(verdict_text::verdict_text(register, action, buffer))
+    answers::written(verdict_printing::verdict_text(register, action, buffer))
 }
 
 // Reads a JSON text of the builder's form as an action at the moment.

@@ -8,35 +8,35 @@ use Rattle.lists.specs.Tests.{cases}
 use Rattle.lists.specs.Lists.{All}
 use Rattle.refusals.specs.Refusals.{numberOf, Test, outcomeOf}
 use Rattle.refusals.specs.declared.Refusal.{Refusal}
-use Rattle.refusals.specs.declared.Refusal.the-variants.{Unsound, OutOfRange, Unknown, IdStands, Full, NotKeeper, Ownerless, MachineBarred, ParentAbsent, ParentNotHeld, ParentDead, NoDelegate, RightLacking, WeightAbove, TooManyHops, Circle, ClaimAbsent, NoGrantor, BadForm, CountAbove, BufferShort, BadJson, BeyondJson}
+use Rattle.refusals.specs.declared.Refusal.the-variants.{Unsound, Range, Absent, Stands, Full, NotKeeper, Ownerless, NotByMachine, NoParent, NotHeld, NotLive, NoDelegate, RightLacking, WeightAbove, TooManyHops, Circle, NoClaim, NoGrantor, Form, Count, Buffer, JsonForm, JsonLacks}
 use Rattle.refusals.specs.declared.Outcome.{Outcome}
 use Rattle.refusals.specs.declared.Outcome.the-variants.{Accepted, Refused}
 
 -- every refusal has a number of one or two digits, and none has 0
 pub number-bounds : (why : Refusal) → (0 < numberOf why) × (numberOf why < 100)
 number-bounds Unsound = (omega arith, omega arith)
-number-bounds OutOfRange = (omega arith, omega arith)
-number-bounds Unknown = (omega arith, omega arith)
-number-bounds IdStands = (omega arith, omega arith)
+number-bounds Range = (omega arith, omega arith)
+number-bounds Absent = (omega arith, omega arith)
+number-bounds Stands = (omega arith, omega arith)
 number-bounds Full = (omega arith, omega arith)
 number-bounds NotKeeper = (omega arith, omega arith)
 number-bounds Ownerless = (omega arith, omega arith)
-number-bounds MachineBarred = (omega arith, omega arith)
-number-bounds ParentAbsent = (omega arith, omega arith)
-number-bounds ParentNotHeld = (omega arith, omega arith)
-number-bounds ParentDead = (omega arith, omega arith)
+number-bounds NotByMachine = (omega arith, omega arith)
+number-bounds NoParent = (omega arith, omega arith)
+number-bounds NotHeld = (omega arith, omega arith)
+number-bounds NotLive = (omega arith, omega arith)
 number-bounds NoDelegate = (omega arith, omega arith)
 number-bounds RightLacking = (omega arith, omega arith)
 number-bounds WeightAbove = (omega arith, omega arith)
 number-bounds TooManyHops = (omega arith, omega arith)
 number-bounds Circle = (omega arith, omega arith)
-number-bounds ClaimAbsent = (omega arith, omega arith)
+number-bounds NoClaim = (omega arith, omega arith)
 number-bounds NoGrantor = (omega arith, omega arith)
-number-bounds BadForm = (omega arith, omega arith)
-number-bounds CountAbove = (omega arith, omega arith)
-number-bounds BufferShort = (omega arith, omega arith)
-number-bounds BadJson = (omega arith, omega arith)
-number-bounds BeyondJson = (omega arith, omega arith)
+number-bounds Form = (omega arith, omega arith)
+number-bounds Count = (omega arith, omega arith)
+number-bounds Buffer = (omega arith, omega arith)
+number-bounds JsonForm = (omega arith, omega arith)
+number-bounds JsonLacks = (omega arith, omega arith)
 
 -- an outcome taken apart, with its equation
 pub outcome-cases : {A : Type 0} (o : Outcome) → (o ≡ Accepted → A) → ((why : Refusal) → o ≡ Refused why → A) → A

@@ -3,34 +3,34 @@ use mathlib.Core.Bool.{Bool, true, false, cond}
 use mathlib.Core.List.{List, [], _∷_}
 use Prim.Native.Nat.{ℕ}
 use Rattle.refusals.specs.declared.Refusal.{Refusal}
-use Rattle.refusals.specs.declared.Refusal.the-variants.{Unsound, OutOfRange, Unknown, IdStands, Full, NotKeeper, Ownerless, MachineBarred, ParentAbsent, ParentNotHeld, ParentDead, NoDelegate, RightLacking, WeightAbove, TooManyHops, Circle, ClaimAbsent, NoGrantor, BadForm, CountAbove, BufferShort, BadJson, BeyondJson}
+use Rattle.refusals.specs.declared.Refusal.the-variants.{Unsound, Range, Absent, Stands, Full, NotKeeper, Ownerless, NotByMachine, NoParent, NotHeld, NotLive, NoDelegate, RightLacking, WeightAbove, TooManyHops, Circle, NoClaim, NoGrantor, Form, Count, Buffer, JsonForm, JsonLacks}
 use Rattle.refusals.specs.declared.Outcome.{Outcome}
 use Rattle.refusals.specs.declared.Outcome.the-variants.{Accepted, Refused}
 
 abbrev pub numberOf : Refusal → ℕ
 numberOf Unsound = 1
-numberOf OutOfRange = 2
-numberOf Unknown = 3
-numberOf IdStands = 4
+numberOf Range = 2
+numberOf Absent = 3
+numberOf Stands = 4
 numberOf Full = 5
 numberOf NotKeeper = 6
 numberOf Ownerless = 7
-numberOf MachineBarred = 8
-numberOf ParentAbsent = 9
-numberOf ParentNotHeld = 10
-numberOf ParentDead = 11
+numberOf NotByMachine = 8
+numberOf NoParent = 9
+numberOf NotHeld = 10
+numberOf NotLive = 11
 numberOf NoDelegate = 12
 numberOf RightLacking = 13
 numberOf WeightAbove = 14
 numberOf TooManyHops = 15
 numberOf Circle = 16
-numberOf ClaimAbsent = 17
+numberOf NoClaim = 17
 numberOf NoGrantor = 18
-numberOf BadForm = 19
-numberOf CountAbove = 20
-numberOf BufferShort = 21
-numberOf BadJson = 24
-numberOf BeyondJson = 25
+numberOf Form = 19
+numberOf Count = 20
+numberOf Buffer = 21
+numberOf JsonForm = 24
+numberOf JsonLacks = 25
 
 -- a test of a call: whether it is passed, and the refusal where it is not
 pub record Test : Type 0 where

@@ -1,4 +1,5 @@
-// Why a call is refused, and 01's number of it: one list for every call that can refuse.
+// Why a call is refused, with 01's numbers, and the outcome of ordered tests.
+// One list of refusals serves every call that can refuse.
 ghost use mathlib.Core.Path.{_≡_};
 ghost use Rattle.refusals.specs.Refusals.{numberOf};
 
@@ -7,11 +8,11 @@ pub enum Refusal {
     // 1: the register is not sound.
     Unsound,
     // 2: a field or the moment is out of range.
-    OutOfRange,
+    Range,
     // 3: grantor, holder, granted or cleared resource, revoker or clearing caller is not in the register.
-    Unknown,
+    Absent,
     // 4: the claim's id already stands.
-    IdStands,
+    Stands,
     // 5: 256 claims stand.
     Full,
     // 6: a root grant by anyone but the keeper.
@@ -19,13 +20,13 @@ pub enum Refusal {
     // 7: the grantor is a machine without owner.
     Ownerless,
     // 8: the grantor is a machine and right 13, 15 or 16 is asked.
-    MachineBarred,
+    NotByMachine,
     // 9: the parent does not stand.
-    ParentAbsent,
+    NoParent,
     // 10: the parent is not held by the grantor, or is on another resource.
-    ParentNotHeld,
+    NotHeld,
     // 11: the parent is not live at the moment: its weight is 0 or it has expired, or a claim higher on its chain has.
-    ParentDead,
+    NotLive,
     // 12: the parent lacks DELEGATE.
     NoDelegate,
     // 13: a right the parent lacks.
@@ -37,20 +38,20 @@ pub enum Refusal {
     // 16: a circle along the chain.
     Circle,
     // 17: the claim to revoke does not stand.
-    ClaimAbsent,
+    NoClaim,
     // 18: the revoker is no grantor on that claim's chain, the claim itself included; who clears a resource is not its keeper; who clears
     // old claims is not human.
     NoGrantor,
     // 19: the text is not of the form.
-    BadForm,
+    Form,
     // 20: a count line is above its limit.
-    CountAbove,
+    Count,
     // 21: the buffer is too short for the text.
-    BufferShort,
+    Buffer,
     // 24: the text is not of the builder's form, or a number in it is out of range, or it has more than 32 uses.
-    BadJson,
+    JsonForm,
     // 25: the builder's form has no place for a right above 2 or a governed entry.
-    BeyondJson,
+    JsonLacks,
 }
 
 pub enum Outcome {
@@ -64,27 +65,27 @@ pub fn number(why: Refusal) -> u32
 {
     match why {
         Refusal::Unsound => 1,
-        Refusal::OutOfRange => 2,
-        Refusal::Unknown => 3,
-        Refusal::IdStands => 4,
+        Refusal::Range => 2,
+        Refusal::Absent => 3,
+        Refusal::Stands => 4,
         Refusal::Full => 5,
         Refusal::NotKeeper => 6,
         Refusal::Ownerless => 7,
-        Refusal::MachineBarred => 8,
-        Refusal::ParentAbsent => 9,
-        Refusal::ParentNotHeld => 10,
-        Refusal::ParentDead => 11,
+        Refusal::NotByMachine => 8,
+        Refusal::NoParent => 9,
+        Refusal::NotHeld => 10,
+        Refusal::NotLive => 11,
         Refusal::NoDelegate => 12,
         Refusal::RightLacking => 13,
         Refusal::WeightAbove => 14,
         Refusal::TooManyHops => 15,
         Refusal::Circle => 16,
-        Refusal::ClaimAbsent => 17,
+        Refusal::NoClaim => 17,
         Refusal::NoGrantor => 18,
-        Refusal::BadForm => 19,
-        Refusal::CountAbove => 20,
-        Refusal::BufferShort => 21,
-        Refusal::BadJson => 24,
-        Refusal::BeyondJson => 25,
+        Refusal::Form => 19,
+        Refusal::Count => 20,
+        Refusal::Buffer => 21,
+        Refusal::JsonForm => 24,
+        Refusal::JsonLacks => 25,
     }
 }

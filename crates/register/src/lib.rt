@@ -1,6 +1,8 @@
-// The register by value: three lists, each an array with a count, of which only what stands below the count is looked at. Every
-// number has a type that can say one out of range, and kinds are numbers: what is out of range makes a register unsound, and is
-// never cut down to something else. The structs cross to C as they are.
+// The register by value: its three lists, chains, hop counts, liveness.
+// Each list is an array with a count, of which only what stands below the count is looked at. Every
+// number has a type that can say one out of range, and kinds are numbers: what is out of range
+// makes a register unsound, and is never cut down to something else. The structs cross to C as they
+// are.
 ghost use mathlib.Core.Path.{_≡_};
 ghost use Rattle.register.specs.Register.{noClaim, emptyRegister};
 ghost use Rattle.register.specs.Chain.{current};

@@ -1,5 +1,6 @@
-// The seventeen rights of 002, section 4, as one table. A rights number is a sum of worths: right b is worth 2^b. Every call
-// answers on every number; what is no right is worth 0, is had by nobody and may be granted by no machine.
+// The seventeen rights of 002 as one table, and the tests on rights numbers.
+// A rights number is a sum of worths: right b is worth 2^b. Every call answers on every number;
+// what is no right is worth 0, is had by nobody and may be granted by no machine.
 ghost use mathlib.Core.Path.{_≡_};
 ghost use Rattle.rights.specs.Rights.{worthOf, machineGrants, isRights, hasRight, hasRights, barsMachine};
 

@@ -8,7 +8,7 @@ use lib.ListN.{length, getD}
 use Rattle.lists.specs.Lists.{every}
 use Rattle.lists.specs.Loops.{Loop, start, turn, next, done}
 use Rattle.register.specs.Register.{noActor}
-use Rattle.rules.specs.Sound.{actorFits}
+use Rattle.soundness_rules.specs.Sound.{actorFits}
 use Rattle.soundness.specs.World.{humanIn, actorsIn, actorsFit}
 
 -- a place further on less is left

@@ -11,8 +11,9 @@ use lib.Dec.{eqb}
 use lib.ListN.{length, take, drop, getD, set, take-append-drop, length-take, length-map, length-set, List·getD-map}
 use lib.Seq.{take-suc, take-take, getD-set-same, getD-set-other}
 use Rattle.lists.specs.Tests.{cases, clash, and-left, and-right}
-use Rattle.lists.specs.Lists.{any}
+use Rattle.lists.specs.Lists.{any, distinct}
 use Rattle.lists.specs.Loops.{drop-at}
+use Rattle.lists.specs.Distinct.{distinct-nil, distinct-last, distinct-again}
 use Rattle.register.specs.Limits.{claimLimit, hopLimit}
 use Rattle.register.specs.Register.{noClaim}
 use Rattle.register.specs.Chain.{latest, hopsOf}
@@ -20,17 +21,15 @@ use Rattle.register.specs.declared.Claim.{Claim}
 use Rattle.columns.specs.Columns.{claimId, parentOf, grantorOf, holderOf, latestPlace, chainPlaces}
 use Rattle.columns.specs.Laws.{place-cases, place-found, nowhere-none, none-nowhere, chain-places-zero}
 use Rattle.columns.specs.Laws as column-laws
-use Rattle.columns.specs.Sheet.{sheetLimit, columnOf, claimAt, claimsIn}
-use Rattle.columns.specs.SheetLaws.{claims-in-length, claims-in-at, column-natural-ids, column-natural-parents, column-natural-grantors, column-natural-holders}
+use Rattle.columns.specs.Sheet.{sheetLimit, columnOf, claimAt, claimsIn, idColumn, parentColumn, grantorColumn, holderColumn}
+use Rattle.columns.specs.SheetLaws.{claims-in-length, claims-in-at, column-natural}
 use Rattle.columns.specs.declared.Place.{Place}
 use Rattle.columns.specs.declared.Place.the-variants.{At, Nowhere}
 use Rattle.lookup.specs.Finding.{placeNumber, asked, earlierPlaces}
 use Rattle.lookup.specs.Laws.{tabled-length, earlier-at}
-use Rattle.rules.specs.Sound.{distinct, over}
-use Rattle.rules.specs.Registers.{distinct-nil}
-use Rattle.rules.specs.Distinct.{distinct-last, distinct-again}
-use Rattle.claims.specs.Over.{overAt, standOver}
-use Rattle.claims.specs.OverLaws.{KeptPlaces, higher, doubled, root-stands, parent-nowhere, one-hop-more, over-within, over-natural, stand-nil, stand-cons}
+use Rattle.soundness_rules.specs.Sound.{over}
+use Rattle.claim_judging.specs.Over.{overAt, standOver}
+use Rattle.claim_judging.specs.OverLaws.{KeptPlaces, higher, doubled, root-stands, parent-nowhere, one-hop-more, over-within, over-natural, stand-nil, stand-cons}
 
 -- a place told by its number: below the limit it is that, and the limit is none
 number-at : (p : Place) (x : ℕ) → x ≡ placeNumber claimLimit p → x < claimLimit → p ≡ At x
@@ -96,27 +95,27 @@ pub record Tables (cs : List Claim) (n : ℕ) (grantors holders ups : List ℕ) 
   pub short : n ≤ claimLimit
   pub granted : grantors ≡ map grantorOf cs
   pub held : holders ≡ map holderOf cs
-  pub parents : ups ≡ earlierPlaces (map claimId cs) (map parentOf cs) n claimLimit
+  pub parents : ups ≡ earlierPlaces (map claimId cs) (map parentOf cs) n
   pub wide : length ups ≡ claimLimit
   pub distant : distinct (take n (map claimId cs)) ≡ true
 
-earlier-long : (column wanted : List ℕ) (m none : ℕ) → length (earlierPlaces column wanted m none) ≡ claimLimit
+earlier-long : (column wanted : List ℕ) (m : ℕ) → length (earlierPlaces column wanted m) ≡ claimLimit
 unfolding earlierPlaces
-earlier-long column wanted m none =
-    tabled-length (λ i. placeNumber none (latestPlace column i (getD wanted i 0))) (asked m wanted) none (omega arith)
+earlier-long column wanted m =
+    tabled-length (λ i. placeNumber claimLimit (latestPlace column i (getD wanted i 0))) (asked m wanted) (omega arith)
 
 -- those of the claims in a sheet
 pub sheet-tables : (s : List ℕ) (n : ℕ) {grantors holders ups : List ℕ} → n ≤ claimLimit → length s ≡ sheetLimit
-    → distinct (take n (columnOf 0 s)) ≡ true → ups ≡ earlierPlaces (columnOf 0 s) (columnOf 1 s) n claimLimit
-    → grantors ≡ columnOf 2 s → holders ≡ columnOf 3 s → Tables (claimsIn s) n grantors holders ups
+    → distinct (take n (columnOf idColumn s)) ≡ true → ups ≡ earlierPlaces (columnOf idColumn s) (columnOf parentColumn s) n
+    → grantors ≡ columnOf grantorColumn s → holders ≡ columnOf holderColumn s → Tables (claimsIn s) n grantors holders ups
 sheet-tables s n short long distant parents granted held = record {
   long = claims-in-length s;
   short = short;
-  granted = granted ∙ column-natural-grantors s long;
-  held = held ∙ column-natural-holders s long;
-  parents = parents ∙ rw (column-natural-ids s long, column-natural-parents s long);
-  wide = ap length parents ∙ earlier-long (columnOf 0 s) (columnOf 1 s) n claimLimit;
-  distant = rw (column-natural-ids s long) at distant;
+  granted = granted ∙ column-natural s long grantorOf grantorColumn (omega arith) (λ g. refl);
+  held = held ∙ column-natural s long holderOf holderColumn (omega arith) (λ g. refl);
+  parents = parents ∙ rw (column-natural s long claimId idColumn (omega arith) (λ g. refl), column-natural s long parentOf parentColumn (omega arith) (λ g. refl));
+  wide = ap length parents ∙ earlier-long (columnOf idColumn s) (columnOf parentColumn s) n;
+  distant = rw (column-natural s long claimId idColumn (omega arith) (λ g. refl)) at distant;
 }
 
 -- a claim as it was read off the sheet is the one in it, and what is asked of it and its parent is asked of those in it
@@ -167,13 +166,13 @@ module _ {cs : List Claim} {n : ℕ} {grantors holders ups : List ℕ} (t : Tabl
 
   pub ups-at : getD ups i 0 ≡ placeNumber claimLimit (latestPlace (map claimId cs) i (getD cs i noClaim .parent))
   ups-at =
-      rw (t .parents) (earlier-at (map claimId cs) (map parentOf cs) n claimLimit i 0 (asked-inside parentOf))
+      rw (t .parents) (earlier-at (map claimId cs) (map parentOf cs) n i 0 (asked-inside parentOf))
       ∙ ap (λ x. placeNumber claimLimit (latestPlace (map claimId cs) i x)) (List·getD-map parentOf cs i noClaim)
 
   -- the places of the parents are kept of the claims before it
   kept-ups : KeptPlaces (map claimId cs) (map parentOf cs) ups i
   kept-ups j k before e =
-      rw (t .parents) (earlier-at (map claimId cs) (map parentOf cs) n claimLimit j 0 (omega (arith, before, inside, t .short, t .long, length-map cs parentOf)))
+      rw (t .parents) (earlier-at (map claimId cs) (map parentOf cs) n j 0 (omega (arith, before, inside, t .short, t .long, length-map cs parentOf)))
       ∙ ap (placeNumber claimLimit) e
 
   below : (x j : ℕ) → latestPlace (map claimId cs) i x ≡ At j → j < claimLimit

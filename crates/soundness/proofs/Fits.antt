@@ -9,7 +9,7 @@ use Rattle.register.specs.Limits.{humanKind, machineKind, idLimit, pathLimit, p
 use Rattle.register.specs.Register.{pathOf}
 use Rattle.register.specs.declared.Actor.{Actor}
 use Rattle.register.specs.declared.Resource.{Resource}
-use Rattle.rules.specs.Sound.{actorFits, resourceFits}
+use Rattle.soundness_rules.specs.Sound.{actorFits, resourceFits}
 
 module _ (test : ℕ → Bool) (a : Actor) where
   pub actor-unnumbered : isId (a .id) ≡ false → actorFits test a ≡ false

@@ -8,7 +8,7 @@ use native.Mathlib.Numerals.{add-one}
 use native.Mathlib.Omega.{arith}
 use lib.ListN.{length, take, getD, length-map, List·getD-map}
 use Rattle.lists.specs.Tests.{cases}
-use Rattle.lists.specs.Lists.{every, counted}
+use Rattle.lists.specs.Lists.{every, counted, distinct}
 use Rattle.lists.specs.Each.{every-append}
 use Rattle.lists.specs.Counts.{counted-last}
 use Rattle.register.specs.Limits.{claimLimit}
@@ -17,18 +17,18 @@ use Rattle.register.specs.declared.Actors.{Actors}
 use Rattle.register.specs.declared.Resources.{Resources}
 use Rattle.register.specs.declared.Claim.{Claim}
 use Rattle.columns.specs.Columns.{actorId, resourceId, keeperOf, grantorOf, holderOf, claimedOf, actorColumns}
-use Rattle.columns.specs.Sheet.{sheetLimit, columnOf, claimAt, claimsIn}
+use Rattle.columns.specs.Sheet.{sheetLimit, columnOf, claimAt, claimsIn, grantorColumn, holderColumn, resourceColumn}
 use Rattle.columns.specs.declared.ActorColumns.{ActorColumns}
-use Rattle.columns.specs.SheetLaws.{column-length, claims-in-length, claims-in-at, column-natural-grantors, column-natural-holders, column-natural-claimed}
+use Rattle.columns.specs.SheetLaws.{column-length, claims-in-length, claims-in-at, column-natural}
 use Rattle.lookup.specs.Finding.{placesOf, bothPlaces}
 use Rattle.lookup.specs.Laws.{places-at, first-places, second-places}
 use Rattle.lookup.specs.declared.Both.{Both}
-use Rattle.rules.specs.Sound.{World, worldOf, distinct, alone, over, acceptable, soundClaims}
-use Rattle.rules.specs.Places.{sound-claims-nil, sound-claims-cons}
-use Rattle.claims.specs.Alone.{Found, placeIn, foundIn, aloneAt}
-use Rattle.claims.specs.AloneLaws.{alone-natural}
-use Rattle.claims.specs.Over.{standOver}
-use Rattle.claims.specs.OverLaws.{stand-nil, stand-cons}
+use Rattle.soundness_rules.specs.Sound.{World, worldOf, alone, over, acceptable, soundClaims}
+use Rattle.soundness_rules.specs.Places.{sound-claims-nil, sound-claims-cons}
+use Rattle.claim_judging.specs.Alone.{Found, placeIn, foundIn, aloneAt}
+use Rattle.claim_judging.specs.AloneLaws.{alone-natural}
+use Rattle.claim_judging.specs.Over.{standOver}
+use Rattle.claim_judging.specs.OverLaws.{stand-nil, stand-cons}
 use Rattle.soundness.proofs.WorldLaws.{every-places}
 use Rattle.soundness.specs.Judged.{foundAt, claimsAlone}
 
@@ -89,7 +89,7 @@ module _ {first : Bool} {test : ℕ → Bool} {n : ℕ} where
 
 -- the grantors and the holders were looked up by one table
 module _ (actors : ActorColumns) (h : ℕ) (s : List ℕ) (n : ℕ) (short : n ≤ claimLimit) (long : length s ≡ sheetLimit) {named : Both}
-    (looked : named ≡ bothPlaces (actors .names) h (columnOf 2 s) (columnOf 3 s) n claimLimit) where
+    (looked : named ≡ bothPlaces (actors .names) h (columnOf grantorColumn s) (columnOf holderColumn s) n) where
   pub ids-told : named .distinct ≡ distinct (take (min h claimLimit) (actors .names))
   unfolding bothPlaces
   ids-told = ap (λ b. b .distinct) looked
@@ -100,33 +100,33 @@ module _ (actors : ActorColumns) (h : ℕ) (s : List ℕ) (n : ℕ) (short : n �
       ≡ claimsAlone actors h keepers spots s n
   unfolding claimsAlone
   alone-told keepers spots =
-      let few : n ≤ length (columnOf 2 s) = omega (arith, short, column-length s 2 long (omega arith)) in
-      let fewer : n ≤ length (columnOf 3 s) = omega (arith, short, column-length s 3 long (omega arith)) in
+      let few : n ≤ length (columnOf grantorColumn s) = omega (arith, short, column-length s 2 long (omega arith)) in
+      let fewer : n ≤ length (columnOf holderColumn s) = omega (arith, short, column-length s 3 long (omega arith)) in
       rw (
-        ap (λ b. b .first) looked ∙ first-places (actors .names) (columnOf 2 s) (columnOf 3 s) n claimLimit few fewer h,
-        ap (λ b. b .second) looked ∙ second-places (actors .names) (columnOf 2 s) (columnOf 3 s) n claimLimit few fewer h,
+        ap (λ b. b .first) looked ∙ first-places (actors .names) (columnOf grantorColumn s) (columnOf holderColumn s) n few fewer h,
+        ap (λ b. b .second) looked ∙ second-places (actors .names) (columnOf grantorColumn s) (columnOf holderColumn s) n few fewer h,
       )
 
 -- the place that was looked up of the claim at a place by a field of it
 place-told : {A : Type 0} (id : A → ℕ) (l : List A) (m : ℕ) (cs : List Claim) (n : ℕ) → m ≤ claimLimit → length cs ≡ claimLimit → n ≤ claimLimit
     → (f : Claim → ℕ) → f noClaim ≡ 0 → (i : ℕ) → i < n
-    → getD (placesOf (map id l) m (map f cs) n claimLimit) i 0 ≡ placeIn (map id l) m (f (getD cs i noClaim))
+    → getD (placesOf (map id l) m (map f cs) n) i 0 ≡ placeIn (map id l) m (f (getD cs i noClaim))
 place-told id l m cs n fits long short f unset i inside =
     let all : min m claimLimit ≡ m = omega (arith, fits) in
-    places-at (map id l) m (map f cs) n claimLimit i 0 (omega (arith, inside, short, long, length-map cs f))
+    places-at (map id l) m (map f cs) n i 0 (omega (arith, inside, short, long, length-map cs f))
     ∙ ap (λ k. placeIn (map id l) k (getD (map f cs) i 0)) all
     ∙ ap (placeIn (map id l) m) (rw unset at (List·getD-map f cs i noClaim))
 
 module _ (a : Actors) (o : Resources) (s : List ℕ) (n : ℕ) (few : a .count ≤ claimLimit) (scant : o .count ≤ claimLimit) (short : n ≤ claimLimit)
     (long : length s ≡ sheetLimit) (distant : distinct (map resourceId (resourcesOf o)) ≡ true) where
   abbrev granting : List ℕ
-  granting = placesOf (map actorId (a .list)) (a .count) (columnOf 2 s) n claimLimit
+  granting = placesOf (map actorId (a .list)) (a .count) (columnOf grantorColumn s) n
 
   abbrev holding : List ℕ
-  holding = placesOf (map actorId (a .list)) (a .count) (columnOf 3 s) n claimLimit
+  holding = placesOf (map actorId (a .list)) (a .count) (columnOf holderColumn s) n
 
   abbrev spots : List ℕ
-  spots = placesOf (map resourceId (o .list)) (o .count) (columnOf 4 s) n claimLimit
+  spots = placesOf (map resourceId (o .list)) (o .count) (columnOf resourceColumn s) n
 
   abbrev found : ℕ → Found
   found = foundAt (actorColumns (a .list)) (map keeperOf (o .list)) granting holding spots
@@ -134,9 +134,9 @@ module _ (a : Actors) (o : Resources) (s : List ℕ) (n : ℕ) (few : a .count �
   found-natural : (i : ℕ) → i < n → found i ≡ foundIn (a .list) (a .count) (o .list) (o .count) (getD (claimsIn s) i noClaim)
   found-natural i inside =
       rw (
-        column-natural-grantors s long,
-        column-natural-holders s long,
-        column-natural-claimed s long,
+        column-natural s long grantorOf grantorColumn (omega arith) (λ g. refl),
+        column-natural s long holderOf holderColumn (omega arith) (λ g. refl),
+        column-natural s long claimedOf resourceColumn (omega arith) (λ g. refl),
         place-told actorId (a .list) (a .count) (claimsIn s) n few (claims-in-length s) short grantorOf refl i inside,
         place-told actorId (a .list) (a .count) (claimsIn s) n few (claims-in-length s) short holderOf refl i inside,
         place-told resourceId (o .list) (o .count) (claimsIn s) n scant (claims-in-length s) short claimedOf refl i inside,

@@ -9,7 +9,7 @@ use lib.Dec.{eqb}
 use Rattle.lists.specs.Tests.{cases, clash}
 use Rattle.lists.specs.Lists.{every, counted}
 use Rattle.lists.specs.Counts.{every-counted-sound, every-counted-complete}
-use Rattle.register.specs.Limits.{resourceLimit, claimLimit}
+use Rattle.register.specs.Limits.{resourceLimit}
 use Rattle.register.specs.declared.Resource.{Resource}
 use Rattle.register.specs.declared.Resources.{Resources}
 use Rattle.lookup.specs.Finding.{placesOf, placesFound}
@@ -35,11 +35,11 @@ module _ {l : List Resource} {keeping : List ℕ} {top : ℕ} where
 
 -- the keepers were looked up at once
 module _ (humans : List ℕ) (h : ℕ) (keepers : List ℕ) (o : Resources) {found : Found} {top : ℕ}
-    (reach : top ≡ min (o .count) resourceLimit) (told : found ≡ placesFound humans h keepers top claimLimit) where
+    (reach : top ≡ min (o .count) resourceLimit) (told : found ≡ placesFound humans h keepers top) where
   abbrev keeping : List ℕ
   keeping = found .places
 
-  places : keeping ≡ placesOf humans h keepers top claimLimit
+  places : keeping ≡ placesOf humans h keepers top
   unfolding placesFound
   places = ap (λ f. f .places) told
 

@@ -8,7 +8,7 @@ use borrow.Author.Tests.{eq-eqb, eqb-true, le-leb, leb-true}
 use lib.Dec.{eqb, leb}
 use lib.ListN.{length, take, getD, length-map, List·getD-map}
 use Rattle.lists.specs.Tests.{cases, clash, and-left, and-right}
-use Rattle.lists.specs.Lists.{every, ands}
+use Rattle.lists.specs.Lists.{every, ands, distinct}
 use Rattle.lists.specs.Each.{every-reverse}
 use Rattle.register.specs.Limits.{actorLimit, resourceLimit, claimLimit}
 use Rattle.register.specs.Register.{actorsOf, resourcesOf, noActor, noResource}
@@ -17,20 +17,20 @@ use Rattle.register.specs.declared.Actor.{Actor}
 use Rattle.register.specs.declared.Resource.{Resource}
 use Rattle.register.specs.declared.Actors.{Actors}
 use Rattle.register.specs.declared.Resources.{Resources}
-use Rattle.columns.specs.Columns.{actorId, actorKind, ownerOf, resourceId, keeperOf, claimId, actorsTo, resourcesTo, actorColumns, resourceColumns}
+use Rattle.columns.specs.Columns.{actorId, actorKind, actorOwner, resourceId, keeperOf, claimId, actorsTo, resourcesTo, actorColumns, resourceColumns}
 use Rattle.columns.specs.Laws.{up-to-length, up-to-first, up-to-at}
 use Rattle.columns.specs.declared.ActorColumns.{ActorColumns}
 use Rattle.columns.specs.declared.ResourceColumns.{ResourceColumns}
-use Rattle.columns.specs.Sheet.{sheetLimit, columnOf, claimsIn}
-use Rattle.columns.specs.SheetLaws.{claims-in-length, column-natural-ids, column-length}
+use Rattle.columns.specs.Sheet.{sheetLimit, columnOf, claimsIn, idColumn, parentColumn, resourceColumn}
+use Rattle.columns.specs.SheetLaws.{claims-in-length, column-natural, column-length}
 use Rattle.lookup.specs.Finding.{asked, placesOf, earlierPlaces, placesFound, earlierFound}
 use Rattle.lookup.specs.declared.Found.{Found}
-use Rattle.rules.specs.Sound.{distinct, human, worldOf, actorFits, resourceFits, alone, soundActors, soundResources, withinLimits, sound}
-use Rattle.rules.specs.Registers.{sound-out, within-limits-in}
-use Rattle.claims.specs.Over.{standOver}
+use Rattle.soundness_rules.specs.Sound.{human, worldOf, actorFits, resourceFits, alone, soundActors, soundResources, withinLimits, sound}
+use Rattle.soundness_rules.specs.Registers.{sound-out, within-limits-in}
+use Rattle.claim_judging.specs.Over.{standOver}
 use Rattle.soundness.specs.World.{actorsFit, humanIds, beyond, resourcesFit}
 use Rattle.soundness.proofs.WorldLaws.{actors-natural, resources-natural}
-use Rattle.soundness.specs.Judged.{registerBy, soFar, findingsIn, judgedBy, claimsAlone}
+use Rattle.soundness.specs.Judged.{registerBy, soFar, findingsIn, findingsBy, claimsAlone}
 use Rattle.soundness.specs.declared.Findings.{Findings}
 use Rattle.soundness.proofs.Climbing.{stand-distinct}
 use Rattle.soundness.proofs.Judging.{sound-apart, take-map, claims-alone-natural}
@@ -65,10 +65,10 @@ module _ (a : Actors) (o : Resources) (s : List ℕ) (n : ℕ) where
     pub few : a .count ≤ actorLimit
     pub scant : o .count ≤ resourceLimit
     pub long : length s ≡ sheetLimit
-    pub single : distinct (take n (columnOf 0 s)) ≡ true
+    pub single : distinct (take n (columnOf idColumn s)) ≡ true
     pub distant : distinct (map resourceId (resourcesOf o)) ≡ true
 
-  all-asked : n ≤ claimLimit → length s ≡ sheetLimit → asked n (columnOf 1 s) ≡ n
+  all-asked : n ≤ claimLimit → length s ≡ sheetLimit → asked n (columnOf parentColumn s) ≡ n
   all-asked short long = omega (arith, short, column-length s 1 long (omega arith))
 
   resource-ids : o .count ≤ resourceLimit → take (min (o .count) claimLimit) (map resourceId things) ≡ map resourceId (resourcesOf o)
@@ -80,7 +80,7 @@ module _ (a : Actors) (o : Resources) (s : List ℕ) (n : ℕ) where
   begun h =
       let counted = leb n claimLimit && leb (a .count) actorLimit in
       let within = counted && leb (o .count) resourceLimit in
-      let claims = distinct (take (asked n (columnOf 1 s)) (columnOf 0 s)) in
+      let claims = distinct (take (asked n (columnOf parentColumn s)) (columnOf idColumn s)) in
       let resources = distinct (take (min (o .count) claimLimit) (map resourceId things)) in
       let before = and-left (within && (claims && resources)) (eqb (length s) sheetLimit) h in
       let long = eqb-true (length s) sheetLimit (and-right (within && (claims && resources)) (eqb (length s) sheetLimit) h) in
@@ -94,7 +94,7 @@ module _ (a : Actors) (o : Resources) (s : List ℕ) (n : ℕ) where
         few = leb-true (a .count) actorLimit (and-right (leb n claimLimit) (leb (a .count) actorLimit) two);
         scant = scant;
         long = long;
-        single = ap (λ k. distinct (take k (columnOf 0 s))) (sym (all-asked short long)) ∙ and-left claims resources ids;
+        single = ap (λ k. distinct (take k (columnOf idColumn s))) (sym (all-asked short long)) ∙ and-left claims resources ids;
         distant = ap distinct (sym (resource-ids scant)) ∙ and-right claims resources ids;
       }
 
@@ -114,7 +114,7 @@ module _ (a : Actors) (o : Resources) (s : List ℕ) (n : ℕ) where
         le-leb (a .count) actorLimit (told .limits .actorCount),
         le-leb (o .count) resourceLimit scant,
         all-asked short long,
-        column-natural-ids s long,
+        column-natural s long claimId idColumn (omega arith) (λ g. refl),
         single,
         resource-ids scant,
         told .resources .apart,
@@ -132,11 +132,11 @@ module _ (a : Actors) (o : Resources) (s : List ℕ) (n : ℕ) where
   -- where they pass, what is left decides
   abbrev left : Bool
   left =
-      ((actorsFit (map actorId people) (map actorKind people) (map ownerOf people) (a .count)
+      ((actorsFit (map actorId people) (map actorKind people) (map actorOwner people) (a .count)
       && resourcesFit (humanIds (map actorId people) (map actorKind people) (a .count)) (a .count) (map keeperOf things) o)
       && standOver (latest (take n (claimsIn s))))
       && claimsAlone (actorColumns people) (a .count) (map keeperOf things)
-      (placesOf (map resourceId things) (o .count) (columnOf 4 s) n claimLimit) s n
+      (placesOf (map resourceId things) (o .count) (columnOf resourceColumn s) n) s n
 
   module _ (many : length (a .list) ≡ actorLimit) (full : length (o .list) ≡ resourceLimit) (b : Begun) where
     -- the keepers' column has the keepers of those that stand
@@ -183,7 +183,7 @@ module _ (a : Actors) (o : Resources) (s : List ℕ) (n : ℕ) where
     seen : known ≡ found starts
     seen = looked ∙ rw (of-folk, of-goods)
 
-    pub refused-told : known .sound ≡ false → known ≡ judgedBy a o s n
+    pub refused-told : known .sound ≡ false → known ≡ findingsBy a o s n
     refused-told h =
         let none : starts ≡ false = sym (ap (λ k. k .sound) seen) ∙ h in
         seen ∙ ap found (none ∙ not-begun none)
@@ -191,7 +191,7 @@ module _ (a : Actors) (o : Resources) (s : List ℕ) (n : ℕ) where
     pub begun-told : known .sound ≡ true → Begun
     begun-told h = begun (sym (ap (λ k. k .sound) seen) ∙ h)
 
-    pub ups-told : known .ups ≡ earlierPlaces (columnOf 0 s) (columnOf 1 s) n claimLimit
+    pub ups-told : known .ups ≡ earlierPlaces (columnOf idColumn s) (columnOf parentColumn s) n
     ups-told = ap (λ k. k .ups) looked
 
     pub judged-told : length (a .list) ≡ actorLimit → length (o .list) ≡ resourceLimit → known .sound ≡ true
@@ -207,14 +207,14 @@ module _ (a : Actors) (o : Resources) (s : List ℕ) (n : ℕ) where
           spots = known .spots;
           actors = known .actors;
           resources = known .resources;
-        }) (judgedBy a o s n)
+        }) (findingsBy a o s n)
     judged-told many full h of-humans of-x of-y of-z of-w =
         rw (of-x, of-y, of-z, of-w, of-humans, seen, of-folk, of-goods) (ap found (begun-decides many full (begun-told h)))
 
 -- what was looked up, put together
 module _ (actors : ActorColumns) (h : ℕ) (resources : ResourceColumns) (m : ℕ) (s : List ℕ) (n : ℕ) where
-  pub looked-told : {ids parents claimed : List ℕ} {earlier reported : Found} → ids ≡ columnOf 0 s → parents ≡ columnOf 1 s → claimed ≡ columnOf 4 s
-      → earlier ≡ earlierFound ids parents n claimLimit → reported ≡ placesFound (resources .reports) m claimed n claimLimit
+  pub looked-told : {ids parents claimed : List ℕ} {earlier reported : Found} → ids ≡ columnOf idColumn s → parents ≡ columnOf parentColumn s → claimed ≡ columnOf resourceColumn s
+      → earlier ≡ earlierFound ids parents n → reported ≡ placesFound (resources .reports) m claimed n
       → _≡_ {A = Findings} (record {
         sound = (((leb n claimLimit && leb h actorLimit) && leb m resourceLimit) && (earlier .distinct && reported .distinct)) && eqb (length s) sheetLimit;
         ups = earlier .places;

@@ -17,11 +17,11 @@ use Rattle.register.specs.Register.{resourcesOf}
 use Rattle.register.specs.declared.Actor.{Actor}
 use Rattle.register.specs.declared.Resource.{Resource}
 use Rattle.register.specs.declared.Resources.{Resources}
-use Rattle.columns.specs.Columns.{actorId, actorKind, ownerOf, keeperOf, latestPlace}
+use Rattle.columns.specs.Columns.{actorId, actorKind, actorOwner, keeperOf, latestPlace}
 use Rattle.columns.specs.Laws.{beside-natural, among-natural, place-cases, place-found, place-among, nowhere-none}
 use Rattle.lookup.specs.Finding.{placeNumber, placesOf}
 use Rattle.lookup.specs.Laws.{places-at}
-use Rattle.rules.specs.Sound.{human, actorFits, resourceFits}
+use Rattle.soundness_rules.specs.Sound.{human, actorFits, resourceFits}
 use Rattle.soundness.specs.World.{humanIn, actorsIn, actorsFit, humanId, humansIn, humanIds, beyond, fitsAt, resourcesFit}
 
 -- a test of each of the first n places is one of each of the first n of a list, where it asks the same of what stands there
@@ -35,13 +35,13 @@ every-places p q d l n short same =
     same i inside ∙ rw (getD-take n l i d inside) at (every-at q (take n l) t d i (omega (arith, inside, short, length-take n l)))))
 
 -- the actors that a list's columns are those of are that list
-actors-in-natural : (l : List Actor) → actorsIn (map actorId l) (map actorKind l) (map ownerOf l) ≡ l
+actors-in-natural : (l : List Actor) → actorsIn (map actorId l) (map actorKind l) (map actorOwner l) ≡ l
 unfolding actorsIn
 actors-in-natural [] = refl
 actors-in-natural (a ∷ l) = ap (λ m. a ∷ m) (actors-in-natural l)
 
 pub actors-natural : (l : List Actor) (n : ℕ)
-    → actorsFit (map actorId l) (map actorKind l) (map ownerOf l) n ≡ every (actorFits (human (take n l))) (take n l)
+    → actorsFit (map actorId l) (map actorKind l) (map actorOwner l) n ≡ every (actorFits (human (take n l))) (take n l)
 unfolding actorsFit
 actors-natural l n =
     let humans : _≡_ {A = ℕ → Bool} (λ x. humanIn (map actorId l) (map actorKind l) n x) (λ x. human (take n l) x) =
@@ -121,12 +121,12 @@ module _ (l : List Actor) (n : ℕ) (long : length l ≡ actorLimit) (few : n �
   module _ (o : Resources) (full : length (o .list) ≡ resourceLimit) (scant : o .count ≤ resourceLimit) (keepers : List ℕ) (many : length keepers ≡ resourceLimit)
       (same : (i : ℕ) → i < o .count → getD keepers i 0 ≡ keeperOf (getD (o .list) i beyond)) where
     abbrev keeping : List ℕ
-    keeping = placesOf humans n keepers (o .count) claimLimit
+    keeping = placesOf humans n keepers (o .count)
 
     keeper-told : (i : ℕ) → i < o .count → (keeperOf (getD (o .list) i beyond) ≡ 0 → ⊥)
         → ltb (getD keeping i 0) claimLimit ≡ human (take n l) (keeperOf (getD (o .list) i beyond))
     keeper-told i inside some =
-        rw (places-at humans n keepers (o .count) claimLimit i 0 (omega (arith, inside, scant, many)), same i inside)
+        rw (places-at humans n keepers (o .count) i 0 (omega (arith, inside, scant, many)), same i inside)
         (human-found (keeperOf (getD (o .list) i beyond)) some)
 
     kept-natural : (i : ℕ) → i < o .count → fitsAt (o .list) keeping i ≡ resourceFits (human (take n l)) (getD (o .list) i beyond)

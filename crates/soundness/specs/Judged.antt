@@ -5,18 +5,18 @@ use mathlib.Core.List.{List}
 use Prim.Native.Nat.{ℕ, min}
 use lib.Dec.{eqb, leb}
 use lib.ListN.{length, take, getD}
-use Rattle.lists.specs.Lists.{every, counted}
+use Rattle.lists.specs.Lists.{every, counted, distinct}
 use Rattle.register.specs.Limits.{actorLimit, resourceLimit, claimLimit}
 use Rattle.register.specs.declared.Actors.{Actors}
 use Rattle.register.specs.declared.Resources.{Resources}
 use Rattle.register.specs.declared.Register.{Register}
 use Rattle.columns.specs.Columns.{actorsTo, resourcesTo, actorColumns, resourceColumns}
-use Rattle.columns.specs.Sheet.{sheetLimit, columnOf, claimAt, claimsIn}
+use Rattle.columns.specs.Sheet.{sheetLimit, columnOf, claimAt, claimsIn, idColumn, parentColumn, grantorColumn, holderColumn, resourceColumn}
 use Rattle.columns.specs.declared.ActorColumns.{ActorColumns}
 use Rattle.columns.specs.declared.ResourceColumns.{ResourceColumns}
 use Rattle.lookup.specs.Finding.{asked, placesOf, earlierPlaces}
-use Rattle.rules.specs.Sound.{distinct, sound}
-use Rattle.claims.specs.Alone.{Found, aloneAt}
+use Rattle.soundness_rules.specs.Sound.{sound}
+use Rattle.claim_judging.specs.Alone.{Found, aloneAt}
 use Rattle.soundness.specs.declared.Findings.{Findings}
 
 -- the register of actors and resources, and of the first n claims of a sheet
@@ -28,7 +28,7 @@ registerBy a o s n = record { actors = a; resources = o; claims = record { list 
 abbrev pub soFar : ℕ → List ℕ → ℕ → List ℕ → ℕ → Bool
 soFar h reports m s n =
     (((leb n claimLimit && leb h actorLimit) && leb m resourceLimit)
-    && (distinct (take (asked n (columnOf 1 s)) (columnOf 0 s)) && distinct (take (min m claimLimit) reports)))
+    && (distinct (take (asked n (columnOf parentColumn s)) (columnOf idColumn s)) && distinct (take (min m claimLimit) reports)))
     && eqb (length s) sheetLimit
 
 -- what is found by the columns of actors and resources, with whether it is sound: the place of each claim's parent before it and that of its resource, the
@@ -36,15 +36,15 @@ soFar h reports m s n =
 abbrev pub findingsIn : ActorColumns → ResourceColumns → ℕ → List ℕ → ℕ → Bool → Findings
 findingsIn actors resources m s n whole = record {
   sound = whole;
-  ups = earlierPlaces (columnOf 0 s) (columnOf 1 s) n claimLimit;
-  spots = placesOf (resources .reports) m (columnOf 4 s) n claimLimit;
+  ups = earlierPlaces (columnOf idColumn s) (columnOf parentColumn s) n;
+  spots = placesOf (resources .reports) m (columnOf resourceColumn s) n;
   actors = actors;
   resources = resources;
 }
 
--- what is judged of the register of actors and resources, by the columns of those that stand
-abbrev pub judgedBy : Actors → Resources → List ℕ → ℕ → Findings
-judgedBy a o s n =
+-- what is found of the register of actors and resources, by the columns of those that stand
+abbrev pub findingsBy : Actors → Resources → List ℕ → ℕ → Findings
+findingsBy a o s n =
     findingsIn (actorColumns (actorsTo a .list)) (resourceColumns (resourcesTo o .list)) (o .count) s n (eqb (length s) sheetLimit && sound (registerBy a o s n))
 
 -- what was looked up of the claim at a place: the places of its grantor, its holder and its resource, and what stands there
@@ -62,7 +62,7 @@ foundAt actors keepers granting holding spots i = record {
 -- holder looked up among those
 unfoldable pub claimsAlone : ActorColumns → ℕ → List ℕ → List ℕ → List ℕ → ℕ → Bool
 claimsAlone actors h keepers spots s n =
-    let granting = placesOf (actors .names) h (columnOf 2 s) n claimLimit in
-    let holding = placesOf (actors .names) h (columnOf 3 s) n claimLimit in
+    let granting = placesOf (actors .names) h (columnOf grantorColumn s) n in
+    let holding = placesOf (actors .names) h (columnOf holderColumn s) n in
     distinct (take (min h claimLimit) (actors .names))
     && every (λ i. aloneAt (claimAt s i) (foundAt actors keepers granting holding spots i)) (counted 0 n)

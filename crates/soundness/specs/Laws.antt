@@ -8,12 +8,13 @@ use Rattle.register.specs.Limits.{claimLimit}
 use Rattle.register.specs.Register.{Same}
 use Rattle.register.specs.declared.Register.{Register}
 use Rattle.columns.specs.Columns.{actorsTo, resourcesTo, actorColumns, resourceColumns}
-use Rattle.columns.specs.Sheet.{sheetLimit, sheetOf, columnOf}
+use Rattle.columns.specs.Sheet.{sheetLimit, sheetOf, columnOf, idColumn, parentColumn}
 use Rattle.columns.specs.SheetLaws.{sheet-long, sheet-claims}
 use Rattle.lookup.specs.Finding.{earlierPlaces}
-use Rattle.rules.specs.Sound.{sound}
-use Rattle.rules.specs.Sameness.{sound-same}
-use Rattle.soundness.specs.Judged.{registerBy, judgedBy}
+use Rattle.soundness_rules.specs.Sound.{sound}
+use Rattle.soundness_rules.specs.Sameness.{sound-same}
+use Rattle.soundness.specs.Judged.{registerBy, findingsBy}
+use Rattle.soundness.specs.Opened.{Opened}
 use Rattle.soundness.specs.declared.Findings.{Findings}
 
 module _ (r : Register) (places : length (r .claims .list) ≡ claimLimit) where
@@ -31,20 +32,30 @@ module _ (r : Register) (places : length (r .claims .list) ≡ claimLimit) where
   register-same = sound-same (registerBy (r .actors) (r .resources) (sheetOf (r .claims)) (r .claims .count)) r register-standing
 
   -- so it is judged as that register is
-  pub judged-same : judgedBy (r .actors) (r .resources) (sheetOf (r .claims)) (r .claims .count) .sound ≡ sound r
+  pub judged-same : findingsBy (r .actors) (r .resources) (sheetOf (r .claims)) (r .claims .count) .sound ≡ sound r
   judged-same = rw (eq-eqb (length (sheetOf (r .claims))) sheetLimit (sheet-long (r .claims))) register-same
 
-  -- what is judged of a sheet that its claims were put into: whether it is sound, and where the parents stand
-  module _ {s : List ℕ} (filled : s ≡ sheetOf (r .claims)) {j : Findings} (told : j ≡ judgedBy (r .actors) (r .resources) s (r .claims .count)) where
-    pub judged-sound : j .sound ≡ sound r
-    judged-sound = ap (λ k. k .sound) told ∙ ap (λ l. judgedBy (r .actors) (r .resources) l (r .claims .count) .sound) filled ∙ judged-same
+-- what was found of a register that was examined
+module _ (r : Register) where
+  -- what `examine` ensures of a sheet of zeros
+  pub examined : {s : List ℕ} {found : Findings} → (s ≡ sheetOf (r .claims)) × (found ≡ findingsBy (r .actors) (r .resources) s (r .claims .count)) → Opened r s found
+  examined told = record { put = told .0; told = told .1 }
 
-    pub judged-ups : j .ups ≡ earlierPlaces (columnOf 0 (sheetOf (r .claims))) (columnOf 1 (sheetOf (r .claims))) (r .claims .count) claimLimit
-    judged-ups = ap (λ k. k .ups) told ∙ ap (λ l. judgedBy (r .actors) (r .resources) l (r .claims .count) .ups) filled
+  module _ {s : List ℕ} {found : Findings} (opened : Opened r s found) where
+    -- whether it is sound
+    pub judged-sound : length (r .claims .list) ≡ claimLimit → found .sound ≡ sound r
+    judged-sound places =
+        ap (λ f. f .sound) (opened .told)
+        ∙ ap (λ l. findingsBy (r .actors) (r .resources) l (r .claims .count) .sound) (opened .put)
+        ∙ judged-same r places
 
-    -- and the columns of the actors and the resources
-    pub judged-actors : j .actors ≡ actorColumns (actorsTo (r .actors) .list)
-    judged-actors = ap (λ k. k .actors) told
+    -- where the parents stand
+    pub judged-ups : found .ups ≡ earlierPlaces (columnOf idColumn (sheetOf (r .claims))) (columnOf parentColumn (sheetOf (r .claims))) (r .claims .count)
+    judged-ups = ap (λ f. f .ups) (opened .told) ∙ ap (λ l. findingsBy (r .actors) (r .resources) l (r .claims .count) .ups) (opened .put)
 
-    pub judged-resources : j .resources ≡ resourceColumns (resourcesTo (r .resources) .list)
-    judged-resources = ap (λ k. k .resources) told
+    -- the columns of the actors and the resources
+    pub judged-actors : found .actors ≡ actorColumns (actorsTo (r .actors) .list)
+    judged-actors = ap (λ f. f .actors) (opened .told)
+
+    pub judged-resources : found .resources ≡ resourceColumns (resourcesTo (r .resources) .list)
+    judged-resources = ap (λ f. f .resources) (opened .told)

@@ -12,7 +12,7 @@ use Rattle.register.specs.declared.Resource.{Resource}
 use Rattle.register.specs.declared.Resources.{Resources}
 use Rattle.columns.specs.Columns.{beside}
 use Rattle.lookup.specs.Finding.{placesOf}
-use Rattle.rules.specs.Sound.{actorFits, resourceFits}
+use Rattle.soundness_rules.specs.Sound.{actorFits, resourceFits}
 
 -- whether x is a human's number, by the first n of the columns of ids and kinds
 abbrev pub humanIn : List ℕ → List ℕ → ℕ → ℕ → Bool
@@ -54,4 +54,4 @@ fitsAt l keeping i = resourceFits (λ x. ltb (getD keeping i 0) claimLimit) (get
 -- whether each resource is as it should be by itself, its keeper looked up among the first h of the humans' ids
 unfoldable pub resourcesFit : List ℕ → ℕ → List ℕ → Resources → Bool
 resourcesFit humans h keepers o =
-    let top = min (o .count) resourceLimit in every (fitsAt (o .list) (placesOf humans h keepers top claimLimit)) (counted 0 top)
+    let top = min (o .count) resourceLimit in every (fitsAt (o .list) (placesOf humans h keepers top)) (counted 0 top)

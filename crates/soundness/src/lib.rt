@@ -1,30 +1,30 @@
-// Whether a register is sound, for every register whatever its counts and content: fields in range, owners and keepers who are humans of the register,
-// paths of the right bytes, distinct ids, and every claim as it should be. The claims stand in a sheet that is lent, and are judged one after
-// the other in list order, over those before it and by itself; where what a claim names stands is found once for all claims.
+// Whether a register is sound; `examine` is the one door to a register.
+// Every register is taken, whatever its counts and content: fields in range, owners and keepers who
+// are humans of the register, paths of the right bytes, distinct ids, and every claim as it should
+// be. The claims stand in a sheet that is lent, and are judged one after the other in list order;
+// where what a claim names stands is found once for all claims.
 ghost use mathlib.Core.Path.{_≡_};
 ghost use mathlib.Core.Bool.{true};
 ghost use Prim.Native.Nat.{_≤_};
 ghost use lib.ListN.{length, take};
 ghost use Rattle.register.specs.Limits.{claimLimit, ranged, pathByteLeast, pathByteGreatest};
 ghost use Rattle.register.specs.Chain.{latest};
-ghost use Rattle.columns.specs.Sheet.{sheetLimit, columnOf, claimsIn};
+ghost use Rattle.columns.specs.Sheet.{sheetLimit, columnOf, claimsIn, idColumn, parentColumn, sheetWith};
 ghost use Rattle.lookup.specs.Finding.{earlierPlaces};
-ghost use Rattle.rules.specs.Sound.{distinct, sound, actorFits, resourceFits};
-ghost use Rattle.claims.specs.Over.{standOver};
-ghost use Rattle.soundness.specs.Judged.{soFar, findingsIn, judgedBy, claimsAlone};
-ghost use Rattle.lists.specs.Lists.{every};
-ghost use Rattle.register.specs.Register.{pathOf};
+ghost use Rattle.soundness_rules.specs.Sound.{sound, actorFits, resourceFits};
+ghost use Rattle.claim_judging.specs.Over.{standOver};
+ghost use Rattle.soundness.specs.Judged.{soFar, findingsIn, findingsBy, claimsAlone};
+ghost use Rattle.lists.specs.Lists.{every, distinct};
+ghost use Rattle.register.specs.Register.{claimsOf, pathOf};
 ghost use Rattle.soundness.specs.World.{humanIn, actorsFit, humanId, humanIds, resourcesFit};
 use columns::ActorColumns;
 use columns::ResourceColumns;
 use register::Actor;
 use register::Actors;
+use register::Claims;
 use register::Register;
 use register::Resource;
 use register::Resources;
-
-// The place that says nowhere: it is past them all.
-const NOWHERE: u16 = Register::CLAIMS as u16;
 
 // What was found of a register: whether it is sound, the place of each claim's parent before it, the place of the resource that each claim is
 // to, and the columns of the actors and the resources.
@@ -39,7 +39,7 @@ pub struct Findings {
 // Whether each claim is as it should be over those before it, where their ids are distinct. The places of the parents are lent; the hops
 // of the claims that were judged are kept.
 fn claims_over<'a>(ups: &'a [u16], sheet: &'a [u32], n: usize) -> bool
-    requires { ⌜ (n ≤ claimLimit) × (length (now sheet) ≡ sheetLimit) × (distinct (take n (columnOf 0 (now sheet))) ≡ true) × (now ups ≡ earlierPlaces (columnOf 0 (now sheet)) (columnOf 1 (now sheet)) n claimLimit) ⌝ }
+    requires { ⌜ (n ≤ claimLimit) × (length (now sheet) ≡ sheetLimit) × (distinct (take n (columnOf idColumn (now sheet))) ≡ true) × (now ups ≡ earlierPlaces (columnOf idColumn (now sheet)) (columnOf parentColumn (now sheet)) n) ⌝ }
     ensures { λ r. ⌜ r ≡ standOver (latest (take n (claimsIn (now (sheet .entry))))) ⌝ }
 {
     let grantors = columns::column(sheet, columns::GRANTORS);
@@ -58,7 +58,7 @@ fn claims_over<'a>(ups: &'a [u16], sheet: &'a [u32], n: usize) -> bool
             }
             let p = columns::claim_at(sheet, up);
             let steps = hops[up] as usize;
-            if !claims::stands_over(ups, grantors, holders, up, steps, p, c) {
+            if !claim_judging::stands_over(ups, grantors, holders, up, steps, p, c) {
                 return false;
             }
             hops[i] = (steps + 1) as u8;
@@ -83,7 +83,7 @@ fn claims_alone<'a>(
 {
     let grantors = columns::column(sheet, columns::GRANTORS);
     let holders = columns::column(sheet, columns::HOLDERS);
-    let named = lookup::both_places(&actors.names, h, grantors, holders, n, NOWHERE);
+    let named = lookup::both_places(&actors.names, h, grantors, holders, n);
     let mut stand = named.distinct;
     let mut i: usize = 0;
     while i < n {
@@ -94,7 +94,8 @@ fn claims_alone<'a>(
         let kind = columns::number_at(&actors.kinds, grantor);
         let owner = columns::number_at(&actors.owners, grantor);
         let keeper = columns::number_at(keepers, report);
-        stand = stand & claims::stands_alone(c, grantor, holder, report, kind, owner, keeper);
+        stand = stand
+            & claim_judging::stands_alone(c, grantor, holder, report, kind, owner, keeper);
         i += 1;
     }
     stand
@@ -115,8 +116,8 @@ fn looked_up(
     let ids = columns::column(sheet, columns::IDS);
     let parents = columns::column(sheet, columns::PARENTS);
     let claimed = columns::column(sheet, columns::CLAIMED);
-    let earlier = lookup::earlier_places(ids, parents, n, NOWHERE);
-    let reported = lookup::places_of(&resources.reports, m, claimed, n, NOWHERE);
+    let earlier = lookup::earlier_places(ids, parents, n);
+    let reported = lookup::places_of(&resources.reports, m, claimed, n);
     let within = (n <= Register::CLAIMS) & (h <= Register::ACTORS) & (m <= Register::RESOURCES);
     let apart = earlier.distinct & reported.distinct;
     let ups = earlier.places;
@@ -130,23 +131,33 @@ fn looked_up(
     }
 }
 
-// Judges the register of the actors, the resources and the first `n` claims of a sheet. What is no sheet is not sound.
-pub fn judged(a: Actors, o: Resources, sheet: &[u32], n: usize) -> Findings
-    ensures { λ r. ⌜ r ≡ judgedBy a o (now (sheet .entry)) n ⌝ }
+// What is found of the register of the actors, the resources and the first `n` claims of a sheet. A slice of another length is
+// not sound.
+pub fn examine_sheet(a: Actors, o: Resources, sheet: &[u32], n: usize) -> Findings
+    ensures { λ r. ⌜ r ≡ findingsBy a o (now (sheet .entry)) n ⌝ }
 {
     let actors = columns::actor_columns(a);
     let resources = columns::resource_columns(o);
     let humans = human_ids(&actors.names, &actors.kinds, a.count);
     let fit = actors_fit(&actors.names, &actors.kinds, &actors.owners, a.count)
         & resources_fit(&humans, a.count, &resources.keepers, o);
-    let mut known = looked_up(actors, a.count, resources, o.count, sheet, n);
-    if !known.sound {
-        return known;
+    let mut found = looked_up(actors, a.count, resources, o.count, sheet, n);
+    if !found.sound {
+        return found;
     }
-    known.sound = fit
-        & claims_over(&known.ups, sheet, n)
-        & claims_alone(actors, a.count, &resources.keepers, &known.spots, sheet, n);
-    known
+    found.sound = fit
+        & claims_over(&found.ups, sheet, n)
+        & claims_alone(actors, a.count, &resources.keepers, &found.spots, sheet, n);
+    found
+}
+
+// The one door to a register: puts its claims into a lent sheet, and says what is found of the register by it.
+pub fn examine(sheet: &mut [u32], a: Actors, o: Resources, k: Claims) -> Findings
+    ensures put { λ _. ⌜ now (sheet .exit) ≡ sheetWith (now (sheet .entry)) (claimsOf k) ⌝ }
+    ensures found { λ r. ⌜ r ≡ findingsBy a o (now (sheet .exit)) (k .count) ⌝ }
+{
+    columns::put_claims(sheet, k);
+    examine_sheet(a, o, sheet, k.count)
 }
 
 // Whether the register is sound.
@@ -157,9 +168,8 @@ pub fn is_sound(r: Register) -> bool
     let o = r.resources;
     let k = r.claims;
     let mut sheet = [0u32; columns::SHEET];
-    columns::put_claims(&mut sheet, k);
-    let known = judged(a, o, &sheet, k.count);
-    known.sound
+    let found = examine(&mut sheet, a, o, k);
+    found.sound
 }
 
 // Whether an actor's fields are as they should be among the first `n` actors.
@@ -274,7 +284,7 @@ fn resources_fit<'a>(humans: &'a [u32], h: usize, keepers: &'a [u32], o: Resourc
     ensures { λ r. ⌜ r ≡ resourcesFit (now (humans .entry)) h (now (keepers .entry)) o ⌝ }
 {
     let top = lists::least(o.count, Register::RESOURCES);
-    let keeping = lookup::places_of(humans, h, keepers, top, Register::CLAIMS as u16);
+    let keeping = lookup::places_of(humans, h, keepers, top);
     let mut i: usize = 0;
     while i < top {
         let x = o.list[i];

@@ -10,8 +10,8 @@ use Rattle.register.specs.Limits.{claimLimit}
 use Rattle.actions.specs.Actions.{useLimit}
 use Rattle.actions.specs.declared.Violation.{Violation}
 use Rattle.actions.specs.declared.Violations.{Violations}
-use Rattle.uses.specs.Pushed.{pushedAll}
-use Rattle.uses.proofs.Pushing.{oneWhere, Pushing, begin, next, end}
+use Rattle.violations.specs.Pushed.{pushedAll}
+use Rattle.violations.specs.Pushing.{oneWhere, Pushing, pushing-start, pushing-next, pushing-end}
 use Rattle.uses.specs.Uses.{openTo, faultsOf}
 use Rattle.uses.specs.Passes.{faultTold, faultsAt, faultsAll}
 use Rattle.uses.specs.declared.Uses.{Uses}
@@ -45,7 +45,7 @@ module _ (relied theirs : List ℕ) (owned : Bool) (publics : List ℕ) (uses : 
 module _ {relied theirs : List ℕ} {owned : Bool} {publics : List ℕ} {uses : Uses} {top : ℕ} {first : Violations} where
   pub faulting-start : {position : ℕ} → top ≡ min (uses .count) (min useLimit (min (length relied) (length theirs))) → position ≡ 0
       → Faulting relied theirs owned publics uses top position first first
-  faulting-start e z = record { few = omega arith; mine = omega arith; other = omega arith; put = begin z }
+  faulting-start e z = record { few = omega arith; mine = omega arith; other = omega arith; put = pushing-start z }
 
   module _ {position : ℕ} {violations : Violations} (s : Faulting relied theirs owned publics uses top position first violations) where
     -- to the next use, the violation put of one with a fault
@@ -58,10 +58,10 @@ module _ {relied theirs : List ℕ} {owned : Bool} {publics : List ℕ} {uses : 
         let told : faultsAt relied theirs owned publics uses position
         ≡ oneWhere (faulty freely relied theirs owned position) (faultTold (coveredTo freely relied position) position) =
         rw (← e) (fault-one position (coveredTo freely relied position) (owned && not (coveredTo freely theirs position))) in
-        record { few = s .few; mine = s .mine; other = s .other; put = next (s .put) _ h (λ l. rw told) q }
+        record { few = s .few; mine = s .mine; other = s .other; put = pushing-next (s .put) _ h (λ l. rw told) q }
 
     -- after the loop all are put
     pub faulting-end : top ≤ position → top ≡ min (uses .count) (min useLimit (min (length relied) (length theirs)))
         → violations ≡ pushedAll first (faultsAll relied theirs owned publics uses)
     unfolding flatten faultsAll
-    faulting-end h e = rw (← e) (end (s .put) h refl)
+    faulting-end h e = rw (← e) (pushing-end (s .put) h refl)

@@ -1,3 +1,1 @@
-pub mod Among
 pub mod Faulting
-pub mod Pushing

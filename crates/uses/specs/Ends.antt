@@ -14,11 +14,11 @@ use Rattle.register.specs.Chain.{latest, above, current, live}
 use Rattle.register.specs.declared.Register.{Register}
 use Rattle.columns.specs.Columns.{claimId, parentOf, holderOf, weightOf, expiryOf, chainPlaces, currentAt}
 use Rattle.columns.specs.Laws.{current-natural}
-use Rattle.rules.specs.Sound.{sound}
-use Rattle.rules.specs.Registers.{sound-out}
-use Rattle.rules.specs.Places.{claim-numbered}
-use Rattle.rules.specs.Chains.{place-above}
-use Rattle.verdicts.specs.Places.{latest-split}
+use Rattle.soundness_rules.specs.Sound.{sound}
+use Rattle.soundness_rules.specs.Registers.{sound-out}
+use Rattle.soundness_rules.specs.Places.{claim-numbered}
+use Rattle.soundness_rules.specs.Chains.{place-above}
+use Rattle.gate_rules.specs.Places.{latest-split}
 use Rattle.lookup.specs.Finding.{asked, earlierPlaces}
 use Rattle.lookup.specs.Laws.{tabled-length}
 use Rattle.coverage.specs.Gathering.{endingOf, coverPlaces, heldPlaces}
@@ -60,7 +60,7 @@ module _ (r : Register) (shaped : Shaped r) (h : sound r ≡ true) where
     unfolding earlierPlaces
     before-ending =
         let most : asked (r .claims .count) parents ≤ claimLimit = omega arith in
-        let ups : length (upsOf r) ≡ claimLimit = tabled-length _ (asked (r .claims .count) parents) claimLimit most in
+        let ups : length (upsOf r) ≡ claimLimit = tabled-length _ (asked (r .claims .count) parents) most in
         omega (
           arith,
           ups,

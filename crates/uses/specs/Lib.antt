@@ -1,8 +1,6 @@
 pub mod Ends
 pub mod Passes
 pub mod PassesLaws
-pub mod Pushed
-pub mod PushedLaws
 pub mod Relying
 pub mod Resources
 pub mod Sights

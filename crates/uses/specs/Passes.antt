@@ -17,7 +17,7 @@ use Rattle.actions.specs.declared.Violation.{Violation}
 use Rattle.actions.specs.declared.Violation.the-variants.{NotCovered, OwnerNotCovering}
 use Rattle.lookup.specs.Finding.{placeNumber}
 use Rattle.coverage.specs.Gathering.{spotIn}
-use Rattle.coverage.specs.Coverage.{firstCovering, nearestCovering}
+use Rattle.coverage.specs.Coverage.{nearestCovering}
 use Rattle.uses.specs.Uses.{openTo, stepsTold, faultsOf}
 use Rattle.uses.specs.declared.Uses.{Uses}
 
@@ -39,18 +39,12 @@ claimNumber p = min (placeNumber claimLimit p) claimLimit
 
 -- what covers each use, by gathered places and columns
 module _ (places rights spots bytes lens : List ℕ) (uses : Uses) where
-  -- the nearest claim that covers the use at place i, and the first
+  -- the nearest claim that covers the use at place i
   abbrev pub reliedAt : ℕ → ℕ
   reliedAt i = claimNumber (nearestCovering places rights spots bytes lens (getD (uses .rights) i 0) (getD (uses .spots) i 0))
 
-  abbrev pub coveredAt : ℕ → ℕ
-  coveredAt i = claimNumber (firstCovering places rights spots bytes lens (getD (uses .rights) i 0) (getD (uses .spots) i 0))
-
   unfoldable pub reliedAll : List ℕ
   reliedAll = filledBy useLimit reliedAt (min (uses .count) useLimit) claimLimit
-
-  unfoldable pub coveredAll : List ℕ
-  coveredAll = filledBy useLimit coveredAt (min (uses .count) useLimit) claimLimit
 
 -- the hop count of the claim at a place, 0 where there is none
 abbrev pub hopsAt : List ℕ → ℕ → ℕ

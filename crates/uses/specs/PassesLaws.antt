@@ -10,7 +10,6 @@ use lib.Dec.{ltb}
 use lib.ListN.{length, getD, replicate, length-take, length-map}
 use lib.Seq.{getD-take}
 use Rattle.lists.specs.Lists.{All, counted}
-use Rattle.lists.specs.Each.{all-append-right}
 use Rattle.lists.specs.Fills.{filled-length, filled-at}
 use Rattle.register.specs.Limits.{claimLimit, resourceLimit}
 use Rattle.columns.specs.Columns.{latestPlace}
@@ -22,13 +21,13 @@ use Rattle.actions.specs.declared.Action.{Action}
 use Rattle.actions.specs.declared.Usage.{Usage}
 use Rattle.actions.specs.declared.Violation.{Violation}
 use Rattle.actions.specs.declared.Violations.{Violations}
-use Rattle.verdicts.specs.Gate.{padded}
-use Rattle.uses.specs.Pushed.{pushedAll}
+use Rattle.gate_rules.specs.Gate.{padded}
+use Rattle.violations.specs.Pushed.{pushedAll}
 use Rattle.coverage.specs.Gathering.{spotIn}
-use Rattle.coverage.specs.Coverage.{reaching, reachAt, firstCovering, nearestCovering}
-use Rattle.coverage.specs.Laws.{covering-at, nearest-any}
-use Rattle.uses.specs.Uses.{hopsFrom, coveredBy, Sight, reliedOn, coveringOn, useFaults, useHops, faultsFrom, usesJudged}
-use Rattle.uses.specs.Passes.{usedSpot, usesBy, claimNumber, reliedAt, coveredAt, reliedAll, coveredAll, hopsAt, hopsAll, faultsAt, faultsAll}
+use Rattle.coverage.specs.Coverage.{reaching, reachAt, nearestCovering}
+use Rattle.coverage.specs.Laws.{nearest-any}
+use Rattle.uses.specs.Uses.{hopsFrom, coveredBy, Sight, reliedOn, useFaults, useHops, faultsFrom, usesJudged}
+use Rattle.uses.specs.Passes.{usedSpot, usesBy, claimNumber, reliedAt, reliedAll, hopsAt, hopsAll, faultsAt, faultsAll}
 use Rattle.uses.specs.declared.Uses.{Uses}
 use Rattle.uses.specs.declared.UsesJudged.{UsesJudged}
 
@@ -51,13 +50,6 @@ hops-told ups Nowhere h = refl
 module _ (places rights spots bytes lens : List ℕ) (right spot : ℕ) (each : All (λ j. j < claimLimit) places) where
   nearest-within : PlaceWithin (nearestCovering places rights spots bytes lens right spot)
   nearest-within = nearest-any (reachAt spots bytes lens spot) PlaceWithin (reaching rights spots bytes lens right spot) 0 0 places tt each
-
-  first-within : PlaceWithin (firstCovering places rights spots bytes lens right spot)
-  first-within =
-      place-cases (firstCovering places rights spots bytes lens right spot)
-      (λ j q. let found = covering-at rights spots bytes lens right spot places j q in
-      rw q (all-append-right (λ i. i < claimLimit) (found .0) (j ∷ found .1) (rw (found .2) at each) .0))
-      (λ q. rw q tt)
 
 -- ---- lists read at counted places
 
@@ -98,7 +90,7 @@ module _ (s : Sight) (reports : List ℕ) (m : ℕ) (a : Action) (few : length r
   reliedPlace = reliedAll (s .own) (s .rights) (s .spots) (s .bytes) (s .lens) uses
 
   abbrev coveringPlace : List ℕ
-  coveringPlace = coveredAll (s .theirs) (s .rights) (s .spots) (s .bytes) (s .lens) uses
+  coveringPlace = reliedAll (s .theirs) (s .rights) (s .spots) (s .bytes) (s .lens) uses
 
   -- how many uses there are, and the use at a place
   abbrev top : ℕ
@@ -126,18 +118,18 @@ module _ (s : Sight) (reports : List ℕ) (m : ℕ) (a : Action) (few : length r
     unfolding usesBy
     counted-place = omega arith
 
-    -- the claim that the actor relies on, and one of its owner
+    -- the claim that the actor relies on, and the one that its owner does
     abbrev mine : Place
     mine = reliedOn s (s .own) (spotPlace s reports m (used i)) (used i .right)
 
     abbrev other : Place
-    other = coveringOn s (s .theirs) (spotPlace s reports m (used i)) (used i .right)
+    other = reliedOn s (s .theirs) (spotPlace s reports m (used i)) (used i .right)
 
     mine-within : PlaceWithin mine
     mine-within = nearest-within (s .own) (s .rights) (s .spots) (s .bytes) (s .lens) (used i .right) (spotPlace s reports m (used i)) own
 
     other-within : PlaceWithin other
-    other-within = first-within (s .theirs) (s .rights) (s .spots) (s .bytes) (s .lens) (used i .right) (spotPlace s reports m (used i)) theirs
+    other-within = nearest-within (s .theirs) (s .rights) (s .spots) (s .bytes) (s .lens) (used i .right) (spotPlace s reports m (used i)) theirs
 
     mine-at : getD reliedPlace i 0 ≡ claimNumber mine
     unfolding reliedAll
@@ -146,9 +138,9 @@ module _ (s : Sight) (reports : List ℕ) (m : ℕ) (a : Action) (few : length r
         ∙ rw (right-at, spot-at)
 
     other-at : getD coveringPlace i 0 ≡ claimNumber other
-    unfolding coveredAll
+    unfolding reliedAll
     other-at =
-        filled-at useLimit (coveredAt (s .theirs) (s .rights) (s .spots) (s .bytes) (s .lens) uses) (min (uses .count) useLimit) claimLimit i 0 counted-place
+        filled-at useLimit (reliedAt (s .theirs) (s .rights) (s .spots) (s .bytes) (s .lens) uses) (min (uses .count) useLimit) claimLimit i 0 counted-place
         ∙ rw (right-at, spot-at)
 
     faults-at : faultsAt reliedPlace coveringPlace (s .owned) (s .publics) uses i ≡ useFaults s i (spotPlace s reports m (used i)) (used i .right)
@@ -171,7 +163,7 @@ module _ (s : Sight) (reports : List ℕ) (m : ℕ) (a : Action) (few : length r
   relied-long = filled-length useLimit _ (min (uses .count) useLimit) claimLimit (omega arith)
 
   covering-long : length coveringPlace ≡ useLimit
-  unfolding coveredAll
+  unfolding reliedAll
   covering-long = filled-length useLimit _ (min (uses .count) useLimit) claimLimit (omega arith)
 
   uses-count : uses .count ≡ length (usesOf a)

@@ -10,7 +10,7 @@ use lib.Dec.{eqb, ltb, leb}
 use lib.ListN.{length, getD, length-map, length-take, List·getD-map}
 use Rattle.lists.specs.Tests.{cases}
 use Rattle.lists.specs.Lists.{any, All, counted}
-use Rattle.lists.specs.Each.{all-imp}
+use Rattle.lists.specs.Each.{all-imp, any-map}
 use Rattle.lists.specs.Counts.{counted-below, counted-first}
 use Rattle.rights.specs.Rights.{hasRight}
 use Rattle.register.specs.Limits.{resourceLimit, claimLimit}
@@ -21,24 +21,24 @@ use Rattle.register.specs.declared.Register.{Register}
 use Rattle.columns.specs.Columns.{resourceId, publicOf, claimedOf, rightsOf}
 use Rattle.columns.specs.declared.Place.{Place}
 use Rattle.columns.specs.declared.Place.the-variants.{At, Nowhere}
-use Rattle.rules.specs.Sound.{sound}
-use Rattle.rules.specs.Registers.{sound-out}
+use Rattle.soundness_rules.specs.Sound.{sound}
+use Rattle.soundness_rules.specs.Registers.{sound-out}
 use Rattle.actions.specs.declared.Usage.{Usage}
-use Rattle.verdicts.specs.Gate.{contains, covering, covers, relied, nearestOf, reachOf}
-use Rattle.verdicts.specs.Nearest.{nearerFrom, nearest-walked}
-use Rattle.verdicts.specs.Coverage.{covering-out}
+use Rattle.gate_rules.specs.Gate.{contains, covering, covers, relied, nearestOf, reachOf}
+use Rattle.gate_rules.specs.Nearest.{nearerFrom, nearest-walked}
+use Rattle.gate_rules.specs.Coverage.{covering-out}
 use Rattle.coverage.specs.Laid.{laid}
 use Rattle.coverage.specs.LaidLaws.{part-laid}
 use Rattle.lookup.specs.Finding.{asked, placesOf, placeNumber}
 use Rattle.lookup.specs.Laws.{tabled-length, places-at}
 use Rattle.coverage.specs.Gathering.{canCover, coverPlaces}
 use Rattle.coverage.specs.Coverage.{reaching, reachAt, nearestFrom}
-use Rattle.coverage.specs.Laws.{containing, reaching-natural, firstPlaceOf, first-same, covering-filtered, nearest-filtered, nearest-same}
-use Rattle.uses.specs.Uses.{coveredBy, reliedOn, openTo, coveringOn}
+use Rattle.coverage.specs.Laws.{containing, reaching-natural, nearest-filtered, nearest-same}
+use Rattle.uses.specs.Uses.{coveredBy, reliedOn, openTo}
 use Rattle.uses.specs.Sights.{spotsOf, sightOf, spotFor}
 use Rattle.uses.specs.Resources.{placeBy, spotBy, asked-elsewhere, spot-elsewhere, contains-natural, contained-placed, public-natural, reach-spot}
 
--- ---- the first and the nearest of a list, and of the places that it is read at
+-- ---- the nearest of a list, and of the places that it is read at
 
 -- what stands at a place, alone in a list, or none
 abbrev pub onlyAt : {A : Type 0} → (ℕ → A) → Place → List A
@@ -58,11 +58,6 @@ later-taken : (j n : ℕ) → takenPlace j (suc n) ≡ At j
 later-taken j n = rw (ne-eqb (suc n) 0 (λ none. omega arith))
 
 module _ {A : Type 0} (f : ℕ → A) (p : A → Bool) where
-  -- some element passes where there is such a place
-  pub any-read : (l : List ℕ) → any p (map f l) ≡ placed (firstPlaceOf (λ j. p (f j)) l)
-  any-read [] = refl
-  any-read (j ∷ l) = cases (p (f j)) (λ e. rw e) (λ e. rw e (any-read l))
-
   -- the nearest element that passes a test is the one at the nearest place whose element does
   nearer-read : (n : A → ℕ) (best bar : ℕ) (l : List ℕ)
       → nearerFrom p n (onlyAt f (takenPlace best bar)) bar (map f l) ≡ onlyAt f (nearestFrom (λ j. p (f j)) (λ j. n (f j)) best bar l)
@@ -76,9 +71,9 @@ module _ {A : Type 0} (f : ℕ → A) (p : A → Bool) where
   pub nearest-read : (n : A → ℕ) (l : List ℕ) → nearestOf p n (map f l) ≡ onlyAt f (nearestFrom (λ j. p (f j)) (λ j. n (f j)) 0 0 l)
   nearest-read n l = nearest-walked p n (map f l) ∙ nearer-read n 0 0 l
 
--- there is a nearest place where there is a first
+-- there is a nearest place where some place passes
 nearest-placed : (p : ℕ → Bool) (f : ℕ → ℕ) (best bar : ℕ) (l : List ℕ)
-    → placed (nearestFrom p f best bar l) ≡ placed (takenPlace best bar) || placed (firstPlaceOf p l)
+    → placed (nearestFrom p f best bar l) ≡ placed (takenPlace best bar) || any p l
 unfolding nearestFrom
 nearest-placed p f best bar [] = sym (or-false (placed (takenPlace best bar)))
 nearest-placed p f best bar (j ∷ l) =
@@ -106,10 +101,6 @@ claimStanding r j = getD (r .claims .list) j noClaim
 abbrev pub claimPlaces : Register → List ℕ
 claimPlaces r = counted 0 (length (claimsOf (r .claims)))
 
--- the first place at which a claim covers
-abbrev pub firstPlace : Register → ℕ → ℕ → Usage → Place
-firstPlace r moment x u = firstPlaceOf (λ j. covering r moment x u (claimStanding r j)) (claimPlaces r)
-
 -- the place at which the nearest covering claim stands
 abbrev pub reachFor : Register → Usage → ℕ → ℕ
 reachFor r u j = reachOf r (claimStanding r j .resource) (u .resource)
@@ -131,20 +122,15 @@ relied-natural r moment x u =
     sym (ap (nearestOf (covering r moment x u) (λ c. reachOf r (c .resource) (u .resource))) (claims-read r))
     ∙ nearest-read (claimStanding r) (covering r moment x u) (λ c. reachOf r (c .resource) (u .resource)) (claimPlaces r)
 
--- some claim covers where there is a first place
-pub any-covering : (r : Register) (moment x : ℕ) (u : Usage) → any (covering r moment x u) (claimsOf (r .claims)) ≡ placed (firstPlace r moment x u)
-any-covering r moment x u = sym (ap (any (covering r moment x u)) (claims-read r)) ∙ any-read (claimStanding r) (covering r moment x u) (claimPlaces r)
+-- some claim covers where there is a nearest place
+pub any-covering : (r : Register) (moment x : ℕ) (u : Usage) → any (covering r moment x u) (claimsOf (r .claims)) ≡ placed (nearestPlace r moment x u)
+any-covering r moment x u =
+    sym (ap (any (covering r moment x u)) (claims-read r)) ∙ any-map (claimStanding r) (covering r moment x u) (claimPlaces r)
+    ∙ sym (nearest-placed (λ j. covering r moment x u (claimStanding r j)) (reachFor r u) 0 0 (claimPlaces r))
 
 either-placed : (b : Bool) (p : Place) → b || placed p ≡ coveredBy b p
 either-placed b (At j) = or-true b
 either-placed b Nowhere = or-false b
-
--- a use is covered by the nearest claim where it is by the first
-pub nearest-covers : (r : Register) (moment x : ℕ) (u : Usage) (b : Bool) → coveredBy b (nearestPlace r moment x u) ≡ coveredBy b (firstPlace r moment x u)
-nearest-covers r moment x u b =
-    sym (either-placed b (nearestPlace r moment x u))
-    ∙ ap (λ some. b || some) (nearest-placed (λ j. covering r moment x u (claimStanding r j)) (reachFor r u) 0 0 (claimPlaces r))
-    ∙ either-placed b (firstPlace r moment x u)
 
 -- where the claims' resources stand
 module _ (r : Register) (shaped : Shaped r) (j : ℕ) (inside : j < length (claimsOf (r .claims))) where
@@ -156,14 +142,14 @@ module _ (r : Register) (shaped : Shaped r) (j : ℕ) (inside : j < length (clai
   unfolding placesOf
   spot-there =
       let most : asked (r .claims .count) (map claimedOf (r .claims .list)) ≤ claimLimit = omega arith in
-      let long : length (spotsOf r) ≡ claimLimit = tabled-length _ (asked (r .claims .count) (map claimedOf (r .claims .list))) claimLimit most in
+      let long : length (spotsOf r) ≡ claimLimit = tabled-length _ (asked (r .claims .count) (map claimedOf (r .claims .list))) most in
       omega (arith, all-asked)
 
   -- it is that of its resource
   spot-natural : sound r ≡ true → getD (spotsOf r) j 0 ≡ placeNumber claimLimit (placeBy r (claimStanding r j .resource))
   spot-natural h =
       let few : min (r .resources .count) claimLimit ≡ r .resources .count = omega (arith, sound-out r h .limits .resourceCount) in
-      places-at (map resourceId (r .resources .list)) (r .resources .count) (map claimedOf (r .claims .list)) (r .claims .count) claimLimit j 0 all-asked
+      places-at (map resourceId (r .resources .list)) (r .resources .count) (map claimedOf (r .claims .list)) (r .claims .count) j 0 all-asked
       ∙ rw (few, List·getD-map claimedOf (r .claims .list) j noClaim)
 
 module _ (r : Register) (shaped : Shaped r) (h : sound r ≡ true) (moment x : ℕ) (u : Usage) where
@@ -209,19 +195,9 @@ module _ (r : Register) (shaped : Shaped r) (h : sound r ≡ true) (moment x : �
       → reachAt (spotsOf r) (laid (r .resources) .bytes) (laid (r .resources) .lens) (spotFor r u) j ≡ reachFor r u j))
       (λ j inside. (covering-natural j inside, reach-column j inside)) (claimPlaces r) (places-within r))
 
-  -- and the first of them that covers is the first at which a claim does
-  pub place-natural : (looking : ℕ)
-      → coveringOn (sightOf r moment looking) (coverPlaces (r .claims) x moment) (spotFor r u) (u .right) ≡ firstPlace r moment x u
-  place-natural looking =
-      covering-filtered (map rightsOf (r .claims .list)) (spotsOf r) (laid (r .resources) .bytes) (laid (r .resources) .lens) (u .right) (spotFor r u)
-      (λ j. canCover x moment (latest (claimsOf (r .claims))) (claimStanding r j)) (claimPlaces r)
-      ∙ first-same (λ j. canCover x moment (latest (claimsOf (r .claims))) (claimStanding r j) && reaches j) (λ j. covering r moment x u (claimStanding r j)) (claimPlaces r)
-      (all-imp (λ j. j < length (claimsOf (r .claims))) (λ j. canCover x moment (latest (claimsOf (r .claims))) (claimStanding r j) && reaches j ≡ covering r moment x u (claimStanding r j))
-      covering-natural (claimPlaces r) (places-within r))
-
   -- a use is covered where it is open or there is such a place
-  pub covers-natural : covers r moment x u ≡ coveredBy (openTo (map publicOf (r .resources .list)) (spotFor r u) (u .right)) (firstPlace r moment x u)
+  pub covers-natural : covers r moment x u ≡ coveredBy (openTo (map publicOf (r .resources .list)) (spotFor r u) (u .right)) (nearestPlace r moment x u)
   unfolding covers
   covers-natural =
       rw (public-natural r h shaped u, any-covering r moment x u)
-      (either-placed (openTo (map publicOf (r .resources .list)) (spotFor r u) (u .right)) (firstPlace r moment x u))
+      (either-placed (openTo (map publicOf (r .resources .list)) (spotFor r u) (u .right)) (nearestPlace r moment x u))

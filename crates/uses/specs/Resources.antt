@@ -9,10 +9,10 @@ use lib.Dec.{eqb, ltb}
 use lib.ListN.{length, take, getD, List·getD-map, List·getD-eq-default}
 use lib.Seq.{getD-take}
 use Rattle.lists.specs.Tests.{and-left, and-right, and-both}
-use Rattle.lists.specs.Lists.{any}
+use Rattle.lists.specs.Lists.{any, same}
+use Rattle.lists.specs.Same.{same-sound, same-complete}
 use Rattle.rights.specs.Rights.{reading}
-use Rattle.paths.specs.Containment.{contained, same, reached}
-use Rattle.paths.specs.Trimming.{same-sound, same-complete}
+use Rattle.paths.specs.Containment.{contained, reached}
 use Rattle.register.specs.Limits.{resourceLimit}
 use Rattle.register.specs.Register.{resourcesOf, pathOf, noResource, Shaped}
 use Rattle.register.specs.declared.Resource.{Resource}
@@ -23,12 +23,12 @@ use Rattle.columns.specs.declared.Place.{Place}
 use Rattle.columns.specs.declared.Place.the-variants.{At, Nowhere}
 use Rattle.lookup.specs.Finding.{placeNumber}
 use Rattle.lookup.specs.Asked.{askedAt, asked-natural}
-use Rattle.rules.specs.Sound.{sound}
-use Rattle.rules.specs.Registers.{sound-out}
+use Rattle.soundness_rules.specs.Sound.{sound}
+use Rattle.soundness_rules.specs.Registers.{sound-out}
 use Rattle.actions.specs.declared.Usage.{Usage}
-use Rattle.verdicts.specs.Gate.{publicRead, contains, pathBy, reachOf}
-use Rattle.verdicts.specs.Places.{any-place, place-any}
-use Rattle.verdicts.specs.Reaching.{path-natural}
+use Rattle.gate_rules.specs.Gate.{publicRead, contains, pathBy, reachOf}
+use Rattle.gate_rules.specs.Places.{any-place, place-any}
+use Rattle.gate_rules.specs.Reaching.{path-natural}
 use Rattle.coverage.specs.Gathering.{spotOf, spotIn}
 use Rattle.coverage.specs.Laws.{containing}
 use Rattle.uses.specs.Uses.{openTo}

@@ -5,11 +5,10 @@ use mathlib.Core.List.{List, [], map}
 use Prim.Native.Nat.{ℕ}
 use lib.Dec.{eqb}
 use lib.ListN.{getD}
-use Rattle.register.specs.Limits.{claimLimit}
 use Rattle.register.specs.Register.{actorsOf}
 use Rattle.register.specs.declared.Register.{Register}
-use Rattle.rules.specs.Sound.{isMachine}
-use Rattle.columns.specs.Columns.{actorId, ownerOf, resourceId, publicOf, claimId, parentOf, claimedOf, rightsOf, latestPlace, weightOf, expiryOf}
+use Rattle.soundness_rules.specs.Sound.{isMachine}
+use Rattle.columns.specs.Columns.{actorId, actorOwner, resourceId, publicOf, claimId, parentOf, claimedOf, rightsOf, latestPlace, weightOf, expiryOf}
 use Rattle.columns.specs.declared.Place.{Place}
 use Rattle.columns.specs.declared.Place.the-variants.{At, Nowhere}
 use Rattle.actions.specs.declared.Usage.{Usage}
@@ -24,21 +23,21 @@ ownerAt owners (At j) = getD owners j 0
 ownerAt owners Nowhere = 0
 
 -- the owner's number of the actor numbered x
-abbrev pub ownerIn : Register → ℕ → ℕ
-ownerIn r x = ownerAt (map ownerOf (r .actors .list)) (latestPlace (map actorId (r .actors .list)) (r .actors .count) x)
+abbrev pub ownerNumber : Register → ℕ → ℕ
+ownerNumber r x = ownerAt (map actorOwner (r .actors .list)) (latestPlace (map actorId (r .actors .list)) (r .actors .count) x)
 
 -- whether the actor numbered x is a machine with an owner
 abbrev pub ownedIn : Register → ℕ → Bool
-ownedIn r x = isMachine (actorsOf (r .actors)) x && not (eqb (ownerIn r x) 0)
+ownedIn r x = isMachine (actorsOf (r .actors)) x && not (eqb (ownerNumber r x) 0)
 
 -- the place of each claim's resource, 256 for none
 abbrev pub spotsOf : Register → List ℕ
 spotsOf r =
-    placesOf (map resourceId (r .resources .list)) (r .resources .count) (map claimedOf (r .claims .list)) (r .claims .count) claimLimit
+    placesOf (map resourceId (r .resources .list)) (r .resources .count) (map claimedOf (r .claims .list)) (r .claims .count)
 
 -- the place of each claim's parent among the claims before it
 abbrev pub upsOf : Register → List ℕ
-upsOf r = earlierPlaces (map claimId (r .claims .list)) (map parentOf (r .claims .list)) (r .claims .count) claimLimit
+upsOf r = earlierPlaces (map claimId (r .claims .list)) (map parentOf (r .claims .list)) (r .claims .count)
 
 -- the end of each claim
 abbrev pub endsIn : Register → List ℕ
@@ -48,7 +47,7 @@ endsIn r = endsOf (map weightOf (r .claims .list)) (map expiryOf (r .claims .lis
 abbrev pub sightOf : Register → ℕ → ℕ → Sight
 sightOf r moment x = record {
   own = coverPlaces (r .claims) x moment;
-  theirs = cond (ownedIn r x) (coverPlaces (r .claims) (ownerIn r x) moment) [];
+  theirs = cond (ownedIn r x) (coverPlaces (r .claims) (ownerNumber r x) moment) [];
   owned = ownedIn r x;
   rights = map rightsOf (r .claims .list);
   spots = spotsOf r;

@@ -14,27 +14,27 @@ use Rattle.register.specs.Register.{actorsOf, resourcesOf, claimsOf, noActor, n
 use Rattle.register.specs.Chain.{latest, hopsOf}
 use Rattle.register.specs.declared.Actor.{Actor}
 use Rattle.register.specs.declared.Register.{Register}
-use Rattle.columns.specs.Columns.{actorId, ownerOf, publicOf, latestPlace, placesUp}
+use Rattle.columns.specs.Columns.{actorId, actorOwner, publicOf, latestPlace, placesUp}
 use Rattle.columns.specs.Laws.{steps-within}
 use Rattle.columns.specs.declared.Place.{Place}
 use Rattle.columns.specs.declared.Place.the-variants.{At, Nowhere}
 use Rattle.lookup.specs.Asked.{askedAt, asked-natural}
-use Rattle.rules.specs.Sound.{World, worldOf, soundClaims, sound}
-use Rattle.rules.specs.Registers.{sound-out}
-use Rattle.rules.specs.Places.{claim-numbered}
-use Rattle.rules.specs.Chains.{place-hops-whole}
+use Rattle.soundness_rules.specs.Sound.{World, worldOf, soundClaims, sound}
+use Rattle.soundness_rules.specs.Registers.{sound-out}
+use Rattle.soundness_rules.specs.Places.{claim-numbered}
+use Rattle.soundness_rules.specs.Chains.{place-hops-whole}
 use Rattle.lookup.specs.Laws.{hop-count-natural}
 use Rattle.actions.specs.declared.Usage.{Usage}
-use Rattle.verdicts.specs.Gate.{covers, ownerLacks, useViolation, hopsIn, hopsFor}
-use Rattle.verdicts.specs.Places.{latest-split}
-use Rattle.verdicts.specs.Coverage.{sound-place}
-use Rattle.verdicts.specs.Trace.{place-hops-most}
-use Rattle.verdicts.specs.Authority.{IsIn}
+use Rattle.gate_rules.specs.Gate.{covers, ownerLacks, useViolation, hopsIn, hopsFor}
+use Rattle.gate_rules.specs.Places.{latest-split}
+use Rattle.gate_rules.specs.Coverage.{sound-place}
+use Rattle.gate_rules.specs.Trace.{place-hops-most}
+use Rattle.gate_rules.specs.Authority.{IsIn}
 use Rattle.coverage.specs.Laws.{nearest-any}
-use Rattle.uses.specs.Uses.{openTo, hopsFrom, coveredBy, reliedOn, useFaults, useHops, coveringOn, stepsTold}
+use Rattle.uses.specs.Uses.{openTo, hopsFrom, coveredBy, reliedOn, useFaults, useHops, stepsTold}
 use Rattle.coverage.specs.Gathering.{coverPlaces}
-use Rattle.uses.specs.Sights.{ownerAt, ownerIn, ownedIn, upsOf, sightOf, spotFor}
-use Rattle.uses.specs.Relying.{claimStanding, claimPlaces, places-within, relied-natural, place-natural, covers-natural, onlyAt, reachFor, nearestPlace, nearest-covers, nearest-natural}
+use Rattle.uses.specs.Sights.{ownerAt, ownerNumber, ownedIn, upsOf, sightOf, spotFor}
+use Rattle.uses.specs.Relying.{claimStanding, claimPlaces, places-within, relied-natural, covers-natural, onlyAt, reachFor, nearestPlace, nearest-natural}
 
 -- ---- the claim relied on: its hops
 module _ (r : Register) (shaped : Shaped r) (h : sound r ≡ true) where
@@ -104,22 +104,22 @@ module _ (r : Register) (h : sound r ≡ true) (x : ℕ) where
   -- what is asked of a machine and of its owner, place by place
   owner-asked : (f : ℕ → Bool) (p : Place)
       → askedAt noActor (r .actors .list) (λ a. eqb machineKind (a .kind) && (not (eqb (a .owner) 0) && not (f (a .owner)))) p
-      ≡ (askedAt noActor (r .actors .list) (λ a. eqb machineKind (a .kind)) p && not (eqb (ownerAt (map ownerOf (r .actors .list)) p) 0))
-      && not (f (ownerAt (map ownerOf (r .actors .list)) p))
+      ≡ (askedAt noActor (r .actors .list) (λ a. eqb machineKind (a .kind)) p && not (eqb (ownerAt (map actorOwner (r .actors .list)) p) 0))
+      && not (f (ownerAt (map actorOwner (r .actors .list)) p))
   owner-asked f Nowhere = refl
   owner-asked f (At j) =
-      rw (List·getD-map ownerOf (r .actors .list) j noActor)
+      rw (List·getD-map actorOwner (r .actors .list) j noActor)
       (sym (and-assoc (eqb machineKind (getD (r .actors .list) j noActor .kind)) (not (eqb (getD (r .actors .list) j noActor .owner) 0))
       (not (f (getD (r .actors .list) j noActor .owner)))))
 
   -- the owner lacks where x is a machine with an owner and the owner does not cover the use
   pub owner-natural : (moment : ℕ) (u : Usage)
-      → ownerLacks r moment x u ≡ ownedIn r x && not (covers r moment (ownerIn r x) u)
+      → ownerLacks r moment x u ≡ ownedIn r x && not (covers r moment (ownerNumber r x) u)
   unfolding ownerLacks
   owner-natural moment u =
       asked-actor (λ a. eqb machineKind (a .kind) && (not (eqb (a .owner) 0) && not (covers r moment (a .owner) u)))
       ∙ owner-asked (λ y. covers r moment y u) placeOfActor
-      ∙ sym (ap (λ b. (b && not (eqb (ownerIn r x) 0)) && not (covers r moment (ownerIn r x) u)) (asked-actor (λ a. eqb machineKind (a .kind))))
+      ∙ sym (ap (λ b. (b && not (eqb (ownerNumber r x) 0)) && not (covers r moment (ownerNumber r x) u)) (asked-actor (λ a. eqb machineKind (a .kind))))
 
 -- ---- the judgement
 
@@ -133,26 +133,21 @@ module _ (r : Register) (shaped : Shaped r) (h : sound r ≡ true) (moment x : �
   abbrev freely : Bool
   freely = openTo (map publicOf (r .resources .list)) (spotFor r u) (u .right)
 
-  -- the actor covers the use by its nearest claim
-  covered-natural : coveredBy freely (reliedOn (sightOf r moment x) (coverPlaces (r .claims) x moment) (spotFor r u) (u .right)) ≡ covers r moment x u
-  covered-natural =
-      ap (coveredBy freely) (nearest-natural r shaped h moment x u x) ∙ nearest-covers r moment x u freely ∙ sym (covers-natural r shaped h moment x u)
+  -- whoever is asked, the actor or its owner, covers the use by the nearest claim
+  covered-natural : (y : ℕ) → coveredBy freely (reliedOn (sightOf r moment x) (coverPlaces (r .claims) y moment) (spotFor r u) (u .right)) ≡ covers r moment y u
+  covered-natural y = ap (coveredBy freely) (nearest-natural r shaped h moment y u x) ∙ sym (covers-natural r shaped h moment y u)
 
-  -- and its owner y by the first
-  owner-covers : (y : ℕ) → coveredBy freely (coveringOn (sightOf r moment x) (coverPlaces (r .claims) y moment) (spotFor r u) (u .right)) ≡ covers r moment y u
-  owner-covers y = ap (coveredBy freely) (place-natural r shaped h moment y u x) ∙ sym (covers-natural r shaped h moment y u)
-
-  lacking-natural : ownedIn r x && not (coveredBy freely (coveringOn (sightOf r moment x) (sightOf r moment x .theirs) (spotFor r u) (u .right)))
+  lacking-natural : ownedIn r x && not (coveredBy freely (reliedOn (sightOf r moment x) (sightOf r moment x .theirs) (spotFor r u) (u .right)))
       ≡ ownerLacks r moment x u
   lacking-natural =
-      asked-where (λ places. not (coveredBy freely (coveringOn (sightOf r moment x) places (spotFor r u) (u .right)))) (ownedIn r x)
-      (coverPlaces (r .claims) (ownerIn r x) moment) []
-      ∙ ap (λ b. ownedIn r x && not b) (owner-covers (ownerIn r x))
+      asked-where (λ places. not (coveredBy freely (reliedOn (sightOf r moment x) places (spotFor r u) (u .right)))) (ownedIn r x)
+      (coverPlaces (r .claims) (ownerNumber r x) moment) []
+      ∙ ap (λ b. ownedIn r x && not b) (covered-natural (ownerNumber r x))
       ∙ sym (owner-natural r h x moment u)
 
   pub fault-natural : (n : ℕ) → useFaults (sightOf r moment x) n (spotFor r u) (u .right) ≡ useViolation r moment x n u
   unfolding useFaults useViolation
-  fault-natural n = rw (covered-natural, lacking-natural)
+  fault-natural n = rw (covered-natural x, lacking-natural)
 
   pub hop-natural : useHops (sightOf r moment x) (spotFor r u) (u .right) ≡ hopsFor r moment x u
   unfolding useHops

@@ -17,10 +17,10 @@ use Rattle.actions.specs.declared.Usage.{Usage}
 use Rattle.actions.specs.declared.Violation.{Violation}
 use Rattle.actions.specs.declared.Violation.the-variants.{NotCovered, OwnerNotCovering}
 use Rattle.actions.specs.declared.Violations.{Violations}
-use Rattle.verdicts.specs.Gate.{padded}
-use Rattle.uses.specs.Pushed.{pushedAll}
+use Rattle.gate_rules.specs.Gate.{padded}
+use Rattle.violations.specs.Pushed.{pushedAll}
 use Rattle.coverage.specs.Gathering.{spotIn}
-use Rattle.coverage.specs.Coverage.{firstCovering, nearestCovering}
+use Rattle.coverage.specs.Coverage.{nearestCovering}
 use Rattle.uses.specs.declared.UsesJudged.{UsesJudged}
 
 -- the resource at a place is public and the right is READ
@@ -62,15 +62,11 @@ pub record Sight : Type 0 where
 abbrev pub reliedOn : Sight → List ℕ → ℕ → ℕ → Place
 reliedOn s places spot right = nearestCovering places (s .rights) (s .spots) (s .bytes) (s .lens) right spot
 
--- a claim that covers, by the gathered places: the first
-abbrev pub coveringOn : Sight → List ℕ → ℕ → ℕ → Place
-coveringOn s places spot right = firstCovering places (s .rights) (s .spots) (s .bytes) (s .lens) right spot
-
 -- the violations of the use at position n, of the resource at a place, and its hop count
 unfoldable pub useFaults : Sight → ℕ → ℕ → ℕ → List Violation
 useFaults s n spot right =
     faultsOf n (coveredBy (openTo (s .publics) spot right) (reliedOn s (s .own) spot right))
-    (s .owned && not (coveredBy (openTo (s .publics) spot right) (coveringOn s (s .theirs) spot right)))
+    (s .owned && not (coveredBy (openTo (s .publics) spot right) (reliedOn s (s .theirs) spot right)))
 
 unfoldable pub useHops : Sight → ℕ → ℕ → ℕ
 useHops s spot right = hopsFrom (s .ups) (reliedOn s (s .own) spot right)

@@ -1,15 +1,14 @@
-// The uses of an action judged by lent columns, in passes over all of them: where each stands, the claim that the actor relies on for it, one by
-// which the owner of a machine covers it, the hop counts, and the violations. What a pass finds stands at the use's place; of a claim it is its
-// place, 256 for none. Violations are put behind those of a list, in 01's order: the flags that are set, the entries that a machine governs, and those of
-// the uses. That a use is judged so as 01 says, where the columns are those of a sound register, is proved in specs/SightsLaws.
+// The uses of an action judged: violations and hop counts.
+// By lent columns, in passes over all uses: where each stands, the claim that the actor relies on
+// for it and the one that the owner of a machine would, the hop counts, and the violations, which
+// are put behind those of a list. What a pass finds stands at the use's place; of a claim it is its
+// place, 256 for none. That a use is judged so as 01 says, where the columns are those of a sound
+// register, is proved in specs/SightsLaws.
 ghost use mathlib.Core.Path.{_≡_};
 ghost use lib.ListN.{take};
-ghost use Rattle.uses.specs.Pushed.{pushedAll, pushed};
+ghost use Rattle.violations.specs.Pushed.{pushedAll};
 ghost use Rattle.uses.specs.Uses.{openTo, stepsTold};
-ghost use Rattle.uses.specs.Passes.{usesBy, claimNumber, reliedAll, coveredAll, hopsAt, hopsAll, faultTold, faultsAll};
-ghost use mathlib.Core.List.{[]};
-ghost use Rattle.actions.specs.Actions.{governsOf};
-ghost use Rattle.verdicts.specs.Gate.{flagsSet, governed, listed};
+ghost use Rattle.uses.specs.Passes.{usesBy, claimNumber, reliedAll, hopsAt, hopsAll, faultTold, faultsAll};
 use actions::Action;
 use actions::Violated;
 use actions::Violation;
@@ -95,39 +94,6 @@ pub fn relied_on<'a>(
     relied
 }
 
-// A claim that covers each use, for which only a yes is asked: of the first `has` gathered places, the first that covers it.
-pub fn covered_by<'a>(
-    theirs: &'a [u16],
-    has: usize,
-    rights: &'a [u32],
-    spots: &'a [u16],
-    bytes: &'a [u8],
-    lens: &'a [usize],
-    uses: Uses,
-) -> [u16; Action::USES]
-    ensures { λ r. ⌜ r ≡ coveredAll (take has (now (theirs .entry))) (now (rights .entry)) (now (spots .entry)) (now (bytes .entry)) (now (lens .entry)) uses ⌝ }
-{
-    let top = lists::least(uses.count, Action::USES);
-    let mut covering = [256u16; Action::USES];
-    let mut i: usize = 0;
-    while i < top {
-        let spot = uses.spots[i] as usize;
-        let place = coverage::first_covering(
-            theirs,
-            has,
-            rights,
-            spots,
-            bytes,
-            lens,
-            uses.rights[i],
-            spot,
-        );
-        covering[i] = claim_number(place);
-        i += 1;
-    }
-    covering
-}
-
 // The number that is told of the steps up. In a sound register no chain goes on beyond the limit.
 fn steps_told(walked: Hops) -> usize
     ensures { λ r. ⌜ r ≡ stepsTold walked ⌝ }
@@ -209,74 +175,6 @@ pub fn put_faults<'a>(
         if (lacking | !covered) & (at < Violations::MOST) {
             let v = Violated {
                 what: fault_told(covered, position),
-            };
-            vs.list[at] = v;
-            vs.count = at + 1;
-            position += 1;
-        } else {
-            position += 1;
-        }
-    }
-    vs
-}
-
-// No violations.
-pub fn none() -> Violations
-    ensures { λ r. ⌜ r ≡ listed [] ⌝ }
-{
-    let v = Violated {
-        what: Violation::FlagSet(0),
-    };
-    let list = [v; Violations::MOST];
-    Violations { list, count: 0 }
-}
-
-// One violation more, at the end; as they were where there is no place.
-pub fn push(mut vs: Violations, v: Violation) -> Violations
-    ensures { λ r. ⌜ r ≡ pushed vs v ⌝ }
-{
-    let at = vs.count;
-    if at < Violations::MOST {
-        vs.list[at] = Violated { what: v };
-        vs.count = at + 1;
-        vs
-    } else {
-        vs
-    }
-}
-
-// 1: one for each set flag, lowest first.
-pub fn push_flags(mut vs: Violations, flags: u32) -> Violations
-    ensures { λ r. ⌜ r ≡ pushedAll vs (flagsSet flags) ⌝ }
-{
-    let mut flag: u32 = 0;
-    while flag < Action::FLAGS {
-        let at = vs.count;
-        if ((flags >> flag) % 2 == 1) & (at < Violations::MOST) {
-            let v = Violated {
-                what: Violation::FlagSet(flag),
-            };
-            vs.list[at] = v;
-            vs.count = at + 1;
-            flag += 1;
-        } else {
-            flag += 1;
-        }
-    }
-    vs
-}
-
-// 3: one for each governed entry.
-pub fn push_governs(mut vs: Violations, a: Action) -> Violations
-    ensures { λ r. ⌜ r ≡ pushedAll vs (governed 0 (governsOf a)) ⌝ }
-{
-    let top = lists::least(a.governed, Action::GOVERNED);
-    let mut position: u32 = 0;
-    while (position as usize) < top {
-        let at = vs.count;
-        if at < Violations::MOST {
-            let v = Violated {
-                what: Violation::MachineGoverns(position),
             };
             vs.list[at] = v;
             vs.count = at + 1;

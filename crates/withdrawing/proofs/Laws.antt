@@ -10,23 +10,26 @@ use lib.ListN.{length, take, getD, replicate, length-take, length-map, length-re
 use Rattle.lists.specs.Lists.{any, Each, counted}
 use Rattle.lists.specs.Counts.{counted-length}
 use Rattle.lists.specs.Each.{any-map}
-use Rattle.lists.specs.Trims.{trim-same, trim-map, trim-length}
+use Rattle.lists.specs.Filters.{dropping-same, dropping-map, dropping-length}
 use Rattle.register.specs.Limits.{claimLimit}
 use Rattle.register.specs.Register.{claimsOf, noClaim}
 use Rattle.register.specs.Chain.{latest, above}
 use Rattle.register.specs.declared.Claim.{Claim}
 use Rattle.register.specs.declared.Register.{Register}
-use Rattle.rules.specs.Sound.{sound}
-use Rattle.rules.specs.Struck.{struck, strike}
+use Rattle.soundness_rules.specs.Sound.{sound}
+use Rattle.soundness.specs.Laws.{judged-ups}
+use Rattle.soundness.specs.Opened.{Opened}
+use Rattle.soundness.specs.declared.Findings.{Findings}
+use Rattle.soundness_rules.specs.Struck.{struck, strike}
 use Rattle.columns.specs.Columns.{claimId, parentOf, places, placesUp}
 use Rattle.columns.specs.Laws.{getD-inside, places-latest}
-use Rattle.columns.specs.Sheet.{sheetOf, sheetLimit, columnOf, claimAt, claimsIn}
+use Rattle.columns.specs.Sheet.{sheetOf, sheetLimit, columnOf, claimAt, claimsIn, idColumn, parentColumn}
 use Rattle.columns.specs.SheetLaws.{sheet-long, sheet-claims, claims-in-length, claims-in-at}
 use Rattle.lookup.specs.Finding.{earlierPlaces}
 use Rattle.lookup.specs.Laws.{counted-number}
 use Rattle.lookup.specs.Walks.{above-natural, sheet-few, sheet-numbered}
 use Rattle.refusals.specs.Refusals.{outcomeOf}
-use Rattle.changes.specs.Changes.{Withdrawal, revoke, clearResource, clearExpired, names, leftOf, revokeTests, clearResourceTests, clearExpiredTests, withdrawTests, withdrawn}
+use Rattle.change_rules.specs.Changes.{Withdrawal, revoke, clearResource, clearExpired, names, unstruck, revokeTests, clearResourceTests, clearExpiredTests, withdrawTests, withdrawn}
 use Rattle.refusals.specs.Laws.{outcome-cases, outcome-accepted}
 use Rattle.refusals.specs.declared.Outcome.{Outcome}
 use Rattle.refusals.specs.declared.Outcome.the-variants.{Accepted}
@@ -48,7 +51,7 @@ gone-at P ups n j h =
 module _ (P : Claim → Bool) (s : List ℕ) (long : length s ≡ sheetLimit) (n : ℕ) (few : n ≤ claimLimit)
     (numbered : (j : ℕ) → j < n → claimAt s j .id ≡ 0 → ⊥) where
   abbrev ups : List ℕ
-  ups = earlierPlaces (columnOf 0 s) (columnOf 1 s) n claimLimit
+  ups = earlierPlaces (columnOf idColumn s) (columnOf parentColumn s) n
 
   abbrev gone : List Bool
   gone = goneBy (λ j. P (claimAt s j)) ups n
@@ -72,8 +75,8 @@ module _ (P : Claim → Bool) (s : List ℕ) (long : length s ≡ sheetLimit) (n
 
   pub staying-natural : map (claimAt s) (staying gone n) ≡ strike claimId parentOf P (latest (take n (claimsIn s)))
   staying-natural =
-      ap (map (claimAt s)) (trim-same (λ M j. getD gone j false) (λ M j. struck claimId parentOf P (map (claimAt s) M) (claimAt s j)) (places n) (each-goes n (omega arith)))
-      ∙ sym (trim-map (claimAt s) (struck claimId parentOf P) (λ M j. struck claimId parentOf P (map (claimAt s) M) (claimAt s j)) (λ M e. refl) (places n))
+      ap (map (claimAt s)) (dropping-same (λ M j. getD gone j false) (λ M j. struck claimId parentOf P (map (claimAt s) M) (claimAt s j)) (places n) (each-goes n (omega arith)))
+      ∙ sym (dropping-map (claimAt s) (struck claimId parentOf P) (λ M j. struck claimId parentOf P (map (claimAt s) M) (claimAt s j)) (λ M e. refl) (places n))
       ∙ ap (strike claimId parentOf P) (places-claims n few)
 
 places-length : (n : ℕ) → length (places n) ≡ n
@@ -89,7 +92,7 @@ spared-length s n gone =
       arith,
       length-reverse (map (claimAt s) (staying gone top)),
       length-map (staying gone top) (claimAt s),
-      trim-length (λ M j. getD gone j false) (places top),
+      dropping-length (λ M j. getD gone j false) (places top),
       places-length top,
     )
 
@@ -101,9 +104,9 @@ module _ (r : Register) (long : length (r .claims .list) ≡ claimLimit) (whole 
   abbrev n : ℕ
   n = r .claims .count
 
-  pub spared-natural : spared s n (goneBy (λ j. P (claimAt s j)) (earlierPlaces (columnOf 0 s) (columnOf 1 s) n claimLimit) n) ≡ leftOf P r
+  pub spared-natural : spared s n (goneBy (λ j. P (claimAt s j)) (earlierPlaces (columnOf idColumn s) (columnOf parentColumn s) n) n) ≡ unstruck P r
   spared-natural =
-      let gone : List Bool = goneBy (λ j. P (claimAt s j)) (earlierPlaces (columnOf 0 s) (columnOf 1 s) n claimLimit) n in
+      let gone : List Bool = goneBy (λ j. P (claimAt s j)) (earlierPlaces (columnOf idColumn s) (columnOf parentColumn s) n) n in
       let all : min n claimLimit ≡ n = omega (arith, sheet-few r long whole) in
       ap (λ m. latest (map (claimAt s) (staying gone m))) all
       ∙ ap latest (staying-natural P s (sheet-long (r .claims)) n (sheet-few r long whole) (sheet-numbered r long whole)
@@ -119,7 +122,7 @@ withdraw-judged r (clearExpired who moment) h = outcome-accepted _ _ h
 -- what is struck of what a withdrawal names, with its outcome, is what the withdrawal leaves
 pub struck-natural : (r : Register) → length (r .claims .list) ≡ claimLimit → (w : Withdrawal)
     → struckClaims (r .claims) (sheetOf (r .claims)) (goneBy (λ j. names w (claimAt (sheetOf (r .claims)) j))
-    (earlierPlaces (columnOf 0 (sheetOf (r .claims))) (columnOf 1 (sheetOf (r .claims))) (r .claims .count) claimLimit) (r .claims .count))
+    (earlierPlaces (columnOf idColumn (sheetOf (r .claims))) (columnOf parentColumn (sheetOf (r .claims))) (r .claims .count)) (r .claims .count))
     (outcomeOf (withdrawTests r w))
     ≡ struckOf (withdrawn r w)
 unfolding struckClaims withdrawn
@@ -128,14 +131,11 @@ struck-natural r long w = outcome-cases (outcomeOf (withdrawTests r w))
     rw (accepted, spared-natural r long (withdraw-judged r w accepted) (names w), stood, length-reverse (claimsOf (r .claims))))
     (λ why refused. rw refused)
 
--- so it is where each part is told
-pub struck-told : (r : Register) → length (r .claims .list) ≡ claimLimit → (w : Withdrawal) {s ups : List ℕ} {gone : List Bool} {told : Outcome} {y : Struck}
-    → s ≡ sheetOf (r .claims) → ups ≡ earlierPlaces (columnOf 0 (sheetOf (r .claims))) (columnOf 1 (sheetOf (r .claims))) (r .claims .count) claimLimit
-    → gone ≡ goneBy (λ j. names w (claimAt (sheetOf (r .claims)) j)) ups (r .claims .count) → told ≡ outcomeOf (withdrawTests r w)
+-- so it is where each part is told of a register that was examined
+pub struck-told : (r : Register) → length (r .claims .list) ≡ claimLimit → (w : Withdrawal) {s : List ℕ} {found : Findings} {gone : List Bool} {told : Outcome} {y : Struck}
+    → Opened r s found → gone ≡ goneBy (λ j. names w (claimAt s j)) (found .ups) (r .claims .count) → told ≡ outcomeOf (withdrawTests r w)
     → y ≡ struckClaims (r .claims) s gone told → y ≡ struckOf (withdrawn r w)
-struck-told r long w {s} {ups} {gone} {told} filled upped named decided e =
+struck-told r long w {s} {found} {gone} {told} opened named decided e =
     e
-    ∙ ap (λ l. struckClaims (r .claims) l gone told) filled
-    ∙ ap (λ g. struckClaims (r .claims) (sheetOf (r .claims)) g told) (named ∙ ap (λ l. goneBy (λ j. names w (claimAt (sheetOf (r .claims)) j)) l (r .claims .count)) upped)
-    ∙ ap (struckClaims (r .claims) (sheetOf (r .claims)) _) decided
-    ∙ struck-natural r long w
+    ∙ ap (λ g. struckClaims (r .claims) s g told) (named ∙ ap (λ l. goneBy (λ j. names w (claimAt s j)) l (r .claims .count)) (judged-ups r opened))
+    ∙ rw (opened .put, decided) (struck-natural r long w)

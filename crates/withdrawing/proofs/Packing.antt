@@ -7,7 +7,7 @@ use native.Mathlib.Numerals.{add-one}
 use native.Mathlib.Omega.{arith}
 use lib.ListN.{length, getD, set, replicate, length-reverse}
 use Rattle.lists.specs.Fills.{put-first}
-use Rattle.lists.specs.Trims.{trim-nil, trim-hit, trim-miss}
+use Rattle.lists.specs.Filters.{dropping-nil, dropping-hit, dropping-miss}
 use Rattle.register.specs.Limits.{claimLimit}
 use Rattle.register.specs.Register.{noClaim}
 use Rattle.register.specs.Chain.{latest}
@@ -35,18 +35,18 @@ module _ (s : List ℕ) (gone : List Bool) where
   pub packing-start : {none : Claim} → none ≡ noClaim → Packing s gone (replicate claimLimit none) 0 0
   unfolding places
   packing-start e = record {
-    stay = rw (e, trim-nil (λ M j. getD gone j false));
-    count = rw (trim-nil (λ M j. getD gone j false));
+    stay = rw (e, dropping-nil (λ M j. getD gone j false));
+    count = rw (dropping-nil (λ M j. getD gone j false));
     less = omega arith;
   }
 
   stayed-goes : (i : ℕ) → getD gone i false ≡ true → stayed s gone (i + 1) ≡ stayed s gone i
   unfolding places
-  stayed-goes i e = rw add-one (ap (map (claimAt s)) (trim-hit (λ M j. getD gone j false) i (places i) e))
+  stayed-goes i e = rw add-one (ap (map (claimAt s)) (dropping-hit (λ M j. getD gone j false) i (places i) e))
 
   stayed-stays : (i : ℕ) → getD gone i false ≡ false → stayed s gone (i + 1) ≡ claimAt s i ∷ stayed s gone i
   unfolding places
-  stayed-stays i e = rw add-one (ap (map (claimAt s)) (trim-miss (λ M j. getD gone j false) i (places i) e))
+  stayed-stays i e = rw add-one (ap (map (claimAt s)) (dropping-miss (λ M j. getD gone j false) i (places i) e))
 
 module _ {s : List ℕ} {gone : List Bool} {list : List Claim} {kept i : ℕ} (p : Packing s gone list kept i) where
   latest-long : length (latest (stayed s gone i)) ≡ kept

@@ -4,7 +4,7 @@ use mathlib.Core.Bool.{Bool, false, cond}
 use mathlib.Core.List.{List, _∷_, [], _++_, map}
 use Prim.Native.Nat.{ℕ, _-_, min}
 use lib.ListN.{length, getD, replicate}
-use Rattle.lists.specs.Lists.{any, counted, trim}
+use Rattle.lists.specs.Lists.{any, counted, dropping}
 use Rattle.register.specs.Limits.{claimLimit}
 use Rattle.register.specs.Register.{noClaim}
 use Rattle.register.specs.Chain.{latest}
@@ -16,7 +16,7 @@ use Rattle.refusals.specs.Refusals.{Test, isAccepted}
 use Rattle.refusals.specs.declared.Outcome.{Outcome}
 use Rattle.refusals.specs.declared.Refusal.{Refusal}
 use Rattle.refusals.specs.declared.Refusal.the-variants.{Unsound, NoGrantor}
-use Rattle.changes.specs.declared.Revoked.{Revoked}
+use Rattle.change_rules.specs.declared.Revoked.{Revoked}
 use Rattle.withdrawing.specs.declared.Struck.{Struck}
 
 -- the tests of a withdrawal, where it is told whether each is passed: the first asks for a sound register, the last for one who may withdraw
@@ -38,7 +38,7 @@ goneBy P ups n = map (goesAt P ups) (counted 0 (min n claimLimit)) ++ replicate 
 
 -- the places of those that stay, among the first n claims, latest first
 abbrev pub staying : List Bool → ℕ → List ℕ
-staying gone n = trim (λ L j. getD gone j false) (places n)
+staying gone n = dropping (λ L j. getD gone j false) (places n)
 
 -- of the first n claims of a sheet those that are left, in their order
 abbrev pub spared : List ℕ → ℕ → List Bool → List Claim

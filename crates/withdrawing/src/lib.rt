@@ -1,15 +1,18 @@
-// Withdrawals. Revocation: tests 1, 3, 17 and 18; the claim and every claim with it on its chain go. Clearing a resource by its keeper: tests 1, 3 for the
-// caller, 3 for the resource and 18; the claims on it go. Clearing old claims by any human: tests 1, 2 for the moment, 3 for the caller and 18; those
-// that have expired at the moment go, with all that is drawn from them. Accepted, the rest keep their order, every place behind them holds the zero claim,
-// and the answer says how many went, which of a clearing may be none; refused, the claims are handed back as they came. What says which claims
-// go and strikes them takes any marks, and serves every withdrawal.
+// The three withdrawals: revocation, clearing a report, clearing old claims.
+// Revocation: tests 1, 3, 17 and 18; the claim and every claim with it on its chain go. Clearing a
+// resource by its keeper: tests 1, 3 for the caller, 3 for the resource and 18; the claims on it
+// go. Clearing old claims by any human: tests 1, 2 for the moment, 3 for the caller and 18; those
+// that have expired at the moment go, with all that is drawn from them. Accepted, the rest keep
+// their order, every place behind them holds the zero claim, and the answer says how many went,
+// which of a clearing may be none; refused, the claims are handed back as they came. Marking and
+// striking are shared by the three.
 ghost use mathlib.Core.Path.{_≡_};
 ghost use mathlib.Core.Bool.{false};
 ghost use lib.Dec.{eqb};
 ghost use lib.ListN.{getD};
 ghost use Rattle.lists.specs.Lists.{any};
 ghost use Rattle.refusals.specs.Refusals.{outcomeOf};
-ghost use Rattle.changes.specs.Changes.{revoke, withdrawn, clearResource, clearExpired};
+ghost use Rattle.change_rules.specs.Changes.{revoke, withdrawn, clearResource, clearExpired};
 ghost use Rattle.withdrawing.specs.Struck.{struckClaims, askedTests, goneBy, packedClaims, struckOf};
 ghost use mathlib.Core.List.{_∷_};
 ghost use Rattle.register.specs.Chain.{expired};
@@ -194,20 +197,19 @@ pub fn revoke(r: Register, who: u32, x: u32) -> Struck
     let o = r.resources;
     let k = r.claims;
     let mut sheet = [0u32; columns::SHEET];
-    columns::put_claims(&mut sheet, k);
-    let judged = soundness::judged(a, o, &sheet, k.count);
-    let known = columns::is_among(&judged.actors.names, a.count, who);
+    let found = soundness::examine(&mut sheet, a, o, k);
+    let known = columns::is_among(&found.actors.names, a.count, who);
     let ids = columns::column(&sheet, columns::IDS);
     let stands = columns::is_among(ids, k.count, x);
     let grantors = columns::column(&sheet, columns::GRANTORS);
-    let grants = grants_on(ids, &judged.ups, grantors, k.count, x, who);
-    let gone = gone_with(&judged.ups, ids, k.count, x);
+    let grants = grants_on(ids, &found.ups, grantors, k.count, x, who);
+    let gone = gone_with(&found.ups, ids, k.count, x);
     let told = outcome(
-        judged.sound,
+        found.sound,
         known,
-        Refusal::Unknown,
+        Refusal::Absent,
         stands,
-        Refusal::ClaimAbsent,
+        Refusal::NoClaim,
         grants,
     );
     strike(k, &sheet, &gone, told)
@@ -221,25 +223,24 @@ pub fn clear_resource(r: Register, caller: u32, resource: u32) -> Struck
     let o = r.resources;
     let k = r.claims;
     let mut sheet = [0u32; columns::SHEET];
-    columns::put_claims(&mut sheet, k);
-    let judged = soundness::judged(a, o, &sheet, k.count);
-    let known = columns::is_among(&judged.actors.names, a.count, caller);
-    let listed = columns::is_among(&judged.resources.reports, o.count, resource);
+    let found = soundness::examine(&mut sheet, a, o, k);
+    let known = columns::is_among(&found.actors.names, a.count, caller);
+    let listed = columns::is_among(&found.resources.reports, o.count, resource);
     let keeps = columns::is_beside(
-        &judged.resources.reports,
-        &judged.resources.keepers,
+        &found.resources.reports,
+        &found.resources.keepers,
         o.count,
         resource,
         caller,
     );
     let claimed = columns::column(&sheet, columns::CLAIMED);
-    let gone = gone_with(&judged.ups, claimed, k.count, resource);
+    let gone = gone_with(&found.ups, claimed, k.count, resource);
     let told = outcome(
-        judged.sound,
+        found.sound,
         known,
-        Refusal::Unknown,
+        Refusal::Absent,
         listed,
-        Refusal::Unknown,
+        Refusal::Absent,
         keeps,
     );
     strike(k, &sheet, &gone, told)
@@ -253,24 +254,23 @@ pub fn clear_expired(r: Register, caller: u32, moment: u64) -> Struck
     let o = r.resources;
     let k = r.claims;
     let mut sheet = [0u32; columns::SHEET];
-    columns::put_claims(&mut sheet, k);
-    let judged = soundness::judged(a, o, &sheet, k.count);
-    let known = columns::is_among(&judged.actors.names, a.count, caller);
+    let found = soundness::examine(&mut sheet, a, o, k);
+    let known = columns::is_among(&found.actors.names, a.count, caller);
     let human = columns::is_beside(
-        &judged.actors.names,
-        &judged.actors.kinds,
+        &found.actors.names,
+        &found.actors.kinds,
         a.count,
         caller,
         Actor::HUMAN,
     );
     let timely = moment < register::MOMENT_END;
-    let gone = gone_expired(&judged.ups, &sheet, k.count, moment);
+    let gone = gone_expired(&found.ups, &sheet, k.count, moment);
     let told = outcome(
-        judged.sound,
+        found.sound,
         timely,
-        Refusal::OutOfRange,
+        Refusal::Range,
         known,
-        Refusal::Unknown,
+        Refusal::Absent,
         human,
     );
     strike(k, &sheet, &gone, told)

@@ -4,10 +4,10 @@ use Prim.Native.Nat.{ℕ, min}
 use mathlib.Core.Path.{_≡_, refl, ap, _∙_}
 use mathlib.Core.List.{List, [], _∷_, _++_}
 use lib.ListN.{length}
-use Rattle.sheets.specs.Sheets.{put}
-use Rattle.texts.specs.Delivery.{delivered}
-use Rattle.texts.specs.declared.Written.{Written}
-use Rattle.json_actions.specs.Names.{kindNames, flagNames}
+use Rattle.buffers.specs.Buffers.{put}
+use Rattle.buffers.specs.Delivery.{delivered}
+use Rattle.buffers.specs.declared.Written.{Written}
+use Rattle.json_rules.specs.Names.{kindNames, flagNames}
 use Rattle.words.specs.Tables.{tableOf, textAt, table-natural}
 use Rattle.words.specs.Words.{refusalTexts, refusalText, unknownRefusal, violationTexts, violationText, unknownViolation, rightName, unknownRight, flagName, unknownFlag}
 

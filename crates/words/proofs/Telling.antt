@@ -8,17 +8,16 @@ use native.Mathlib.Omega.{arith}
 use borrow.Author.Tests.{leb-true}
 use lib.Dec.{leb}
 use lib.ListN.{length, getD, List·getD-eq-default}
-use Rattle.lists.specs.Lists.{every}
+use Rattle.lists.specs.Lists.{every, same}
 use Rattle.lists.specs.Each.{every-at}
 use Rattle.lists.specs.Tests.{clash}
-use Rattle.paths.specs.Containment.{same}
 use Rattle.refusals.specs.Refusals.{numberOf}
 use Rattle.refusals.specs.declared.Refusal.{Refusal}
-use Rattle.refusals.specs.declared.Refusal.the-variants.{Unsound, OutOfRange, Unknown, IdStands, Full, NotKeeper, Ownerless, MachineBarred, ParentAbsent, ParentNotHeld, ParentDead, NoDelegate, RightLacking, WeightAbove, TooManyHops, Circle, ClaimAbsent, NoGrantor, BadForm, CountAbove, BufferShort, BadJson, BeyondJson}
+use Rattle.refusals.specs.declared.Refusal.the-variants.{Unsound, Range, Absent, Stands, Full, NotKeeper, Ownerless, NotByMachine, NoParent, NotHeld, NotLive, NoDelegate, RightLacking, WeightAbove, TooManyHops, Circle, NoClaim, NoGrantor, Form, Count, Buffer, JsonForm, JsonLacks}
 use Rattle.actions.specs.Actions.{kindOf}
 use Rattle.actions.specs.declared.Violation.{Violation}
 use Rattle.actions.specs.declared.Violation.the-variants.{FlagSet, NoOwner, MachineGoverns, NotCovered, OwnerNotCovering}
-use Rattle.json_actions.specs.Names.{kindNames, flagNames}
+use Rattle.json_rules.specs.Names.{kindNames, flagNames}
 use Rattle.words.specs.Words.{refusalTexts, refusalText, unknownRefusal, violationTexts, violationText, unknownViolation, rightName, unknownRight, flagName, unknownFlag, wordLimit}
 
 -- every text of a table, and the one for all other numbers, is within the limit, and so is the text of each number
@@ -48,28 +47,28 @@ telling t u own other e = clash (same t u) (ap (λ x. same x u) e ∙ own) other
 refusal-said : (why : Refusal) → same (refusalText (numberOf why)) unknownRefusal ≡ false
 unfolding same
 refusal-said Unsound = refl
-refusal-said OutOfRange = refl
-refusal-said Unknown = refl
-refusal-said IdStands = refl
+refusal-said Range = refl
+refusal-said Absent = refl
+refusal-said Stands = refl
 refusal-said Full = refl
 refusal-said NotKeeper = refl
 refusal-said Ownerless = refl
-refusal-said MachineBarred = refl
-refusal-said ParentAbsent = refl
-refusal-said ParentNotHeld = refl
-refusal-said ParentDead = refl
+refusal-said NotByMachine = refl
+refusal-said NoParent = refl
+refusal-said NotHeld = refl
+refusal-said NotLive = refl
 refusal-said NoDelegate = refl
 refusal-said RightLacking = refl
 refusal-said WeightAbove = refl
 refusal-said TooManyHops = refl
 refusal-said Circle = refl
-refusal-said ClaimAbsent = refl
+refusal-said NoClaim = refl
 refusal-said NoGrantor = refl
-refusal-said BadForm = refl
-refusal-said CountAbove = refl
-refusal-said BufferShort = refl
-refusal-said BadJson = refl
-refusal-said BeyondJson = refl
+refusal-said Form = refl
+refusal-said Count = refl
+refusal-said Buffer = refl
+refusal-said JsonForm = refl
+refusal-said JsonLacks = refl
 
 pub refusal-known : (why : Refusal) → refusalText (numberOf why) ≡ unknownRefusal → ⊥
 unfolding same

@@ -3,7 +3,7 @@ use Prim.Native.Nat.{ℕ}
 use mathlib.Core.List.{List, [], _∷_}
 use lib.ListN.{getD}
 use Rattle.lists.specs.Bytes.{bytes}
-use Rattle.json_actions.specs.Names.{kindNames, flagNames}
+use Rattle.json_rules.specs.Names.{kindNames, flagNames}
 
 -- the refusals, in 01's and 02's words: the text at place n is that of number n; 0 is no refusal, and no call refuses with 22 or 23
 abbrev pub unknownRefusal : List ℕ

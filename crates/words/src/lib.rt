@@ -1,13 +1,14 @@
-// Words for the numbers that the calls answer with and take: refusals and kinds of violation in 01's and 02's words, rights and flags by their
-// names in the builder's form. Every number is answered; one that stands for nothing has a text of its own.
+// Words for the numbers of refusals, violations, rights and flags.
+// Refusals and kinds of violation in 01's and 02's words, rights and flags by their names in the
+// builder's form. Every number is answered; one that stands for nothing has a text of its own.
 ghost use mathlib.Core.Path.{_≡_};
 ghost use mathlib.Core.List.{[]};
 ghost use Prim.Native.Nat.{min};
-ghost use Rattle.sheets.specs.Sheets.{put};
-ghost use Rattle.texts.specs.Delivery.{delivered};
+ghost use Rattle.buffers.specs.Buffers.{put};
+ghost use Rattle.buffers.specs.Delivery.{delivered};
 ghost use Rattle.words.specs.Tables.{textAt};
 ghost use Rattle.words.specs.Words.{refusalText, violationText, rightName, flagName};
-use texts::Written;
+use buffers::Written;
 
 // The byte that ends each text of a table.
 const LINE_FEED: u8 = 10;
@@ -50,7 +51,7 @@ fn write_text(buf: &mut [u8], table: &[u8], number: u32, count: usize) -> Writte
     ensures buffer { λ _. ⌜ now (buf .exit) ≡ put 0 (textAt (min number count) [] (now (table .entry))) (now (buf .entry)) ⌝ }
 {
     let place = lists::least(number as usize, count);
-    writing::deliver(buf, text_at(table, place))
+    buffers::deliver(buf, text_at(table, place))
 }
 
 // Writes what a refusal's number says.

@@ -2,7 +2,7 @@
 use borrow.Author.Needs.{needs}
 use borrow.Author.Tests.{not-true, not-false}
 use mathlib.Core.Path.{sym, _∙_}
-use Rattle.reading.specs.Runs.{stands-failed, stands-going}
+use Rattle.register_reading.specs.Runs.{stands-failed, stands-going}
 use Rattle.action_reading.proofs.answer.Statement.{statement}
 use Rattle.action_reading.proofs.answer.Tie as tie
 

@@ -10,10 +10,10 @@ use Rattle.actions.specs.Actions.{noUse, useLimit, governLimit, flagCount}
 use Rattle.actions.specs.declared.Usage.{Usage}
 use Rattle.lines.specs.Reading.{State, going, number, closed, formRefusal}
 use Rattle.lines.specs.Answers.{stateOf}
-use Rattle.texts.specs.Keys.{nowKey, actorKey, flagsKey}
-use Rattle.texts.specs.Actions.{headForms, readUses, readGoverns, actionEnding, actionOf, actionRead}
-use Rattle.texts.specs.declared.ActionRead.{ActionRead}
-use Rattle.reading.specs.Runs.{Run, run-none, run-next, run-start, field-bound}
+use Rattle.text_rules.specs.Keys.{nowKey, actorKey, flagsKey}
+use Rattle.text_rules.specs.Actions.{headForms, readUses, readGoverns, actionEnding, actionOf, actionRead}
+use Rattle.text_rules.specs.declared.ActionRead.{ActionRead}
+use Rattle.register_reading.specs.Runs.{Run, run-none, run-next, run-start, field-bound}
 use borrow.Author.Needs.{needs}
 use Rattle.action_reading.proofs.read_action.Statement.{statement}
 use Rattle.action_reading.proofs.read_action.Tie as tie

@@ -7,10 +7,10 @@ use Rattle.register.specs.Limits.{idLimit}
 use Rattle.actions.specs.Actions.{governLimit}
 use Rattle.lines.specs.Reading.{countRefusal, formRefusal}
 use Rattle.lines.specs.Answers.{stateOf}
-use Rattle.texts.specs.Keys.{governsKey, governKey}
-use Rattle.texts.specs.Actions.{readGovern, readGoverns}
-use Rattle.reading.specs.Runs.{field-bound}
-use Rattle.reading.specs.Filling.{Listing, listing-start, listing-next, listing-done}
+use Rattle.text_rules.specs.Keys.{governsKey, governKey}
+use Rattle.text_rules.specs.Actions.{readGovern, readGoverns}
+use Rattle.register_reading.specs.Runs.{field-bound}
+use Rattle.register_reading.specs.Filling.{Listing, listing-start, listing-next, listing-done}
 use Rattle.action_reading.proofs.read_governs.Statement.{statement}
 use Rattle.action_reading.proofs.read_governs.Tie as tie
 

@@ -8,8 +8,8 @@ use Rattle.rights.specs.Rights.{rightCount}
 use Rattle.register.specs.Limits.{idLimit}
 use Rattle.lines.specs.Reading.{number, formRefusal}
 use Rattle.lines.specs.Answers.{stateOf}
-use Rattle.texts.specs.Keys.{useKey, rightKey}
-use Rattle.reading.specs.Runs.{run-none, run-next, field-bound}
+use Rattle.text_rules.specs.Keys.{useKey, rightKey}
+use Rattle.register_reading.specs.Runs.{run-none, run-next, field-bound}
 use Rattle.action_reading.proofs.read_use.Statement.{statement}
 use Rattle.action_reading.proofs.read_use.Tie as tie
 

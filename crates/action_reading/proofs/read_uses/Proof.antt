@@ -6,10 +6,10 @@ use mathlib.Core.Path.{refl}
 use Rattle.actions.specs.Actions.{noUse, useLimit}
 use Rattle.lines.specs.Reading.{countRefusal}
 use Rattle.lines.specs.Answers.{stateOf}
-use Rattle.texts.specs.Keys.{usesKey}
-use Rattle.texts.specs.Actions.{readUse, readUses}
-use Rattle.reading.specs.Runs.{field-bound}
-use Rattle.reading.specs.Filling.{Listing, listing-start, listing-next, listing-done}
+use Rattle.text_rules.specs.Keys.{usesKey}
+use Rattle.text_rules.specs.Actions.{readUse, readUses}
+use Rattle.register_reading.specs.Runs.{field-bound}
+use Rattle.register_reading.specs.Filling.{Listing, listing-start, listing-next, listing-done}
 use Rattle.action_reading.proofs.read_uses.Statement.{statement}
 use Rattle.action_reading.proofs.read_uses.Tie as tie
 

@@ -7,7 +7,7 @@ use borrow.Author.Needs.{needs}
 use Rattle.lists.specs.Loops.{length-mapped}
 use Rattle.register.specs.Limits.{actorLimit}
 use Rattle.register.specs.Register.{noActor}
-use Rattle.columns.specs.Columns.{actorId, actorKind, ownerOf}
+use Rattle.columns.specs.Columns.{actorId, actorKind, actorOwner}
 use Rattle.columns.proofs.Filling.{Filling, empty, fill, full}
 use Rattle.columns.proofs.actor_columns.Statement.{statement}
 use Rattle.columns.proofs.actor_columns.Tie as tie
@@ -16,7 +16,7 @@ abbrev Inv-loop : tie.InvT-loop
 Inv-loop k top columns₀ i₀ columns i =
     Filling actorId noActor (k .list) top i (columns .names)
     × Filling actorKind noActor (k .list) top i (columns .kinds)
-    × Filling ownerOf noActor (k .list) top i (columns .owners)
+    × Filling actorOwner noActor (k .list) top i (columns .owners)
 
 abbrev μ-loop : tie.MeasureT-loop
 μ-loop k top columns₀ i₀ columns i = top - i

@@ -13,8 +13,8 @@ use Rattle.gate.proofs.judge_by.Statement.{statement}
 use Rattle.gate.proofs.judge_by.Tie as tie
 
 -- the arrays have their lengths, by their types
-reports-few : (s : tie.Start) → length (s .args .t1 .resources .reports) ≤ resourceLimit
-reports-few s = let long : length (s .args .t1 .resources .reports) ≡ resourceLimit = search needs in omega (arith, long)
+reports-few : (s : tie.Start) → length (s .args .t2 .resources .reports) ≤ resourceLimit
+reports-few s = let long : length (s .args .t2 .resources .reports) ≡ resourceLimit = search needs in omega (arith, long)
 
 uses-long : (s : tie.Start) → length (s .args .a .uses) ≡ useLimit
 uses-long s = search (needs, length-mapped)
@@ -23,18 +23,18 @@ returns : tie.Need-returns
 returns c =
     let counting = c .before .before .before .before .before .before in
     let covering = counting .before .before .before .before .before in
-    let relying = covering .before .before .before .before .before .before .before .before .before in
-    let used = relying .before .before .before .before .before .before .before .before .before in
+    let relying = covering .before .before .before .before .before .before .before in
+    let used = relying .before .before .before .before .before .before .before in
     let asked = used .before .before .before .before in
-    let gathered = asked .before .before .before .before .before in
-    let lent = gathered .before .before .before .before in
+    let gathered = asked .before .before in
+    let lent = gathered .before in
     let owning = lent .before .before .before in
     let begun = owning .before .before .before .before .before .before in
-    let s = begun .before .before .before .before .before .before .before .before in
-    judged-lent (lentOf (s .args .t1) (s .args .sheet .now) (s .args .bytes .now)) (s .args .a) (reports-few s) (uses-long s)
+    let s = begun .before .before .before .before .before .before .before .before .before .before in
+    judged-lent (lentOf (s .args .counts) (s .args .t2) (s .args .lens .now) (s .args .ends .now) (s .args .sheet .now) (s .args .bytes .now)) (s .args .a) (reports-few s) (uses-long s)
     (begun .is-beside .ensures) (owning .owner-of .ensures) (lent .before .before .first-violations .ensures)
-    (lent .before .column .ensures) (lent .column2 .ensures) (gathered .gather .ensures) (asked .before .before .before .before .asked-for .ensures)
-    (asked .gather2 .ensures) (used .uses-of .ensures) (relying .relied-on .ensures) (covering .covered-by .ensures)
+    (lent .before .column .ensures) (lent .column2 .ensures) (gathered .gather .ensures) (asked .before .asked-for .ensures)
+    (asked .gather2 .ensures) (used .uses-of .ensures) (relying .relied-on .ensures) (covering .relied-on2 .ensures)
     (counting .hop-counts .ensures) (c .put-faults .ensures)
 
 pub judge-by-spec : {M : Type 1} → statement M

@@ -7,7 +7,7 @@ use borrow.Author.Tests.{lt-ltb, le-ltb}
 use borrow.Author.Needs.{needs}
 use Rattle.columns.specs.Columns.{placesUp}
 use Rattle.columns.specs.Laws.{steps-up-within}
-use Rattle.claims.specs.OverLaws.{circles-places}
+use Rattle.claim_judging.specs.OverLaws.{circles-places}
 use Rattle.granting.proofs.Columns.{near-limit, beyond-limit}
 use Rattle.granting.proofs.Deciding.{too-many-hops, circle, no-circle}
 use Rattle.granting.proofs.chain_outcome.Statement.{statement}

@@ -3,8 +3,8 @@
 use mathlib.Core.Path.{_≡_, sym, _∙_}
 use mathlib.Core.Bool.{true, false}
 use borrow.Author.Tests.{not-true, not-false, lt-ltb, le-ltb}
-use Rattle.rules.specs.Sound.{World, namesStand, rootKept}
-use Rattle.claims.specs.Alone.{worldBy}
+use Rattle.soundness_rules.specs.Sound.{World, namesStand, rootKept}
+use Rattle.claim_judging.specs.Alone.{worldBy}
 use Rattle.granting.proofs.Columns.{names-asked, root-asked}
 use Rattle.granting.proofs.Deciding.{unknown, id-stands, full, not-keeper, no-machine, ownerless, machine-barred, machine-grants}
 use borrow.Author.Needs.{needs}

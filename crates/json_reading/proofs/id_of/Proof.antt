@@ -6,7 +6,7 @@ use mathlib.Core.List.{_++_}
 use native.Mathlib.Omega.{arith}
 use lib.ListN.{length, take, drop, replicate, length-take, length-drop}
 use lib.Seq.{getD-drop}
-use Rattle.json_actions.specs.Members.{idLength}
+use Rattle.json_rules.specs.Members.{idLength}
 use Rattle.json_reading.proofs.Fillings.{filled-next}
 use Rattle.json_reading.proofs.id_of.Statement.{statement}
 use Rattle.json_reading.proofs.id_of.Tie as tie

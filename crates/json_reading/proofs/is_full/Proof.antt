@@ -9,7 +9,7 @@ use borrow.Author.Tests.{not-true, not-false}
 use lib.Dec.{leb}
 use lib.ListN.{getD}
 use Rattle.actions.specs.Actions.{useLimit}
-use Rattle.json_actions.specs.Names.{domainPlace}
+use Rattle.json_rules.specs.Names.{domainPlace}
 use Rattle.json_reading.proofs.Fillings.{draft-full, draft-short}
 use Rattle.json_reading.proofs.is_full.Statement.{statement}
 use Rattle.json_reading.proofs.is_full.Tie as tie

@@ -11,8 +11,8 @@ use lib.ListN.{getD}
 use Rattle.lists.specs.Tests.{and-left, and-right}
 use Rattle.actions.specs.Actions.{useLimit}
 use Rattle.json_tokens.specs.Tokens.{tokens}
-use Rattle.json_actions.specs.Names.{readPlace, writePlace, executePlace}
-use Rattle.json_actions.specs.Members.{membersOf}
+use Rattle.json_rules.specs.Names.{readPlace, writePlace, executePlace}
+use Rattle.json_rules.specs.Members.{membersOf}
 use Rattle.json_reading.specs.Answers.{draftFull}
 use Rattle.json_reading.proofs.Readings.{Admitted, whole-admitted, id-inside, read-made, json-late, json-unadmitted, json-partial, json-whole}
 use Rattle.json_reading.proofs.read_json.Statement.{statement}

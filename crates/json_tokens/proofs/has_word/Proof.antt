@@ -5,7 +5,7 @@ use mathlib.Core.Path.{_≡_, sym}
 use native.Mathlib.Omega.{arith}
 use lib.ListN.{length, take, drop, length-take, length-drop}
 use borrow.Author.Needs.{needs}
-use Rattle.json_tokens.proofs.Walks.{same-lengths}
+use Rattle.lists.specs.Same.{same-lengths}
 use Rattle.json_tokens.proofs.has_word.Statement.{statement}
 use Rattle.json_tokens.proofs.has_word.Tie as tie
 

@@ -13,7 +13,7 @@ use Rattle.lists.specs.Loops.{Loop, start, turn, next, done, length-mapped}
 use Rattle.actions.specs.Actions.{noUse, useLimit, usesOf}
 use Rattle.actions.specs.declared.Usage.{Usage}
 use Rattle.actions.specs.declared.Action.{Action}
-use Rattle.json_actions.specs.Actions.{jsonHolds}
+use Rattle.json_rules.specs.Actions.{jsonHolds}
 use Rattle.json_writing.proofs.has_place.Statement.{statement}
 use Rattle.json_writing.proofs.has_place.Tie as tie
 

@@ -1,7 +1,7 @@
 -- `json_writing::put_flags` meets its contract: the ten flags are written one behind the other (`Flagging`). Assumes nothing.
 use mathlib.Core.Path.{refl}
 use native.Mathlib.Omega.{arith}
-use Rattle.sheets.specs.Laws.{writing-length}
+use Rattle.buffers.specs.Laws.{writing-length}
 use Rattle.json_writing.proofs.Joining.{Flagging, flagging-start, flagging-room, flagging-next, flagging-done}
 use Rattle.json_writing.proofs.put_flags.Statement.{statement}
 use Rattle.json_writing.proofs.put_flags.Tie as tie

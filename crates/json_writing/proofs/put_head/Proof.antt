@@ -5,7 +5,7 @@ use mathlib.Core.List.{_++_}
 use native.Mathlib.Omega.{arith}
 use lib.ListN.{length}
 use Rattle.decimals.specs.Decimals.{digits}
-use Rattle.sheets.specs.Laws.{writing-start, writing-put}
+use Rattle.buffers.specs.Laws.{writing-start, writing-put}
 use Rattle.json_writing.specs.Pieces.{kindText, idLead, actorLead, kindLead, readLead, headText}
 use Rattle.json_writing.proofs.Joining.{put-last}
 use Rattle.json_writing.proofs.put_head.Statement.{statement}

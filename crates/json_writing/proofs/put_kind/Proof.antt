@@ -10,9 +10,9 @@ use lib.ListN.{length, List·getD-eq-default}
 use Rattle.lists.specs.Tests.{cases}
 use Rattle.lists.specs.Splices.{splice-nil}
 use Rattle.rights.specs.Rights.{rightCount}
-use Rattle.sheets.specs.Sheets.{put}
-use Rattle.sheets.specs.Positions.{behind}
-use Rattle.json_actions.specs.Names.{kindNames}
+use Rattle.buffers.specs.Buffers.{put}
+use Rattle.buffers.specs.Positions.{behind}
+use Rattle.json_rules.specs.Names.{kindNames}
 use Rattle.json_writing.specs.Pieces.{kindText}
 use Rattle.json_writing.proofs.put_kind.Statement.{statement}
 use Rattle.json_writing.proofs.put_kind.Tie as tie

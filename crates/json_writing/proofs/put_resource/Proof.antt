@@ -3,7 +3,7 @@
 use mathlib.Core.Path.{refl, _∙_}
 use mathlib.Core.List.{[], _∷_, _++_}
 use Rattle.decimals.specs.Decimals.{digits}
-use Rattle.sheets.specs.Laws.{writing-start, writing-put}
+use Rattle.buffers.specs.Laws.{writing-start, writing-put}
 use Rattle.json_tokens.specs.Tokens.{quote}
 use Rattle.json_writing.specs.Pieces.{openingText, resourceEntry}
 use Rattle.json_writing.proofs.Joining.{put-last}

@@ -7,7 +7,7 @@ use borrow.Author.Needs.{needs}
 use lib.ListN.{length, length-take}
 use Rattle.lists.specs.Loops.{length-mapped}
 use Rattle.actions.specs.Actions.{noUse, useLimit, usesOf}
-use Rattle.sheets.specs.Laws.{writing-start, writing-length}
+use Rattle.buffers.specs.Laws.{writing-start, writing-length}
 use Rattle.json_writing.specs.Pieces.{resourcesText}
 use Rattle.json_writing.proofs.Listing.{Listing, listing-passed, listing-room, listing-next, listing-done}
 use Rattle.json_writing.proofs.put_resources.Statement.{statement}

@@ -5,7 +5,7 @@ use mathlib.Core.Path.{refl, _∙_}
 use mathlib.Core.List.{List, _++_}
 use Rattle.actions.specs.Actions.{usesOf}
 use Rattle.actions.specs.declared.Action.{Action}
-use Rattle.sheets.specs.Laws.{Writing, writing-start, writing-put, writing-next, writing-room, writing-length}
+use Rattle.buffers.specs.Laws.{Writing, writing-start, writing-put, writing-next, writing-room, writing-length}
 use Rattle.json_writing.specs.Pieces.{resourcesText, flagsText, writeLead, executeLead, flagsLead, ending, tailText}
 use Rattle.json_writing.proofs.Joining.{put-last}
 use Rattle.json_writing.proofs.put_tail.Statement.{statement}

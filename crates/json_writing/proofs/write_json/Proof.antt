@@ -9,9 +9,9 @@ use borrow.Author.Needs.{needs}
 use borrow.Author.Tests.{not-true, not-false}
 use lib.ListN.{length, take, replicate, length-replicate}
 use lib.Seq.{length-take-le}
-use Rattle.sheets.specs.Sheets.{put}
-use Rattle.texts.specs.Delivery.{delivered}
-use Rattle.json_actions.specs.Actions.{jsonText, jsonFits, jsonHolds, jsonLimit}
+use Rattle.buffers.specs.Buffers.{put}
+use Rattle.buffers.specs.Delivery.{delivered}
+use Rattle.json_rules.specs.Actions.{jsonText, jsonFits, jsonHolds, jsonLimit}
 use Rattle.json_writing.proofs.Answers.{json-unfit, json-unheld, json-held}
 use Rattle.json_writing.proofs.Composing.{fits-tested, head-room, tail-room, sheet-inside, sheet-front}
 use Rattle.json_writing.proofs.write_json.Statement.{statement}

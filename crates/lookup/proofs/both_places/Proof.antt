@@ -5,8 +5,8 @@ use Prim.Native.Nat.{_-_, min}
 use native.Mathlib.Omega.{arith}
 use lib.ListN.{take, getD}
 use borrow.Author.Needs.{needs}
+use Rattle.lists.specs.Lists.{distinct}
 use Rattle.register.specs.Limits.{claimLimit}
-use Rattle.rules.specs.Sound.{distinct}
 use Rattle.columns.specs.Columns.{latestPlace}
 use Rattle.lookup.specs.Finding.{placeNumber, bothPlaces, placesOf}
 use Rattle.lookup.proofs.Filling.{Filling, empty, fill, full, less, asked-first, asked-second}
@@ -15,13 +15,13 @@ use Rattle.lookup.proofs.both_places.Statement.{statement}
 use Rattle.lookup.proofs.both_places.Tie as tie
 
 abbrev Inv-loop : tie.InvT-loop
-Inv-loop column n wanted other m none below table long top places₀ i₀ places i =
-    Filling (λ j. placeNumber none (latestPlace column (min n claimLimit) (getD wanted j 0))) top none i (places .first)
-    × Filling (λ j. placeNumber none (latestPlace column (min n claimLimit) (getD other j 0))) top none i (places .second)
+Inv-loop column n wanted other m below table long top places₀ i₀ places i =
+    Filling (λ j. placeNumber claimLimit (latestPlace column (min n claimLimit) (getD wanted j 0))) top i (places .first)
+    × Filling (λ j. placeNumber claimLimit (latestPlace column (min n claimLimit) (getD other j 0))) top i (places .second)
     × (places .distinct ≡ table .distinct)
 
 abbrev μ-loop : tie.MeasureT-loop
-μ-loop column n wanted other m none below table long top places₀ i₀ places i = top - i
+μ-loop column n wanted other m below table long top places₀ i₀ places i = top - i
 
 loop-holds : tie.Need-loop-holds Inv-loop μ-loop
 loop-holds c = (empty (omega arith) refl, empty (omega arith) refl, refl)

@@ -5,8 +5,8 @@ use Prim.Native.Nat.{_-_, min}
 use native.Mathlib.Omega.{arith}
 use lib.ListN.{take, getD}
 use borrow.Author.Needs.{needs}
+use Rattle.lists.specs.Lists.{distinct}
 use Rattle.register.specs.Limits.{claimLimit}
-use Rattle.rules.specs.Sound.{distinct}
 use Rattle.columns.specs.Columns.{latestPlace}
 use Rattle.lookup.specs.Finding.{placeNumber, asked, earlierPlaces, earlierFound}
 use Rattle.lookup.proofs.Filling.{Filling, empty, fill, full}
@@ -15,11 +15,11 @@ use Rattle.lookup.proofs.earlier_places.Statement.{statement}
 use Rattle.lookup.proofs.earlier_places.Tie as tie
 
 abbrev Inv-loop : tie.InvT-loop
-Inv-loop column wanted m none top table found₀ i₀ found i =
-    Filling (λ j. placeNumber none (latestPlace column j (getD wanted j 0))) top none i (found .places) × (found .distinct ≡ table .distinct)
+Inv-loop column wanted m top table found₀ i₀ found i =
+    Filling (λ j. placeNumber claimLimit (latestPlace column j (getD wanted j 0))) top i (found .places) × (found .distinct ≡ table .distinct)
 
 abbrev μ-loop : tie.MeasureT-loop
-μ-loop column wanted m none top table found₀ i₀ found i = top - i
+μ-loop column wanted m top table found₀ i₀ found i = top - i
 
 loop-holds : tie.Need-loop-holds Inv-loop μ-loop
 loop-holds c = (empty (omega arith) refl, refl)

@@ -5,8 +5,8 @@ use Prim.Native.Nat.{_-_, min}
 use native.Mathlib.Omega.{arith}
 use lib.ListN.{take, getD}
 use borrow.Author.Needs.{needs}
+use Rattle.lists.specs.Lists.{distinct}
 use Rattle.register.specs.Limits.{claimLimit}
-use Rattle.rules.specs.Sound.{distinct}
 use Rattle.columns.specs.Columns.{latestPlace}
 use Rattle.lookup.specs.Finding.{placeNumber, placesOf, placesFound}
 use Rattle.lookup.proofs.Filling.{Filling, empty, fill, full}
@@ -15,12 +15,12 @@ use Rattle.lookup.proofs.places_of.Statement.{statement}
 use Rattle.lookup.proofs.places_of.Tie as tie
 
 abbrev Inv-loop : tie.InvT-loop
-Inv-loop column n wanted m none below table top found₀ i₀ found i =
-    Filling (λ j. placeNumber none (latestPlace column (min n claimLimit) (getD wanted j 0))) top none i (found .places)
+Inv-loop column n wanted m below table top found₀ i₀ found i =
+    Filling (λ j. placeNumber claimLimit (latestPlace column (min n claimLimit) (getD wanted j 0))) top i (found .places)
     × (found .distinct ≡ table .distinct)
 
 abbrev μ-loop : tie.MeasureT-loop
-μ-loop column n wanted m none below table top found₀ i₀ found i = top - i
+μ-loop column n wanted m below table top found₀ i₀ found i = top - i
 
 loop-holds : tie.Need-loop-holds Inv-loop μ-loop
 loop-holds c = (empty (omega arith) refl, refl)

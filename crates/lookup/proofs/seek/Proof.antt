@@ -3,16 +3,17 @@
 use mathlib.Core.Path.{_≡_, sym, ap}
 use native.Mathlib.Omega.{arith}
 use borrow.Author.Needs.{needs}
+use Rattle.register.specs.Limits.{claimLimit}
 use Rattle.lookup.specs.Finding.{placeNumber}
 use Rattle.lookup.proofs.Seeking.{Seeking, seeking-start, seeking-linked, seeking-hit, seeking-next, seeking-less, seeking-done}
 use Rattle.lookup.proofs.seek.Statement.{statement}
 use Rattle.lookup.proofs.seek.Tie as tie
 
 abbrev Inv-loop : tie.InvT-loop
-Inv-loop heads nexts column below x none link₀ link = Seeking column heads nexts below x link
+Inv-loop heads nexts column below x link₀ link = Seeking column heads nexts below x link
 
 abbrev μ-loop : tie.MeasureT-loop
-μ-loop heads nexts column below x none link₀ link = link
+μ-loop heads nexts column below x link₀ link = link
 
 loop-holds : tie.Need-loop-holds Inv-loop μ-loop
 loop-holds c = rw (c .before .bucket-of .ensures) (seeking-start (c .before .before .before .before .before .pre))
@@ -20,8 +21,7 @@ loop-holds c = rw (c .before .bucket-of .ensures) (seeking-start (c .before .bef
 returns : tie.Need-returns Inv-loop μ-loop
 returns c =
     let turn = c .before .before in
-    let entry = turn .before .before .before .before .before .before .before .args in
-    sym (ap (placeNumber (entry .none)) (seeking-hit (seeking-linked (turn .loop-test .taken) (turn .before .loop .inv)) (c .if1 .taken)))
+    sym (ap (placeNumber claimLimit) (seeking-hit (seeking-linked (turn .loop-test .taken) (turn .before .loop .inv)) (c .if1 .taken)))
 
 loop-less : tie.Need-loop-less Inv-loop μ-loop
 loop-less c =
@@ -35,9 +35,8 @@ loop-again c =
 
 returns-2 : tie.Need-returns-2 Inv-loop μ-loop
 returns-2 c =
-    let entry = c .before .before .before .before .before .before .before .args in
     let none : c .before .loop .link ≡ 0 = omega arith in
-    sym (ap (placeNumber (entry .none)) (seeking-done (rw none at (c .before .loop .inv))))
+    sym (ap (placeNumber claimLimit) (seeking-done (rw none at (c .before .loop .inv))))
 
 pub seek-spec : {M : Type 1} → statement M
 seek-spec =

@@ -5,8 +5,8 @@ use Prim.Native.Nat.{_-_, _≤_, min}
 use native.Mathlib.Omega.{arith}
 use borrow.Author.Needs.{needs}
 use lib.ListN.{length, take}
+use Rattle.lists.specs.Lists.{distinct}
 use Rattle.register.specs.Limits.{claimLimit}
-use Rattle.rules.specs.Sound.{distinct}
 use Rattle.lookup.specs.Tables.{Indexing}
 use Rattle.lookup.proofs.Distinct.{distinct-next, take-within}
 use Rattle.lookup.proofs.Seeking.{indexing-none, indexing-next, sought-all}

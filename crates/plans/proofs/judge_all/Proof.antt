@@ -1,18 +1,21 @@
 -- `plans::judge_all` meets its contract. The loop's invariant: the verdicts on the actions passed are in their places, and those left follow
 -- (Judging). The measure is the number of actions left. Assumes nothing.
+use mathlib.Core.Path.{ap, _∙_}
 use Prim.Native.Nat.{_-_}
 use Rattle.lists.specs.Loops.{length-mapped}
 use Rattle.gate.specs.Judged.{lentOf}
+use Rattle.plans.specs.Judgements.{judgedAs}
 use Rattle.plans.proofs.Judging.{Judging, judging-start, judging-next, judging-done}
 use borrow.Author.Needs.{needs}
 use Rattle.plans.proofs.judge_all.Statement.{statement}
 use Rattle.plans.proofs.judge_all.Tie as tie
 
 abbrev Inv-loop : tie.InvT-loop
-Inv-loop v sheet bytes p top list₀ flagged₀ i₀ list flagged i = Judging (lentOf v sheet bytes) p top list flagged i
+Inv-loop counts found lens ends sheet bytes p top list₀ flagged₀ i₀ list flagged i =
+    Judging (lentOf counts found lens ends sheet bytes) p top list flagged i
 
 abbrev μ-loop : tie.MeasureT-loop
-μ-loop v sheet bytes p top list₀ flagged₀ i₀ list flagged i = top - i
+μ-loop counts found lens ends sheet bytes p top list₀ flagged₀ i₀ list flagged i = top - i
 
 loop-holds : tie.Need-loop-holds Inv-loop μ-loop
 loop-holds c = judging-start (search (needs, length-mapped)) (c .least .ensures)
@@ -20,7 +23,13 @@ loop-holds c = judging-start (search (needs, length-mapped)) (c .least .ensures)
 loop-again : tie.Need-loop-again Inv-loop μ-loop
 loop-again c =
     let turn = c .before .before .before in
-    judging-next (turn .before .loop .inv) _ (turn .loop-test .taken) (c .before .judge .ensures)
+    judging-next (turn .before .loop .inv) _ (turn .loop-test .taken) (rw (c .if1 .taken))
+
+loop-again-2 : tie.Need-loop-again-2 Inv-loop μ-loop
+loop-again-2 c =
+    let turn = c .before .before .before .before .before in
+    judging-next (turn .before .loop .inv) _ (turn .loop-test .taken)
+    (rw (c .before .before .if1 .left) (c .verdict-by .ensures ∙ ap (λ y. judgedAs (y .violations .count)) (c .before .judge-by .ensures)))
 
 returns : tie.Need-returns Inv-loop μ-loop
 returns c = judging-done (c .before .loop .inv) (c .loop-test .left)
@@ -35,10 +44,16 @@ judge-all-spec =
     loop-holds
     (λ c. search needs)
     (λ c. search needs)
-    (λ c κs. search needs)
     (λ c. search needs)
     (λ c. search needs)
     (λ c. search needs)
     (λ c. search needs)
     loop-again
+    (λ c κs. search needs)
+    (λ c κs. search needs)
+    (λ c. search needs)
+    (λ c. search needs)
+    (λ c. search needs)
+    (λ c. search needs)
+    loop-again-2
     returns)

@@ -9,7 +9,7 @@ use Rattle.register.specs.Limits.{actorLimit, resourceLimit, claimLimit, pathLi
 use Rattle.register.specs.Register.{Shaped}
 use Rattle.coverage.specs.LaidLaws.{laid-zeros}
 use Rattle.gate.specs.Sheets.{sheeted}
-use Rattle.gate.specs.Laws.{known-sound, view-told}
+use Rattle.gate.specs.Laws.{found-sound, lent-told}
 use Rattle.plans.proofs.Stopping.{stop-unsound, stop-many, stop-found, found-runs, found-halts}
 use Rattle.plans.proofs.Judging.{planned-lent, planned-sheeted}
 use borrow.Author.Needs.{needs}
@@ -31,72 +31,62 @@ shaped s sized = record { actors = actors-long s; resources = resources-long s; 
 
 returns : tie.Need-returns
 returns c =
-    let asked = c .before .before .before in
-    let filled = asked .before .before .before in
-    let s = filled .before .before .before .before .before in
+    let opened = c .before .before .before in
+    let s = opened .before .before .before .before .before in
     let a = s .args in
-    let soundly = known-sound (a .r) (claims-long s) (filled .put-claims .ensures) (asked .judged .ensures) in
-    c .stopped .ensures ∙ stop-unsound (sheeted (a .r)) (a .p) (sym soundly ∙ not-true (asked .judged .result .sound) (c .before .if1 .taken))
+    let found = opened .examine .ensures in
+    let soundly = found-sound (a .r) (claims-long s) (found .0) (found .1) in
+    c .stopped .ensures ∙ stop-unsound (sheeted (a .r)) (a .p) (sym soundly ∙ not-true (opened .examine .result .sound) (c .before .if1 .taken))
     ∙ planned-sheeted (a .r) (claims-long s) (a .p)
 
 returns-2 : tie.Need-returns-2
 returns-2 c =
-    let asked = c .before .before .before .before .before in
-    let filled = asked .before .before .before in
-    let s = filled .before .before .before .before .before in
+    let opened = c .before .before .before .before .before in
+    let s = opened .before .before .before .before .before in
     let a = s .args in
-    let soundly = known-sound (a .r) (claims-long s) (filled .put-claims .ensures) (asked .judged .ensures) in
+    let found = opened .examine .ensures in
+    let soundly = found-sound (a .r) (claims-long s) (found .0) (found .1) in
     c .stopped2 .ensures
-    ∙ stop-many (sheeted (a .r)) (a .p) (sym soundly ∙ not-false (asked .judged .result .sound) (c .before .before .before .if1 .left)) (c .before .if2 .taken)
+    ∙ stop-many (sheeted (a .r)) (a .p) (sym soundly ∙ not-false (opened .examine .result .sound) (c .before .before .before .if1 .left)) (c .before .if2 .taken)
     ∙ planned-sheeted (a .r) (claims-long s) (a .p)
-
-slice-aggregate-judge-all : tie.Need-slice-aggregate-judge-all
--- the sheet is as long as it was made, and filling it keeps that
-slice-aggregate-judge-all c =
-    let filled = c .before .before .before .before .before .before .before .before .before .before .before .before .before .before .before .before .before .before in
-    search (needs, filled .sheet2 .given, filled .before .put-claims)
 
 returns-3 : tie.Need-returns-3
 returns-3 c =
-    let found = c .before .before .before .before in
-    let looking = found .before .before .before .before in
-    let laying = looking .before .before .before in
-    let asked = laying .before .before .before .before .before .before in
-    let filled = asked .before .before .before in
-    let s = filled .before .before .before .before .before in
+    let stopping = c .before .before .before .before in
+    let ending = stopping .before .before .before .before in
+    let laying = ending .before .before .before .before .before .before in
+    let opened = laying .before .before .before .before .before .before in
+    let s = opened .before .before .before .before .before in
     let a = s .args in
-    let put = filled .put-claims .ensures in
-    let h = sym (known-sound (a .r) (claims-long s) put (asked .judged .ensures)) ∙ not-false (asked .judged .result .sound) (laying .before .before .before .before .if1 .left) in
+    let found = opened .examine .ensures in
+    let h = sym (found-sound (a .r) (claims-long s) (found .0) (found .1)) ∙ not-false (opened .examine .result .sound) (laying .before .before .before .before .if1 .left) in
     let paths = laid-zeros (a .r .resources) (laying .lay .ensures .0) (laying .lay .ensures .1 .0) in
-    let seen = view-told (a .r) (claims-long s) put (asked .judged .ensures) (paths .1) (looking .view-of .ensures) in
-    let same = stop-found (a .r) (a .p) h (laying .before .before .if2 .left) seen (found .first-stop .ensures) in
-    c .stopped3 .ensures ∙ found-halts (sheeted (a .r)) (a .p) same (c .before .before .outcome .given .0 .0) (c .before .before .outcome .given .1)
+    let same = lent-told (a .r) (claims-long s) (found .0) (found .1) (paths .1) (ending .claim-ends .ensures) (paths .0) in
+    let stop = stop-found (a .r) (a .p) h (laying .before .before .if2 .left) same (stopping .first-stop .ensures) in
+    c .stopped3 .ensures ∙ found-halts (sheeted (a .r)) (a .p) stop (c .before .before .outcome .given .0 .0) (c .before .before .outcome .given .1)
     ∙ planned-sheeted (a .r) (claims-long s) (a .p)
 
 returns-4 : tie.Need-returns-4
 returns-4 c =
-    let found = c .before .before .before .before .before in
-    let looking = found .before .before .before .before in
-    let laying = looking .before .before .before in
-    let asked = laying .before .before .before .before .before .before in
-    let filled = asked .before .before .before in
-    let s = filled .before .before .before .before .before in
+    let stopping = c .before .before .before .before .before .before .before in
+    let ending = stopping .before .before .before .before in
+    let laying = ending .before .before .before .before .before .before in
+    let opened = laying .before .before .before .before .before .before in
+    let s = opened .before .before .before .before .before in
     let a = s .args in
-    let put = filled .put-claims .ensures in
-    let h = sym (known-sound (a .r) (claims-long s) put (asked .judged .ensures)) ∙ not-false (asked .judged .result .sound) (laying .before .before .before .before .if1 .left) in
+    let found = opened .examine .ensures in
+    let h = sym (found-sound (a .r) (claims-long s) (found .0) (found .1)) ∙ not-false (opened .examine .result .sound) (laying .before .before .before .before .if1 .left) in
     let paths = laid-zeros (a .r .resources) (laying .lay .ensures .0) (laying .lay .ensures .1 .0) in
-    let seen = view-told (a .r) (claims-long s) put (asked .judged .ensures) (paths .1) (looking .view-of .ensures) in
-    let same = stop-found (a .r) (a .p) h (laying .before .before .if2 .left) seen (found .first-stop .ensures) in
-    planned-lent (a .r) (a .p) (shaped s (laying .lay .ensures .1 .1)) (found-runs (sheeted (a .r)) (a .p) same (c .before .before .before .enum-told .given .1))
-    seen put (paths .0) (c .judge-all .ensures)
+    let same = lent-told (a .r) (claims-long s) (found .0) (found .1) (paths .1) (ending .claim-ends .ensures) (paths .0) in
+    let stop = stop-found (a .r) (a .p) h (laying .before .before .if2 .left) same (stopping .first-stop .ensures) in
+    planned-lent (a .r) (a .p) (shaped s (laying .lay .ensures .1 .1)) (found-runs (sheeted (a .r)) (a .p) stop (c .before .before .before .before .before .enum-told .given .1))
+    same (c .judge-all .ensures)
     ∙ planned-sheeted (a .r) (claims-long s) (a .p)
 
 pub plan-spec : {M : Type 1} → statement M
 plan-spec =
     tie.close
     (tie.spec
-    (λ c. search needs)
-    (λ c κs. search needs)
     (λ c. search needs)
     (λ c κs. search needs)
     (λ c κs. search needs)
@@ -111,7 +101,9 @@ plan-spec =
     (λ c. search needs)
     (λ c κs. search needs)
     (λ c. search needs)
-    slice-aggregate-judge-all
+    (λ c. search needs)
+    (λ c. search needs)
+    (λ c. search needs)
     (λ c. search needs)
     (λ c κs. search needs)
     returns-3

@@ -1,7 +1,7 @@
 -- `portal::guvrendik_clear_resource` meets its contract: the answer to what a withdrawal leaves is the withdrawal's (`withdrawn-natural`). Assumes nothing.
 use mathlib.Core.Path.{ap, _∙_}
 use borrow.Author.Needs.{needs}
-use Rattle.changes.specs.Changes.{clearResource}
+use Rattle.change_rules.specs.Changes.{clearResource}
 use Rattle.answers.specs.Laws.{withdrawnAnswer, withdrawn-natural}
 use Rattle.portal.proofs.guvrendik_clear_resource.Statement.{statement}
 use Rattle.portal.proofs.guvrendik_clear_resource.Tie as tie

@@ -1,7 +1,7 @@
 -- `portal::guvrendik_revoke` meets its contract: the answer to what a withdrawal leaves is the withdrawal's (`withdrawn-natural`). Assumes nothing.
 use mathlib.Core.Path.{ap, _∙_}
 use borrow.Author.Needs.{needs}
-use Rattle.changes.specs.Changes.{revoke}
+use Rattle.change_rules.specs.Changes.{revoke}
 use Rattle.answers.specs.Laws.{withdrawnAnswer, withdrawn-natural}
 use Rattle.portal.proofs.guvrendik_revoke.Statement.{statement}
 use Rattle.portal.proofs.guvrendik_revoke.Tie as tie

@@ -5,10 +5,10 @@ use Prim.Native.Nat.{_-_, min}
 use native.Mathlib.Omega.{arith}
 use mir.Facts.{fits-below, fits-widen}
 use lib.ListN.{take}
+use Rattle.lists.specs.Lists.{distinct}
 use Rattle.register.specs.Limits.{claimLimit}
 use Rattle.columns.specs.Sheet.{claimAt}
-use Rattle.rules.specs.Sound.{distinct}
-use Rattle.claims.specs.Alone.{aloneAt}
+use Rattle.claim_judging.specs.Alone.{aloneAt}
 use Rattle.soundness.specs.Judged.{foundAt}
 use Rattle.soundness.proofs.Judging.{Asked, asked-none, asked-next, asked-done, ids-told, alone-told}
 use borrow.Author.Needs.{needs}

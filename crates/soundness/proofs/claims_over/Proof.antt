@@ -11,7 +11,7 @@ use Rattle.register.specs.Limits.{hopLimit}
 use Rattle.register.specs.Register.{noClaim}
 use Rattle.register.specs.Chain.{latest}
 use Rattle.columns.specs.Sheet.{claimsIn}
-use Rattle.claims.specs.Over.{overAt, standOver}
+use Rattle.claim_judging.specs.Over.{overAt, standOver}
 use Rattle.soundness.proofs.Climbing.{Tables, Climbed, sheet-tables, climbed-none, parent-read, over-read, root-passed, parent-failed, parent-low, over-failed, over-passed, steps-below}
 use Rattle.soundness.proofs.claims_over.Statement.{statement}
 use Rattle.soundness.proofs.claims_over.Tie as tie

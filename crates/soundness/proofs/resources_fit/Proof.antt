@@ -38,7 +38,6 @@ resources-fit-spec =
     Inv-loop
     μ-loop
     (λ c κs. search needs)
-    (λ c. search needs)
     (λ c κs. search needs)
     loop-holds
     (λ c. search needs)

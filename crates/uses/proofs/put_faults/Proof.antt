@@ -5,7 +5,7 @@ use Prim.Native.Nat.{_-_}
 use native.Mathlib.Omega.{arith}
 use mir.Facts.{fits-widen}
 use borrow.Author.Needs.{needs}
-use Rattle.uses.proofs.Pushing.{place-left, stored, kept}
+use Rattle.violations.specs.Pushing.{place-left, pushing-stored, pushing-kept}
 use Rattle.uses.specs.Passes.{faultTold}
 use Rattle.uses.proofs.Faulting.{coveredTo, faulty, Faulting, faulting-start, faulting-next, faulting-end}
 use Rattle.uses.proofs.put_faults.Statement.{statement}
@@ -71,7 +71,7 @@ loop-again c =
     let here = faulty freely (a .relied .now) (a .theirs .now) (a .owned) (loop .position) in
     let covered = coveredTo freely (a .relied .now) (loop .position) in
     faulting-next (loop .inv) freely (turn .loop-test .taken) (c .before .before .before .before .is-open .ensures)
-    (rw (c .fault-told .ensures) (stored here (faultTold covered (loop .position)) (loop .vs) (c .before .if1 .taken)))
+    (rw (c .fault-told .ensures) (pushing-stored here (faultTold covered (loop .position)) (loop .vs) (c .before .if1 .taken)))
 
 -- one without, or no place
 loop-again-2 : tie.Need-loop-again-2 Inv-loop μ-loop
@@ -83,7 +83,7 @@ loop-again-2 c =
     let here = faulty freely (a .relied .now) (a .theirs .now) (a .owned) (loop .position) in
     let covered = coveredTo freely (a .relied .now) (loop .position) in
     faulting-next (loop .inv) freely (turn .loop-test .taken) (c .before .before .before .is-open .ensures)
-    (kept here (faultTold covered (loop .position)) (loop .vs) (c .if1 .left))
+    (pushing-kept here (faultTold covered (loop .position)) (loop .vs) (c .if1 .left))
 
 returns : tie.Need-returns Inv-loop μ-loop
 returns c =

@@ -6,12 +6,11 @@ use borrow.Author.Needs.{needs}
 use lib.ListN.{length, getD}
 use Rattle.lists.specs.Loops.{length-mapped}
 use Rattle.register.specs.Limits.{claimLimit}
-use Rattle.columns.specs.Sheet.{columnOf}
-use Rattle.soundness.specs.Laws.{judged-sound, judged-ups, judged-actors, judged-resources}
-use Rattle.changes.specs.Changes.{clearResource}
+use Rattle.soundness.specs.Laws.{examined}
+use Rattle.change_rules.specs.Changes.{clearResource}
 use Rattle.withdrawing.specs.Struck.{goneBy}
 use Rattle.withdrawing.proofs.Laws.{struck-told}
-use Rattle.withdrawing.proofs.Clearing.{known-told, listed-told, keeps-told, resource-asked}
+use Rattle.withdrawing.proofs.Clearing.{resource-told}
 use Rattle.withdrawing.proofs.clear_resource.Statement.{statement}
 use Rattle.withdrawing.proofs.clear_resource.Tie as tie
 
@@ -25,32 +24,22 @@ returns c =
     let keeps = looked .before .before in
     let listed = keeps .before .before .before .before .before .before in
     let known = listed .before .before .before .before in
-    let judged = known .before .before .before .before in
-    let put = judged .before .before .before in
-    let entry = put .before .before .before .before .before in
+    let asked = known .before .before .before .before .before in
+    let entry = asked .before .before .before .before .before in
     let r = entry .args .r in
     let given = entry .args in
-    let filled = put .put-claims .ensures in
-    let told = judged .judged .ensures in
-    let ups = judged-ups r (places entry) filled told in
-    let actors = judged-actors r (places entry) filled told in
-    let resources = judged-resources r (places entry) filled told in
-    struck-told r (places entry) (clearResource (given .caller) (given .resource)) filled ups
+    let opened = examined r (asked .examine .ensures) in
+    struck-told r (places entry) (clearResource (given .caller) (given .resource)) opened
     (c .before .before .before .before .gone-with .ensures
-    ∙ ap (λ l. goneBy (λ j. eqb (getD l j 0) (given .resource)) (judged .judged .result .ups) (r .claims .count)) (looked .column .ensures ∙ ap (columnOf 4) filled))
+    ∙ ap (λ l. goneBy (λ j. eqb (getD l j 0) (given .resource)) (asked .examine .result .ups) (r .claims .count)) (looked .column .ensures))
     (c .before .before .before .outcome .ensures
-    ∙ resource-asked r (given .caller) (judged-sound r (places entry) filled told)
-    (known-told r actors resources (given .caller) (known .is-among .ensures)) (given .resource)
-    (listed-told r actors resources (given .resource) (listed .is-among2 .ensures))
-    (keeps-told r actors resources (given .caller) (given .resource) (keeps .is-beside .ensures)))
+    ∙ resource-told r opened (given .caller) (known .is-among .ensures) (places entry) (given .resource) (listed .is-among2 .ensures) (keeps .is-beside .ensures))
     (c .strike .ensures)
 
 pub clear-resource-spec : {M : Type 1} → statement M
 clear-resource-spec =
     tie.close
     (tie.spec
-    (λ c. search needs)
-    (λ c κs. search needs)
     (λ c. search needs)
     (λ c κs. search needs)
     (λ c κs. search needs)

@@ -1,4 +1,4 @@
--- `withdrawing::revoke` meets its contract: what the sheet and the actors' columns are asked is what the tests ask of the register (Asking, Clearing), what
+-- `withdrawing::revoke` meets its contract: what the sheet and the actors' columns are asked is what the tests ask of the register (Asking), what
 -- is told to go is what the revocation names with all that is drawn from it, so what is struck is what the withdrawal leaves (`struck-told`). Assumes nothing.
 use mathlib.Core.Path.{_≡_, ap, _∙_}
 use borrow.Author.Needs.{needs}
@@ -6,13 +6,11 @@ use lib.Dec.{eqb}
 use lib.ListN.{length, getD}
 use Rattle.lists.specs.Loops.{length-mapped}
 use Rattle.register.specs.Limits.{claimLimit}
-use Rattle.columns.specs.Sheet.{columnOf}
-use Rattle.soundness.specs.Laws.{judged-sound, judged-ups, judged-actors, judged-resources}
-use Rattle.changes.specs.Changes.{revoke}
+use Rattle.soundness.specs.Laws.{examined}
+use Rattle.change_rules.specs.Changes.{revoke}
 use Rattle.withdrawing.specs.Struck.{goneBy}
 use Rattle.withdrawing.proofs.Laws.{struck-told}
 use Rattle.withdrawing.proofs.Asking.{revoke-told}
-use Rattle.withdrawing.proofs.Clearing.{known-told}
 use Rattle.withdrawing.proofs.revoke.Statement.{statement}
 use Rattle.withdrawing.proofs.revoke.Tie as tie
 
@@ -25,23 +23,17 @@ returns c =
     let looked = c .before .before .before .before .before .before .before .before .before .before .before .before in
     let stands = looked .before .before in
     let known = stands .before .before .before in
-    let judged = known .before .before .before .before in
-    let put = judged .before .before .before in
-    let entry = put .before .before .before .before .before in
+    let asked = known .before .before .before .before .before in
+    let entry = asked .before .before .before .before .before in
     let r = entry .args .r in
     let given = entry .args in
-    let filled = put .put-claims .ensures in
-    let told = judged .judged .ensures in
-    let ups = judged-ups r (places entry) filled told in
-    let actors = judged-actors r (places entry) filled told in
-    let resources = judged-resources r (places entry) filled told in
+    let opened = examined r (asked .examine .ensures) in
     let ids = stands .before .column .ensures in
-    struck-told r (places entry) (revoke (given .who) (given .x)) filled ups
+    struck-told r (places entry) (revoke (given .who) (given .x)) opened
     (c .before .before .before .before .gone-with .ensures
-    ∙ ap (λ l. goneBy (λ j. eqb (getD l j 0) (given .x)) (judged .judged .result .ups) (r .claims .count)) (ids ∙ ap (columnOf 0) filled))
+    ∙ ap (λ l. goneBy (λ j. eqb (getD l j 0) (given .x)) (asked .examine .result .ups) (r .claims .count)) ids)
     (c .before .before .before .outcome .ensures
-    ∙ revoke-told r (places entry) (given .who) (given .x) filled ups (judged-sound r (places entry) filled told)
-    (known-told r actors resources (given .who) (known .is-among .ensures)) ids (stands .is-among2 .ensures) (looked .column2 .ensures)
+    ∙ revoke-told r (places entry) (given .who) (given .x) opened (known .is-among .ensures) ids (stands .is-among2 .ensures) (looked .column2 .ensures)
     (c .before .before .before .before .before .before .before .before .grants-on .ensures))
     (c .strike .ensures)
 
@@ -49,8 +41,6 @@ pub revoke-spec : {M : Type 1} → statement M
 revoke-spec =
     tie.close
     (tie.spec
-    (λ c. search needs)
-    (λ c κs. search needs)
     (λ c. search needs)
     (λ c κs. search needs)
     (λ c κs. search needs)

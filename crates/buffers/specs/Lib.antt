@@ -1,0 +1,4 @@
+pub mod Buffers
+pub mod Positions
+pub mod Delivery
+pub mod Laws

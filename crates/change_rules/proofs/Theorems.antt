@@ -1,0 +1,22 @@
+-- What is proved of a grant's answer `granted` and a withdrawal's `withdrawn`. What any calls of them come to is in the crate `history`.
+-- Assumes nothing.
+use mathlib.Core.Path.{_≡_}
+use Prim.Native.Nat.{ℕ}
+use lib.ListN.{length}
+use Rattle.register.specs.Register.{Same}
+use Rattle.register.specs.declared.Claim.{Claim}
+use Rattle.register.specs.declared.Register.{Register}
+use Rattle.change_rules.specs.Changes.{granted, Withdrawal, withdrawn}
+use Rattle.change_rules.proofs.Sameness as sameness
+
+-- 1a. Registers that are the same get the same outcome of a grant and the same registers back. Their arrays of claims have as many places as each
+-- other, as those of all registers of the program have by their type.
+pub granted-same : (r s : Register) → Same r s → length (r .claims .list) ≡ length (s .claims .list) → (c : Claim) (moment : ℕ)
+    → (granted r c moment .outcome ≡ granted s c moment .outcome) × Same (granted r c moment .register) (granted s c moment .register)
+granted-same = sameness.granted-same
+
+-- 1b. Registers that are the same get the same outcome of a withdrawal, the same number of claims that went and the same registers back.
+pub withdrawn-same : (r s : Register) → Same r s → (w : Withdrawal)
+    → (withdrawn r w .outcome ≡ withdrawn s w .outcome) × (withdrawn r w .removed ≡ withdrawn s w .removed)
+    × Same (withdrawn r w .register) (withdrawn s w .register)
+withdrawn-same = sameness.withdrawn-same

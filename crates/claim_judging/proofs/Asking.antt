@@ -1,0 +1,89 @@
+-- The rules of a claim by itself, as the code asks them: each from what the tests found. Assumes nothing.
+use mathlib.Core.Path.{_≡_, sym, _∙_}
+use mathlib.Core.Bool.{Bool, true, not, _&&_, _||_, and-true, and-assoc}
+use mathlib.Core.List.{List, [], _∷_}
+use lib.Dec.{eqb, leb, ltb}
+use borrow.Author.Tests.{eq-eqb, ne-eqb}
+use Rattle.lists.specs.Lists.{ands}
+use Rattle.rights.specs.Rights.{isRights, barsMachine}
+use Rattle.register.specs.Limits.{claimLimit, idLimit, weightLimit, momentEnd, machineKind, isId}
+use Rattle.register.specs.declared.Claim.{Claim}
+use Rattle.soundness_rules.specs.Sound.{World, claimFits, namesStand, rootKept}
+use Rattle.claim_judging.specs.Alone.{Found, aloneAt}
+
+-- some tests joined from the left
+abbrev joined : Bool → List Bool → Bool
+joined a [] = a
+joined a (b ∷ l) = joined (a && b) l
+
+-- they are all of the tests
+joined-ands : (a : Bool) (l : List Bool) → joined a l ≡ ands (a ∷ l)
+joined-ands a [] = sym (and-true a)
+joined-ands a (b ∷ l) = joined-ands (a && b) l ∙ and-assoc a b (ands l)
+
+module _ (c : Claim) where
+  pub claim-asked : {own grantor holder resource rights : Bool}
+      → own ≡ isId (c .id)
+      → grantor ≡ isId (c .grantor)
+      → holder ≡ isId (c .holder)
+      → resource ≡ isId (c .resource)
+      → rights ≡ isRights (c .rights)
+      → own && leb (c .parent) idLimit && grantor && holder && resource && rights && leb (c .weight) weightLimit && ltb (c .expiry) momentEnd
+      ≡ claimFits c
+  unfolding claimFits
+  claim-asked o g h s r =
+      rw (o, g, h, s, r)
+      (joined-ands
+      (isId (c .id))
+      (leb (c .parent) idLimit
+      ∷ isId (c .grantor)
+      ∷ isId (c .holder)
+      ∷ isId (c .resource)
+      ∷ isRights (c .rights)
+      ∷ leb (c .weight) weightLimit
+      ∷ ltb (c .expiry) momentEnd
+      ∷ []))
+
+module _ (w : World) (c : Claim) where
+  pub names-asked : {grantor holder resource : Bool}
+      → grantor ≡ w .known (c .grantor)
+      → holder ≡ w .known (c .holder)
+      → resource ≡ w .listed (c .resource)
+      → grantor && holder && resource ≡ namesStand w c
+  unfolding namesStand
+  names-asked g h s =
+      rw (g, h, s) (joined-ands (w .known (c .grantor)) (w .known (c .holder) ∷ w .listed (c .resource) ∷ []))
+
+  -- a claim with a parent is no root
+  pub root-none : (c .parent ≡ 0 → ⊥) → true ≡ rootKept w c
+  unfolding rootKept
+  root-none h = rw (ne-eqb (c .parent) 0 h)
+
+  -- a root's grantor is asked for as the keeper
+  pub root-asked : {kept : Bool} → c .parent ≡ 0 → kept ≡ w .keeps (c .grantor) (c .resource) → kept ≡ rootKept w c
+  unfolding rootKept
+  root-asked h q = rw (eq-eqb (c .parent) 0 h) q
+
+-- a claim by what was looked up of it
+module _ (c : Claim) (f : Found) where
+  pub alone-asked : {fit barred : Bool}
+      → fit ≡ claimFits c
+      → barred ≡ barsMachine (c .rights)
+      → fit
+      && ltb (f .grantor) claimLimit
+      && ltb (f .holder) claimLimit
+      && ltb (f .report) claimLimit
+      && (not (eqb (c .parent) 0) || eqb (c .grantor) (f .keeper))
+      && (not (eqb machineKind (f .kind)) || (not (eqb 0 (f .owner)) && not barred))
+      ≡ aloneAt c f
+  unfolding aloneAt
+  alone-asked t b =
+      rw (t, b)
+      (joined-ands
+      (claimFits c)
+      (ltb (f .grantor) claimLimit
+      ∷ ltb (f .holder) claimLimit
+      ∷ ltb (f .report) claimLimit
+      ∷ (not (eqb (c .parent) 0) || eqb (c .grantor) (f .keeper))
+      ∷ (not (eqb machineKind (f .kind)) || (not (eqb 0 (f .owner)) && not (barsMachine (c .rights))))
+      ∷ []))

@@ -1,0 +1,13 @@
+-- `plans::verdict_by` meets its contract (`judged-none`, `judged-some`). Assumes nothing.
+use Rattle.plans.proofs.Judging.{judged-none, judged-some}
+use Rattle.plans.proofs.verdict_by.Statement.{statement}
+use Rattle.plans.proofs.verdict_by.Tie as tie
+
+returns : tie.Need-returns
+returns c = judged-none (c .before .args .count) (c .if1 .taken)
+
+returns-2 : tie.Need-returns-2
+returns-2 c = judged-some (c .before .args .count) (c .if1 .left)
+
+pub verdict-by-spec : {M : Type 1} → statement M
+verdict-by-spec = tie.close (tie.spec returns returns-2)

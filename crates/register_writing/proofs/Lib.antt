@@ -1,0 +1,3 @@
+pub mod Lining
+pub mod Cases
+pub mod Laws

@@ -1,1 +1,0 @@
-// When a register is sound, rule by rule: definitions and laws, in specs/. Nothing to run.

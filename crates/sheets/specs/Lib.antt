@@ -1,3 +1,0 @@
-pub mod Sheets
-pub mod Positions
-pub mod Laws

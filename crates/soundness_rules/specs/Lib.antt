@@ -1,0 +1,9 @@
+pub mod Sound
+pub mod Struck
+pub mod Roots
+pub mod Laws
+pub mod Registers
+pub mod Places
+pub mod Chains
+pub mod Striking
+pub mod Sameness

@@ -1,0 +1,7 @@
+pub mod Keys
+pub mod Records
+pub mod Registers
+pub mod Actions
+pub mod Laws
+pub mod Fitting
+pub mod Lengths

@@ -1,8 +1,0 @@
-pub mod Keys
-pub mod Records
-pub mod Registers
-pub mod Actions
-pub mod Laws
-pub mod Fitting
-pub mod Lengths
-pub mod Delivery

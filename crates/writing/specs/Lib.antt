@@ -1,4 +1,0 @@
-pub mod Writing
-pub mod Lengths
-pub mod Laws
-pub mod Sections
