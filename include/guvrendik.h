@@ -105,8 +105,7 @@ extern "C" {
 /* The numbers that a call refuses with. guvrendik_refusal_text has words for them. */
 #define GUVRENDIK_UNSOUND 1         /* register not sound */
 #define GUVRENDIK_RANGE 2           /* field or count of the call out of range */
-#define GUVRENDIK_ABSENT 3          /* grantor, holder, granted or cleared resource, revoker, clearing caller or acting actor not in the
-                                     * register */
+#define GUVRENDIK_ABSENT 3          /* grantor, holder, resource, revoker, caller or acting actor not in the register */
 #define GUVRENDIK_STANDS 4          /* claim id already stands */
 #define GUVRENDIK_FULL 5            /* 256 claims stand */
 #define GUVRENDIK_NOT_KEEPER 6      /* root grant by anyone but the keeper */
@@ -114,15 +113,14 @@ extern "C" {
 #define GUVRENDIK_NOT_BY_MACHINE 8  /* grantor is a machine and right 13, 15 or 16 is asked */
 #define GUVRENDIK_NO_PARENT 9       /* parent does not stand */
 #define GUVRENDIK_NOT_HELD 10       /* parent not held by the grantor, or on another resource */
-#define GUVRENDIK_NOT_LIVE 11       /* parent not live at the moment: it, or a claim that it is drawn from */
+#define GUVRENDIK_NOT_LIVE 11       /* parent, or a claim above it, not live at the moment */
 #define GUVRENDIK_NO_DELEGATE 12    /* parent lacks DELEGATE */
 #define GUVRENDIK_RIGHT_LACKING 13  /* a right the parent lacks */
 #define GUVRENDIK_WEIGHT_ABOVE 14   /* weight above the parent's */
 #define GUVRENDIK_TOO_MANY_HOPS 15  /* more than 16 hops */
-#define GUVRENDIK_CIRCLE 16         /* the holder holds a claim higher on the chain, or granted its root */
+#define GUVRENDIK_CIRCLE 16         /* circle: the holder holds a claim higher on the chain, or granted its root */
 #define GUVRENDIK_NO_CLAIM 17       /* claim to revoke does not stand */
-#define GUVRENDIK_NO_GRANTOR 18     /* revoker is no grantor on that claim's chain, the claim itself included; who clears a resource is
-                                     * not its keeper; who clears old claims is not human */
+#define GUVRENDIK_NO_GRANTOR 18     /* revoker is no grantor on that claim's chain, or caller is not the keeper or not human */
 #define GUVRENDIK_FORM 19           /* text not of the form */
 #define GUVRENDIK_COUNT 20          /* a count line above its limit */
 #define GUVRENDIK_BUFFER 21         /* buffer too short for the text */
@@ -313,11 +311,11 @@ typedef struct guvrendik_action {
 } guvrendik_action;
 
 /* Kinds of violation, in the order of a verdict's list. guvrendik_violation_text has words for them. */
-#define GUVRENDIK_FLAG 1               /* value: the flag, lowest first */
-#define GUVRENDIK_MACHINE_OWNERLESS 2  /* value: the actor's id */
-#define GUVRENDIK_MACHINE_GOVERNS 3    /* value: the governed entry's position, from 0 */
-#define GUVRENDIK_NOT_COVERED 4        /* value: the use's position, from 0. Kinds 4 and 5 come by use position */
-#define GUVRENDIK_OWNER_NOT_COVERED 5  /* value: the use's position */
+#define GUVRENDIK_FLAG 1               /* flag set. Value: the flag, lowest first */
+#define GUVRENDIK_MACHINE_OWNERLESS 2  /* machine without owner. Value: the actor's id */
+#define GUVRENDIK_MACHINE_GOVERNS 3    /* machine that governs. Value: the governed entry's position, from 0 */
+#define GUVRENDIK_NOT_COVERED 4        /* use that the actor does not cover. Value: the use's position, from 0. Kinds 4 and 5 come by use position */
+#define GUVRENDIK_OWNER_NOT_COVERED 5  /* use that the machine's owner does not cover. Value: the use's position */
 /* 6 is not used and will not be: a register with a claim whose parent does not stand is not sound, and refused with 1. */
 
 typedef struct guvrendik_violation {

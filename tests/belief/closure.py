@@ -17,9 +17,7 @@ is that of a definition.
 
 A public name of specs/ stands once there, and what stands in specs/ has a user: another definition of its file, or a file that imports and names it.
 
-docs/RULES.md names a definition or a theorem, in backticks, as `crate/File: name` (`soundness_rules/Sound: drawnFrom`, `gate_rules/TheoremsPlans: plan-gated`), several
-with commas between (`soundness_rules/Sound: alone, over`), and a file alone as `crate/File`. The word crate itself stands for any. What runs a rule is a folder
-below tests/cases, as `cases/name`, or the beginning of a line that tests/calls prints, in quotes.
+The papers are held to all this by papers.py; reading.py prints what a demand rests on.
 
 The lines that are counted are those of definitions, without comments, blank lines and `use`. The bar is for what the base's exported calls, `History`
 and `Authority` rest on; what the other theorems' statements add, and what only T-04's JSON, the words for numbers and the version do, are counted apart.
@@ -27,15 +25,13 @@ and `Authority` rest on; what the other theorems' statements add, and what only 
 import functools
 import os
 import re
-import shutil
-import sys
-import tempfile
+
+import papers
 
 BAR = 1200
 THEOREM_LINES = 100
 MARKS = ("Believed", "Working", "Laws")
 APART = re.compile(r"json|words|refusal_text|violation_text|right_name|flag_name|version")
-RULES = "docs/RULES.md"
 REPOSITORY = os.path.dirname(os.path.dirname(os.path.dirname(os.path.abspath(__file__))))
 EXPORTED, PRINTED = "portal", "verdict_printing"
 DEMANDS = (("history", "History", "History"), ("gate_rules", "Authority", "Authority"), ("gate_rules", "Authority", "Traced"))
@@ -481,6 +477,28 @@ class Tree:
                 if known and not (known[0] == "item" and known[1].file is file):
                     yield known, item.label()
 
+    def reading_order(self, files):
+        """Files, each behind those that it imports: the crates in their order, and the files of one in that of its Lib.antt."""
+        done = []
+
+        def place(file):
+            names = re.findall(r"^pub mod (\w+)", self.read(f"crates/{file.crate}/{file.folder}/Lib.antt"), re.M)
+            return names.index(file.name) if file.name in names else len(names)
+
+        def visit(file):
+            if file in done:
+                return
+            own = [MODULE.match(module) for module in sorted(file.modules)]
+            before = [self.files.get(found.groups()) for found in own if found]
+            for other in sorted((f for f in before if f in files and f is not file and f.crate == file.crate), key=place):
+                visit(other)
+            done.append(file)
+
+        for crate in self.crates:
+            for file in sorted((f for f in files if f.crate == crate), key=lambda f: (f.folder == "proofs", place(f))):
+                visit(file)
+        return done
+
     def theorem_files(self):
         return [f for (c, folder, n), f in self.files.items() if folder == "proofs"]
 
@@ -501,7 +519,8 @@ class Belief:
     """What is believed in a tree, and what is wrong with it."""
 
     def __init__(self, root):
-        self.tree = tree = Tree(root)
+        self.tree, self.repository = Tree(root), REPOSITORY
+        tree = self.tree
         self.faults, self.checks = [], 0
         calls = [(name, roots) for crate in (EXPORTED, PRINTED) for name, roots in tree.call_roots(crate)]
         self.calls = [name for name, _ in calls]
@@ -529,7 +548,7 @@ class Belief:
         self.check_believed()
         self.check_needed()
         self.check_theorems()
-        self.check_rules()
+        papers.check(self)
         lines = lines_of(self.base)
         self.holds(lines <= BAR, f"{lines} lines are believed for the base, and at most {BAR} may be")
 
@@ -610,32 +629,15 @@ class Belief:
         left, _, right = " ".join(item.parts[0]).partition(" = ")
         return not set("(){}[]") & set(left) and not PROVES & set(tokens(right))
 
-    def check_rules(self):
-        text = self.tree.read(RULES)
-        self.holds(text, f"{RULES} is not there")
-        named = set()
-        for crate, name, rest in re.findall(r"`([a-z_]+)/([A-Z]\w*)(?:: ([^`]+))?`", text):
-            if crate == "crate":
-                continue
-            folder = "proofs" if name.startswith("Theorems") else "specs"
-            file = self.tree.files.get((crate, folder, name))
-            self.holds(file, f"{RULES} names `{crate}/{name}`, and there is no such file")
-            named.add(file)
-            for part in filter(None, (p.strip() for p in rest.split(","))):
-                self.holds(not file or part in file.owner, f"{RULES} names `{crate}/{name}: {part}`, which does not stand there")
-        self.check_runs(text)
-        for file in self.tree.spec_files() if text else []:
-            if file.mark == "Believed":
-                self.holds(file in named, f"{RULES} leaves out {file.label()}, which is believed")
+    def whole(self, path):
+        """A file of the tree, or where a copy of it has none, of the repository."""
+        if os.path.exists(os.path.join(self.tree.root, path)):
+            return self.tree.read(path)
+        with open(os.path.join(REPOSITORY, path), encoding="utf-8") as file:
+            return file.read()
 
-    def check_runs(self, text):
-        rules = " ".join(text.partition("\n## 1.")[2].partition("\n## 9.")[0].split())
-        with open(os.path.join(REPOSITORY, "tests/calls/expected"), encoding="utf-8") as file:
-            printed = file.read().splitlines()
-        for line in re.findall(r'"([^"]+)"', rules):
-            self.holds(any(p.startswith(line) for p in printed), f'{RULES} names the line "{line}", which tests/calls does not print')
-        for case in re.findall(r"`cases/(\w+)`", rules):
-            self.holds(os.path.isdir(os.path.join(REPOSITORY, "tests/cases", case)), f"{RULES} names the case {case}, which is not there")
+    def there(self, path):
+        return os.path.exists(os.path.join(REPOSITORY, path))
 
     # ---- what is printed
 
@@ -651,122 +653,14 @@ class Belief:
             yield f"{title}: {len(items)} definitions, {lines_of(items)} lines, {len({i.file for i in items})} files"
 
     def listing(self):
-        files = {item.file for item in self.reached}
-        done = []
-
-        def visit(file):
-            if file in done:
-                return
-            for module in sorted(file.modules):
-                own = MODULE.match(module)
-                other = self.tree.files.get(own.groups()) if own else None
-                if other in files and other is not file and other.crate == file.crate:
-                    visit(other)
-            done.append(file)
-
+        files = self.tree.reading_order({item.file for item in self.reached})
         for crate in self.tree.crates:
             types = sorted(t for c, t in self.types if c == crate)
             if types:
                 yield f"{crate}: types of the code: {', '.join(types)}"
-            for file in sorted((f for f in files if f.crate == crate), key=lambda f: (f.folder == "proofs", f.name)):
-                start = len(done)
-                visit(file)
-                for here in done[start:]:
-                    yield f"{here.label()}: {here.about}"
-                    for item in here.items:
-                        if item in self.reached:
-                            note = self.group(item)
-                            yield f"    {item.name}" + (f"  ({note})" if note else "")
-
-
-# ---- that it can fail
-
-def move(source, target, name):
-    """Moves a definition from one file of specs/ to another, which the first then imports it from."""
-    def edit(root):
-        crate = source.split("/")[1]
-        with open(os.path.join(root, source), encoding="utf-8") as file:
-            text = file.read()
-        here = File(crate, "specs", "", text)
-        lines, rows = text.splitlines(keepends=True), sorted(here.owner[name][-1].rows)
-        cut = "".join(lines[row - 1] for row in rows)
-        module = os.path.basename(target).removesuffix(".antt")
-        with open(os.path.join(root, source), "w", encoding="utf-8") as file:
-            file.write(text.replace(cut, "").replace("\nuse ", f"\nuse Rattle.{crate}.specs.{module}.{{{name}}}\nuse ", 1))
-        append(target, "\n" + cut)(root)
-    return edit
-
-
-def append(path, text):
-    def edit(root):
-        os.makedirs(os.path.join(root, os.path.dirname(path)), exist_ok=True)
-        with open(os.path.join(root, path), "a", encoding="utf-8") as file:
-            file.write(text)
-    return edit
-
-
-BROKEN_CRATE = "soundness_rules"
-BROKEN = (
-    ("a believed definition moved to a file of laws", move("crates/soundness_rules/specs/Sound.antt", "crates/soundness_rules/specs/Laws.antt", "drawnFrom"),
-     "drawnFrom", "soundness_rules/Laws: drawnFrom is believed .* stands in a file that is laws"),
-    ("a lemma put into a believed file",
-     append("crates/soundness_rules/specs/Sound.antt", "\npub sound-once : (r : Register) → sound r ≡ sound r\nsound-once r = refl\n"),
-     "sound-once", "soundness_rules/Sound: sound-once is a lemma"),
-    ("a definition that nothing reaches put into a believed file",
-     append("crates/soundness_rules/specs/Sound.antt", "\npub unsound : Register → Bool\nunsound r = not (sound r)\n"),
-     "unsound", "soundness_rules/Sound: unsound stands in a believed file, and nothing reaches it"),
-    ("a law that nothing uses", append("crates/soundness_rules/specs/Laws.antt", "\npub sound-twice : (r : Register) → sound r ≡ sound r\nsound-twice r = refl\n"),
-     "sound-twice", "soundness_rules/Laws: sound-twice has no user"),
-    ("a name that stands twice", append("crates/soundness_rules/specs/Laws.antt", "\ndrawnFrom : ℕ\ndrawnFrom = 0\n"),
-     "drawnFrom", "drawnFrom stands more than once in specs/: soundness_rules/"),
-    ("a rule that names what does not stand", append(RULES, "\n`soundness_rules/Sound: soundly`\n"),
-     "soundly", "names `soundness_rules/Sound: soundly`, which does not stand there"),
-    ("a theorem proved by cases", append("crates/soundness_rules/proofs/Theorems.antt", "\npub both : (b : Bool) → b ≡ b\nboth true = refl\nboth false = refl\n"),
-     "both", "soundness_rules/proofs/Theorems.antt: both is no theorem that cites"),
-)
-
-
-def copy(whole, root):
-    """A copy of what is read here: the crate that is broken and the docs, with the other crates as they stand."""
-    shutil.copy(os.path.join(whole, "crates.txt"), root)
-    shutil.copytree(os.path.join(whole, "docs"), os.path.join(root, "docs"))
-    os.mkdir(os.path.join(root, "crates"))
-    for crate in os.listdir(os.path.join(whole, "crates")):
-        there, here = os.path.join(whole, "crates", crate), os.path.join(root, "crates", crate)
-        (shutil.copytree if crate == BROKEN_CRATE else os.symlink)(there, here)
-
-
-def refuses(whole):
-    """Tries the broken copies: each must have the fault that it was made with, and none that speaks of something else."""
-    passed, failed = 0, []
-    for title, damage, name, expected in BROKEN:
-        with tempfile.TemporaryDirectory() as root:
-            copy(os.path.abspath(whole.tree.root), root)
-            damage(root)
-            fresh = [fault for fault in Belief(root).faults if fault not in whole.faults]
-        right = [fault for fault in fresh if re.search(expected, fault)]
-        if right and all(name in fault for fault in fresh):
-            passed += 1
-            print(f"refused: {title}: {right[0]}")
-        else:
-            failed.append(f"{title}: not refused for that: {fresh}")
-    return passed, failed
-
-
-def main(arguments):
-    whole = Belief(".")
-    if arguments == ["--list"]:
-        print("\n".join(whole.listing()))
-        return 0
-    print(f"{len(whole.calls)} calls: {', '.join(whole.calls)}")
-    for line in whole.counts():
-        print(line)
-    passed, failed = refuses(whole)
-    passed += whole.checks - len(whole.faults)
-    for fault in whole.faults + failed:
-        print(f"FAILED {fault}")
-    print(f"{passed} passed, {len(whole.faults) + len(failed)} failed")
-    return 1 if whole.faults or failed else 0
-
-
-sys.exit(main(sys.argv[1:]))
+            for file in (f for f in files if f.crate == crate):
+                yield f"{file.label()}: {file.about}"
+                for item in file.items:
+                    if item in self.reached:
+                        note = self.group(item)
+                        yield f"    {item.name}" + (f"  ({note})" if note else "")

@@ -1,3 +1,5 @@
 pub mod Sameness
+pub mod Sources
 pub mod Theorems
 pub mod Cases
+pub mod CasesOrder

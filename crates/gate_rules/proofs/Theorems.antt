@@ -1,5 +1,5 @@
 -- What is proved of the gate's answer `gated`: what stops it, what it permits and what it never permits. TheoremsUses has what is proved of uses,
--- TheoremsPlans what is proved of plans. Assumes nothing.
+-- TheoremsPlans what is proved of plans, TheoremsViolations what is proved of the list of violations. Assumes nothing.
 use mathlib.Core.Path.{_≡_}
 use mathlib.Core.Bool.{true, false}
 use mathlib.Core.List.{List, []}
@@ -8,6 +8,7 @@ use lib.ListN.{length}
 use Rattle.lists.specs.Lists.{All}
 use Rattle.refusals.specs.Refusals.{outcomeOf}
 use Rattle.refusals.specs.declared.Refusal.{Refusal}
+use Rattle.refusals.specs.declared.Refusal.the-variants.{Unsound}
 use Rattle.refusals.specs.declared.Outcome.the-variants.{Accepted, Refused as RefusedFor}
 use Rattle.register.specs.Register.{actorsOf, claimsOf}
 use Rattle.register.specs.Chain.{latest, chainOf, live, Lasting}
@@ -23,6 +24,7 @@ use Rattle.actions.specs.declared.Decision.the-variants.{Permitted, Refused, St
 use Rattle.gate_rules.specs.Gate.{isOwnerless, violationsOf, hopCounts, gateTests, listed, padded, decided, gated}
 use Rattle.gate_rules.specs.Laws as laws
 use Rattle.gate_rules.specs.Authority.{IsIn, Passed, higherThan, Authority}
+use Rattle.gate_rules.proofs.Stops as stops
 use Rattle.gate_rules.proofs.Flags as flags
 use Rattle.gate_rules.proofs.Machines as machines
 use Rattle.gate_rules.proofs.Liveness as lives
@@ -38,6 +40,10 @@ gated-stopped = laws.gated-stopped
 pub gated-judged : (r : Register) (a : Action) → outcomeOf (gateTests r a) ≡ Accepted
     → gated r a ≡ record { decision = decided (violationsOf r a); violations = listed (violationsOf r a); hops = padded (hopCounts r a) }
 gated-judged = laws.gated-judged
+
+-- 1c. A call over a register that is not sound is stopped with 1, whatever the action.
+pub gate-unsound : (r : Register) (a : Action) → sound r ≡ false → gated r a ≡ record { decision = Stopped Unsound; violations = listed []; hops = padded [] }
+gate-unsound = stops.gate-unsound
 
 -- 2a. Whatever is permitted rests, use by use, on a public READ or on a claim of the actor that is live over its whole chain, which only weakens from
 -- a root granted by the resource's keeper; and a machine's owner, who is a human of the register, has as much.

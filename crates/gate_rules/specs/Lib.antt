@@ -1,4 +1,5 @@
 pub mod Gate
+pub mod Listing
 pub mod Plans
 pub mod Authority
 pub mod Places

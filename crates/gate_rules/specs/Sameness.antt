@@ -67,12 +67,12 @@ module _ (r s : Register) (same : Same r s) where
       public-standing r u ∙ ap (λ l. eqb (u .right) reading && any (λ o. eqb (u .resource) (o .id) && eqb (o .public) 1) l) (same .resources)
       ∙ sym (public-standing s u)
 
-  covering-claim : (moment x : ℕ) (u : Usage) (c : Claim) → covering r moment x u c ≡ covering s moment x u c
+  claim-covering-same : (moment x : ℕ) (u : Usage) (c : Claim) → covering r moment x u c ≡ covering s moment x u c
   unfolding covering
-  covering-claim moment x u c = rw (contains-same (c .resource) (u .resource), same .claims)
+  claim-covering-same moment x u c = rw (contains-same (c .resource) (u .resource), same .claims)
 
   covering-same : (moment x : ℕ) (u : Usage) → covering r moment x u ≡ covering s moment x u
-  covering-same moment x u = fun-ext (λ c. covering-claim moment x u c)
+  covering-same moment x u = fun-ext (λ c. claim-covering-same moment x u c)
 
   covers-same : (moment x : ℕ) (u : Usage) → covers r moment x u ≡ covers s moment x u
   unfolding covers

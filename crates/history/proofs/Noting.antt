@@ -1,4 +1,4 @@
--- What is left in a book after an accepted grant and after an accepted withdrawal, and what stays true of it: striking by lines is
+-- What is left in the annals after an accepted grant and after an accepted withdrawal, and what stays true of it: striking by lines is
 -- striking by chains. Assumes nothing.
 use mathlib.Core.Path.{_≡_, refl, ap, sym, _∙_, fun-ext}
 use mathlib.Core.Bool.{Bool, true, false, not, _||_, or-true, or-false, false≢true, true≢false}
@@ -153,7 +153,7 @@ kept-withdraw b w v = record {
       (all-dropping (λ M e. not (names w (e .claim))) (Below (length (b .all))) (remains b) (v .used))) (v .spent);
 }
 
--- the book at the start
+-- the annals at the start
 pub started-claims : (L : List Claim) → claims (started L) ≡ L
 unfolding started
 started-claims [] = refl

@@ -1,4 +1,4 @@
--- What any calls come to: the register holds what remains in the book, and making the remaining grants again ends in it. Assumes nothing.
+-- What any calls come to: the register holds what remains in the annals, and making the remaining grants again ends in it. Assumes nothing.
 use mathlib.Core.Path.{_≡_, refl, ap, sym, _∙_}
 use mathlib.Core.Bool.{true, false, not, _&&_, cond, and-true, and-assoc}
 use mathlib.Core.List.{List, [], _∷_, _++_, map, map-append, reverse-cons, reverse-reverse}
@@ -56,7 +56,7 @@ unfolding registerAfter
 after-shaped r [] h = h
 after-shaped r (k ∷ ks) h = after-shaped (changed r k) ks (changed-shaped r k h)
 
--- in a run from r the register s holds what remains in the book b
+-- in a run from r the register s holds what remains in the annals b
 record State (r s : Register) (b : Annals) : Type 0 where
   held : Holds r s (claims (remains b))
   judged : sound s ≡ true

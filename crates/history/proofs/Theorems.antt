@@ -54,10 +54,10 @@ pub grant-looks : (r s : Register) (c : Claim) (moment : ℕ) → sound r ≡ so
     → granted r c moment .outcome ≡ granted s c moment .outcome
 grant-looks = laws.grant-looks
 
--- 5a. A refused call hands back the register as it came.
+-- 4a. A refused call hands back the register as it came.
 pub refused-register : (r : Register) (k : Change) → took r k ≡ false → changed r k ≡ r
 refused-register = calls.refused-register
 
--- 5b. A refused withdrawal tells that none went.
+-- 4b. A refused withdrawal tells that none went.
 pub refused-removed : (r : Register) (w : Withdrawal) → took r (withdraw w) ≡ false → withdrawn r w .removed ≡ 0
 refused-removed = calls.refused-removed

@@ -3,6 +3,7 @@ pub mod Cases
 pub mod Holding
 pub mod Taking
 pub mod Spelling
+pub mod Spacing
 pub mod Bits
 pub mod Ordering
 pub mod ReadWritten
@@ -11,5 +12,8 @@ pub mod Own
 pub mod OwnMembers
 pub mod Answering
 pub mod WrittenRead
+pub mod Spelled
 pub mod OneText
 pub mod Theorems
+pub mod TheoremsSpelling
+pub mod CasesOrder

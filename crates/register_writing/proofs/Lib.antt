@@ -1,3 +1,5 @@
 pub mod Lining
+pub mod Unwritten
+pub mod Theorems
 pub mod Cases
 pub mod Laws

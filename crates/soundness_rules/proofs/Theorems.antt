@@ -7,7 +7,7 @@ use mathlib.Core.List.{List, [], _∷_, _++_, map}
 use Prim.Native.Nat.{ℕ, suc, _≤_}
 use lib.Dec.{eqb}
 use lib.ListN.{length, take}
-use Rattle.lists.specs.Lists.{any, every, ands, filter, distinct}
+use Rattle.lists.specs.Lists.{any, every, ands, filter, All, distinct}
 use Rattle.register.specs.Limits.{hopLimit}
 use Rattle.register.specs.Register.{Same}
 use Rattle.register.specs.Chain.{latest, chain, above, hopsOf, chainOf}
@@ -19,6 +19,7 @@ use Rattle.soundness_rules.specs.Chains as chains
 use Rattle.soundness_rules.specs.Striking as striking
 use Rattle.soundness_rules.specs.Sameness as sameness
 use Rattle.soundness_rules.proofs.Natural as natural
+use Rattle.soundness_rules.proofs.Circles as circles
 use Rattle.soundness_rules.specs.Struck.{struck, strike}
 use Rattle.soundness_rules.specs.Roots.{Climbs, rootOf, eachDrawn}
 
@@ -64,6 +65,16 @@ chain-length = chains.chain-hops
 pub chain-whole : (w : World) (L : List Claim) (c : Claim) (M : List Claim) → soundClaims w (L ++ c ∷ M) ≡ true
     → chain (λ d. d .id) (λ d. d .parent) (L ++ c ∷ M) (c .id) ≡ chainOf M c
 chain-whole = chains.place-chain
+
+-- 4f. (e) No two claims of its chain have one holder.
+pub holders-distinct : (w : World) (L : List Claim) (c : Claim) (M : List Claim) → soundClaims w (L ++ c ∷ M) ≡ true
+    → distinct (map (λ d. d .holder) (chainOf M c)) ≡ true
+holders-distinct = circles.holders-distinct
+
+-- 4g. (e) Who granted the root holds no claim of its chain but the root: a claim with a parent is held by another.
+pub root-unreturned : (w : World) (L : List Claim) (c : Claim) (M : List Claim) → soundClaims w (L ++ c ∷ M) ≡ true
+    → All (λ d. (d .parent ≡ 0 → ⊥) → d .holder ≡ rootOf c (above M c) .grantor → ⊥) (chainOf M c)
+root-unreturned = circles.root-unreturned
 
 -- 5. Registers that are the same are judged alike.
 pub sound-same : (r s : Register) → Same r s → sound r ≡ sound s

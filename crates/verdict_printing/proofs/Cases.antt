@@ -1,4 +1,5 @@
--- What is printed of case R of 01, and of small texts that are refused with 1, 3, 19 and 20. Computed. Assumes nothing.
+-- What is printed of case R of 01, and of small texts that are refused with 1, 3, 19 and 20; and by the JSON program with 2, 19 and 20. Computed.
+-- Assumes nothing.
 use Prim.Native.Nat.{ℕ}
 use mathlib.Core.Path.{_≡_, refl}
 use mathlib.Core.List.{List, [], _∷_, map}
@@ -16,7 +17,7 @@ use Rattle.text_rules.specs.Records.{values, passed, many, texts}
 use Rattle.text_rules.specs.Registers.{readActors, readResources, readClaims, registerFrom, registerRead}
 use Rattle.text_rules.specs.Actions.{readUses, readGoverns, actionOf, actionRead}
 use Rattle.text_rules.proofs.Cases.{lined, caseText, actionCase}
-use Rattle.verdict_printing.specs.Printed.{pairText, listText, stoppedText, verdictText, printed}
+use Rattle.verdict_printing.specs.Printed.{pairText, listText, stoppedText, verdictText, printed, jsonPrinted}
 
 -- 01's action is refused; without its second use it is permitted; with two flags and nothing covered, each violation has its pair
 printed-in-R : map (printed caseText) (
@@ -48,3 +49,13 @@ printed-stopped = (refl, refl, refl, refl, refl)
 printed-first : printed (lined "register=1 actors=65") [] ≡ lined "verdict=stopped refusal=20"
 unfolding printed stoppedText decimalLine digits digitsWith registerRead registerFrom readActors readResources readClaims values passed many parseLimited atLeast begins ended parse canonical digitRun after value
 printed-first = refl
+
+-- the register, then the clock, before the JSON action: 20 before a clock that is none; 19 of no clock and of a line behind it; 2 of a moment past its
+-- limit
+json-printed-stopped :
+    (jsonPrinted (lined "register=1 actors=65") [] [] ≡ lined "verdict=stopped refusal=20")
+    × (jsonPrinted nobody [] [] ≡ lined "verdict=stopped refusal=19")
+    × (jsonPrinted nobody (lined "now=0 now=0") [] ≡ lined "verdict=stopped refusal=19")
+    × (jsonPrinted nobody (lined "now=4294967296") [] ≡ lined "verdict=stopped refusal=2")
+unfolding jsonPrinted stoppedText decimalLine digits digitsWith registerRead registerFrom readActors readResources readClaims values passed many parseLimited atLeast begins ended parse canonical digitRun after value sound withinLimits soundActors soundResources soundClaims distinct
+json-printed-stopped = (refl, refl, refl, refl)

@@ -1,0 +1,4 @@
+pub mod Numbers
+pub mod Ordered
+pub mod Theorems
+pub mod Cases
