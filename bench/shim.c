@@ -26,6 +26,10 @@ guvrendik_plan_verdict bench_judge_plan(const guvrendik_register *r, const guvre
     return guvrendik_judge_plan(*r, *p);
 }
 
+guvrendik_plan_text_verdict bench_judge_plan_text(const guvrendik_register *r, const uint8_t *text, size_t text_len) {
+    return guvrendik_judge_plan_text(*r, text, text_len);
+}
+
 guvrendik_containment bench_contains(const uint8_t *outer, size_t outer_len, const uint8_t *inner, size_t inner_len) {
     return guvrendik_contains(outer, outer_len, inner, inner_len);
 }

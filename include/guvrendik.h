@@ -38,7 +38,7 @@ extern "C" {
 /* The version of this header. guvrendik_version answers that of the library; the shared object is named by the first number. That one
  * changes where a caller must be changed or compiled anew, the second where a call is new. */
 #define GUVRENDIK_VERSION_MAJOR 1
-#define GUVRENDIK_VERSION_MINOR 0
+#define GUVRENDIK_VERSION_MINOR 1
 #define GUVRENDIK_VERSION_PATCH 0
 
 /* Limits. */
@@ -50,6 +50,9 @@ extern "C" {
 #define GUVRENDIK_USES 32
 #define GUVRENDIK_GOVERNS 8
 #define GUVRENDIK_ACTIONS 16
+#define GUVRENDIK_LEVELS 8        /* plans in each other in a plan's text, the outermost counted */
+#define GUVRENDIK_STEPS 64        /* steps of one plan in a plan's text */
+#define GUVRENDIK_TEXT_ACTIONS 64 /* actions of a plan's text, in all its plans together */
 #define GUVRENDIK_VIOLATIONS 51
 #define GUVRENDIK_REGISTER_TEXT 37741 /* no register's text is longer */
 #define GUVRENDIK_VERDICT_TEXT 1103   /* no verdict's text is longer */
@@ -124,6 +127,8 @@ extern "C" {
 #define GUVRENDIK_FORM 19           /* text not of the form */
 #define GUVRENDIK_COUNT 20          /* a count line above its limit */
 #define GUVRENDIK_BUFFER 21         /* buffer too short for the text */
+#define GUVRENDIK_TOO_DEEP 22       /* plan deeper than 8 levels */
+#define GUVRENDIK_TOO_MANY_ACTIONS 23 /* more than 64 actions in a plan text */
 #define GUVRENDIK_JSON_FORM 24      /* JSON action of another form, with a number out of range or with more than 32 uses */
 #define GUVRENDIK_JSON_LACKS 25     /* a right above 2 or a governed entry, for which a JSON action has no place */
 
@@ -246,7 +251,7 @@ typedef struct guvrendik_granted {
  * right; 14 it has less weight; 15 more than 16 hops; 16 a circle.
  * Refused for no other cause: a claim of weight 0, whose expiry has passed or is later than its parent's, is granted.
  * Accepted, everything but the new claim and the count of claims is as it came, also what stands past the counts.
- * Stack: 96,000 bytes. */
+ * Stack: 85,000 bytes. */
 guvrendik_granted guvrendik_grant(guvrendik_register r, guvrendik_claim c, uint64_t moment);
 
 /* The answer of guvrendik_revoke, guvrendik_clear_resource and guvrendik_clear_expired. */
@@ -266,7 +271,7 @@ typedef struct guvrendik_revoked {
  * Accepted, every place past the count of claims holds a claim of all zeros: nothing of a withdrawn claim is left.
  * Any two of this call and the two below leave the same register in either order, but a revocation that comes second may be told 17: the
  * first took its claim.
- * Stack: 91,000 bytes. */
+ * Stack: 81,000 bytes. */
 guvrendik_revoked guvrendik_revoke(guvrendik_register r, uint32_t revoker, uint32_t claim);
 
 /* Clears a resource: every claim on it goes, of whatever weight and expiry. The rest keep their order.
@@ -277,7 +282,7 @@ guvrendik_revoked guvrendik_revoke(guvrendik_register r, uint32_t revoker, uint3
  * is not its keeper, though it may be the keeper's machine or the keeper of another resource.
  * Where no claim is on it, the call is accepted and none goes. Accepted, every place past the count of claims holds a claim of all
  * zeros.
- * Stack: 91,000 bytes. */
+ * Stack: 81,000 bytes. */
 guvrendik_revoked guvrendik_clear_resource(guvrendik_register r, uint32_t caller, uint32_t resource);
 
 /* Clears old claims: every claim goes that has expired at the moment, its expiry not 0 and not above it, and every claim that has such a
@@ -289,7 +294,7 @@ guvrendik_revoked guvrendik_clear_resource(guvrendik_register r, uint32_t caller
  * not human.
  * Where nothing has expired, as at 0, the call is accepted and none goes. Accepted, every place past the count of claims holds a claim of
  * all zeros.
- * Stack: 91,000 bytes. */
+ * Stack: 81,000 bytes. */
 guvrendik_revoked guvrendik_clear_expired(guvrendik_register r, uint32_t caller, uint64_t moment);
 
 /* ---- The gate ---- */
@@ -401,7 +406,9 @@ guvrendik_containment guvrendik_contains(const uint8_t *outer, size_t outer_len,
  * Lines key=value, each ended by LF, decimals without leading zeros.
  * A register: register=1; actors=, per actor actor, kind (human or machine), owner; resources=, per resource resource, public,
  * keeper, scope; claims=, per claim claim, parent, grantor, holder, resource, rights, weight, expiry. Nothing follows.
- * An action: now, actor, flags; uses=, per use use and right; governs=, per entry govern. Nothing follows. */
+ * An action: now, actor, flags; uses=, per use use and right; governs=, per entry govern. Nothing follows.
+ * A plan: plan= with the number of its steps; each step begins with step=action, and an action's lines follow, or with step=plan, and
+ * a plan follows. Behind the outermost plan nothing follows. */
 
 /* The answer of guvrendik_read_register. */
 typedef struct guvrendik_register_read {
@@ -450,6 +457,29 @@ typedef struct guvrendik_action_read {
  * Stack: 2,000 bytes. */
 guvrendik_action_read guvrendik_read_action(const uint8_t *text, size_t text_len);
 
+/* The answer of guvrendik_judge_plan_text. */
+typedef struct guvrendik_plan_text_verdict {
+    uint32_t accepted; /* 1 or 0 */
+    uint32_t refusal;  /* 0 where accepted, else the number */
+    size_t line;       /* of 19, 20, 22 and 23: the first failing line, from 1. Else 0 */
+    size_t position;   /* of 3: the first action whose actor is not in the register, in reading order from 0. Else 0 */
+    guvrendik_judgement list[GUVRENDIK_TEXT_ACTIONS]; /* of each action, in reading order; past the count {0, 0} */
+    size_t count;                                     /* the actions of the text; 0 where refused */
+} guvrendik_plan_text_verdict;
+
+/* Judges a plan's text, whose steps are actions or plans of their own. The verdicts are those of the flat list of its actions in reading
+ * order: every action after the first with a flag set is cancelled, in whatever plan of the text it stands.
+ *  r              the register
+ *  text/text_len  as for guvrendik_read_register. A plan has 0 to GUVRENDIK_STEPS steps, the text 1 to GUVRENDIK_LEVELS levels of plans,
+ *                 the outermost being 1, and 0 to GUVRENDIK_TEXT_ACTIONS actions in all. Plans may be empty, at every level, so no
+ *                 length is enough for every text.
+ * Refusals: first the text, whose first failing line decides between 19, not of the form or a number outside its field's range; 20, a
+ * count above its limit, 64 of plan=, 32 of uses=, 8 of governs=; 22, a line step=plan that would open a ninth level; and 23, a line
+ * step=action that would begin the 65th action. Then 1 register not sound. Then 3, the first action whose actor is not in the
+ * register, also one that would be cancelled. Refused, there are no verdicts. 2 cannot happen: such a number is a 19.
+ * Stack: 80,000 bytes. */
+guvrendik_plan_text_verdict guvrendik_judge_plan_text(guvrendik_register r, const uint8_t *text, size_t text_len);
+
 /* Writes the lines that the printing program prints for a register's text and an action's text: verdict=permitted and
  * violations=0; or verdict=refused, violations= with their number, and for each one violation= with its kind and at= with its
  * value; or verdict=stopped and refusal= with the first refusal of reading the register, reading the action and the gate.
@@ -459,7 +489,7 @@ guvrendik_action_read guvrendik_read_action(const uint8_t *text, size_t text_len
  *                              are enough for every verdict.
  * Refusal: 21 buffer too short. Then the buffer keeps every byte. A text that is not read is no refusal of this call: its answer
  * is the text with verdict=stopped.
- * Stack: 79,000 bytes. */
+ * Stack: 80,000 bytes. */
 guvrendik_written guvrendik_verdict_text(const uint8_t *register_text, size_t register_len, const uint8_t *action_text,
                                          size_t action_len, uint8_t *buffer, size_t buffer_len);
 

@@ -238,6 +238,30 @@ pub fn plan(shape: Shape, world: &World, used: usize, whose: &str) -> Case {
     }
 }
 
+/// Judges texts of plans, or, where their last line fails, only reads them.
+pub fn plan_text(shape: Shape, world: &World, what: &str, texts: Vec<Vec<u8>>, goal: f64) -> Case {
+    let register = leak(*world.register.clone());
+    let texts = leak(texts);
+    let name = format!("plan text of 64, {what}");
+    let mut ours = Box::new(place());
+    for (at, text) in texts.iter().enumerate() {
+        same(&name, at, library::judge_plan_text(&mut ours, register, text), &MODEL.judge_plan_text(register, text));
+    }
+    Case {
+        name,
+        shape: Some(shape),
+        bytes: Some(texts.iter().map(Vec::len).sum::<usize>() / texts.len()),
+        goal: Goal::Times(goal),
+        library: Box::new(move |at| {
+            black_box(library::judge_plan_text(&mut ours, black_box(register), &texts[at % VARIED]));
+        }),
+        model: Box::new(|at| {
+            black_box(MODEL.judge_plan_text(black_box(register), &texts[at % VARIED]));
+        }),
+        parts: None,
+    }
+}
+
 pub fn read(shape: Shape, world: &World) -> Case {
     let text = leak(register_text(&world.register));
     let name = "read register".to_owned();
@@ -431,6 +455,9 @@ pub fn all() -> Vec<Case> {
         }
         cases.push(plan(shape, &usual(), 4, ""));
         cases.push(plan(shape, &usual(), USES, ""));
+        if shape == FULL {
+            plan_texts(shape, &usual(), &mut cases);
+        }
         cases.push(read(shape, &usual()));
         cases.push(write(shape, &usual()));
     }
@@ -442,6 +469,18 @@ pub fn all() -> Vec<Case> {
     cases.push(write_json("32 uses", json_actions(USES)));
     cases.extend(paths().into_iter().map(|(what, outer, inner)| contains(what, outer, inner)));
     cases
+}
+
+/// Plan texts flat and of eight levels, whole and with a last line that lacks its LF.
+fn plan_texts(shape: Shape, world: &World, cases: &mut Vec<Case>) {
+    for (levels, deep) in [(Levels::One, ""), (Levels::Eight, ", eight levels")] {
+        for used in [4, USES] {
+            let texts = world.plan_texts(used, levels);
+            let failing = texts.iter().map(|text| text[..text.len() - 1].to_vec()).collect();
+            cases.push(plan_text(shape, world, &format!("{used} uses each{deep}"), texts, 1.6));
+            cases.push(plan_text(shape, world, &format!("{used} uses each{deep}, last line fails"), failing, 1.2));
+        }
+    }
 }
 
 /// The cases of a register with so many claims, 64 actors and 64 resources.

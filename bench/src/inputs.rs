@@ -218,28 +218,50 @@ impl World {
         (0..VARIED).map(action).collect()
     }
 
+    /// An action of the holder of some claim.
+    fn some_action(&self, random: &mut Random, used: usize) -> Action {
+        let register = &self.register;
+        let claim = random.pick(&register.claims.list[..register.claims.count]);
+        let mut action = Action { actor: claim.holder, now: NOW, used, ..Action::ZERO };
+        for usage in &mut action.uses[..used] {
+            let resource = random.pick(&register.resources.list[..register.resources.count]).id;
+            let right = random.below(17) as u32;
+            *usage =
+                if random.chance(50) { Usage { resource: claim.resource, right } } else { Usage { resource, right } };
+        }
+        action
+    }
+
     /// Plans of sixteen actions of all sorts of actors.
     pub fn plans(&self, used: usize) -> Vec<Plan> {
         let random = &mut Random::new(11);
-        let register = &self.register;
         let plan = |_| {
             let mut plan = Plan { count: ACTIONS, ..Plan::EMPTY };
-            for action in &mut plan.actions {
-                let claim = random.pick(&register.claims.list[..register.claims.count]);
-                *action = Action { actor: claim.holder, now: NOW, used, ..Action::ZERO };
-                for usage in &mut action.uses[..used] {
-                    let resource = random.pick(&register.resources.list[..register.resources.count]).id;
-                    let right = random.below(17) as u32;
-                    *usage = if random.chance(50) {
-                        Usage { resource: claim.resource, right }
-                    } else {
-                        Usage { resource, right }
-                    };
-                }
-            }
+            plan.actions.fill_with(|| self.some_action(random, used));
             plan
         };
         (0..VARIED).map(plan).collect()
+    }
+
+    /// Texts of plans with 64 such actions.
+    pub fn plan_texts(&self, used: usize, levels: Levels) -> Vec<Vec<u8>> {
+        let random = &mut Random::new(37);
+        let text = |_| {
+            let mut text = match levels {
+                Levels::One => format!("plan={TEXT_ACTIONS}\n"),
+                Levels::Eight => {
+                    let own = TEXT_ACTIONS / LEVELS;
+                    format!("plan={}\nstep=plan\n", own + 1).repeat(LEVELS - 1) + &format!("plan={own}\n")
+                }
+            }
+            .into_bytes();
+            for _ in 0..TEXT_ACTIONS {
+                text.extend(b"step=action\n");
+                text.extend(action_text(&self.some_action(random, used)));
+            }
+            text
+        };
+        (0..VARIED).map(text).collect()
     }
 
     /// Grants that are accepted: under claims that stand where the rules leave some, else roots.
@@ -317,6 +339,14 @@ impl World {
         self.register.claims.list[claims..].fill(Claim::ZERO);
         self
     }
+}
+
+/// How deep the plans of a text stand in each other.
+#[derive(Clone, Copy)]
+pub enum Levels {
+    One,
+    /// As many actions on each level, behind the plan in it.
+    Eight,
 }
 
 /// What is withdrawn: a claim, all claims on a resource, or those that have expired at a moment.

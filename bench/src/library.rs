@@ -13,6 +13,7 @@ extern "C" {
     fn bench_clear_expired(answer: *mut Revoked, register: *const Register, caller: u32, now: u64);
     fn bench_gate(answer: *mut Verdict, register: *const Register, action: *const Action);
     fn bench_judge_plan(answer: *mut PlanVerdict, register: *const Register, plan: *const Plan);
+    fn bench_judge_plan_text(answer: *mut PlanTextVerdict, register: *const Register, text: *const u8, text_len: usize);
     fn bench_contains(outer: *const u8, outer_len: usize, inner: *const u8, inner_len: usize) -> Containment;
     fn bench_read_register(answer: *mut RegisterRead, text: *const u8, text_len: usize);
     fn bench_write_register(register: *const Register, buffer: *mut u8, buffer_len: usize) -> Written;
@@ -65,6 +66,17 @@ pub fn gate<'a>(answer: &'a mut MaybeUninit<Verdict>, register: &Register, actio
 pub fn judge_plan<'a>(answer: &'a mut MaybeUninit<PlanVerdict>, register: &Register, plan: &Plan) -> &'a PlanVerdict {
     unsafe {
         bench_judge_plan(answer.as_mut_ptr(), register, plan);
+        answer.assume_init_ref()
+    }
+}
+
+pub fn judge_plan_text<'a>(
+    answer: &'a mut MaybeUninit<PlanTextVerdict>,
+    register: &Register,
+    text: &[u8],
+) -> &'a PlanTextVerdict {
+    unsafe {
+        bench_judge_plan_text(answer.as_mut_ptr(), register, text.as_ptr(), text.len());
         answer.assume_init_ref()
     }
 }

@@ -13,13 +13,14 @@ pub struct Stack {
 }
 
 /// Has the driver make each call once on a register of 255 claims, with a grant, a revocation and clearings that are accepted, an action
-/// of 32 uses and a plan of 16 of them.
+/// of 32 uses, a plan of 16 of them and a plan's text of eight levels and 64 actions of as many uses.
 pub fn of(driver: &str, arguments: &[&str]) -> io::Result<Vec<Stack>> {
     let world = world(FULL, Holding { human: 64, machine: 64 }).cut(CLAIMS - 1);
     let action = world.actions(world.machine, USES, Covered::All)[0];
     let claims = &world.register.claims.list;
     let resource = world.register.resources.list[0];
-    let texts = [action_text(&action), json_actions(USES)[0].text()];
+    let plan_text = world.plan_texts(USES, Levels::Eight).swap_remove(0);
+    let texts = [action_text(&action), json_actions(USES)[0].text(), plan_text];
     let mut request = Vec::new();
     put_request(&mut request, Request::Stack, |out| {
         world.register.put(out);

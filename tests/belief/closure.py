@@ -6,8 +6,8 @@ A file of specs/ (Lib.antt aside) says on its first line what it is, and then wh
                       it to
     -- Laws: ..       what is proved of either, for other crates
 
-Roots are the `ensures` of the exported calls (crates/portal/src) and of the public calls that the printing programs print (crates/verdict_printing/src),
-`History`, `Authority` and `Traced`, and the statements of the files proofs/Theorems*.antt. From them the closure is taken by name and import: a
+Roots are the `ensures` of the exported calls (crates/portal/src) and of the public calls that the printing programs print (crates/verdict_printing/src and
+crates/plan_verdict_text/src), `History`, `Authority` and `Traced`, and the statements of the files proofs/Theorems*.antt. From them the closure is taken by name and import: a
 name in the type or the body of a definition leads to what it names. `specs.declared` is written by rattle from the structs and enums of src/:
 these are listed as types of the code. Modules outside crates/ (`lib`, `mathlib`, `Prim`, `native`, `borrow`) are the language's own, and end it.
 
@@ -20,7 +20,8 @@ A public name of specs/ stands once there, and what stands in specs/ has a user:
 The papers are held to all this by papers.py; reading.py prints what a demand rests on.
 
 The lines that are counted are those of definitions, without comments, blank lines and `use`. The bar is for what the base's exported calls, `History`
-and `Authority` rest on; what the other theorems' statements add, and what only T-04's JSON, the words for numbers and the version do, are counted apart.
+and `Authority` rest on; what the other theorems' statements add, and what only T-04's JSON, T-01's plan texts, the words for numbers and the version do,
+are counted apart.
 """
 import functools
 import os
@@ -31,9 +32,9 @@ import papers
 BAR = 1200
 THEOREM_LINES = 100
 MARKS = ("Believed", "Working", "Laws")
-APART = re.compile(r"json|words|refusal_text|violation_text|right_name|flag_name|version")
+APART = re.compile(r"json|steps|plan_text|plan_verdict_text|words|refusal_text|violation_text|right_name|flag_name|version")
 REPOSITORY = os.path.dirname(os.path.dirname(os.path.dirname(os.path.abspath(__file__))))
-EXPORTED, PRINTED = "portal", "verdict_printing"
+EXPORTED, PRINTED = "portal", ("verdict_printing", "plan_verdict_text")
 DEMANDS = (("history", "History", "History"), ("gate_rules", "Authority", "Authority"), ("gate_rules", "Authority", "Traced"))
 MODULE = re.compile(r"Rattle·(\w+?)(?:·specs|·proofs)?\.(specs|proofs)\.(.+)$")
 USE = re.compile(r"^(?:ghost )?use ([^\s{}]+?)(?:\.\{([^}]*)\})?(?: as (\S+?))?;?$")
@@ -522,7 +523,7 @@ class Belief:
         self.tree, self.repository = Tree(root), REPOSITORY
         tree = self.tree
         self.faults, self.checks = [], 0
-        calls = [(name, roots) for crate in (EXPORTED, PRINTED) for name, roots in tree.call_roots(crate)]
+        calls = [(name, roots) for crate in (EXPORTED, *PRINTED) for name, roots in tree.call_roots(crate)]
         self.calls = [name for name, _ in calls]
         for name, roots in calls:
             self.holds(any(kind == "item" for (kind, _), _ in roots), f"{name} has no contract that names a definition")

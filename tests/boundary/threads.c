@@ -32,15 +32,24 @@ static guvrendik_plan plan;
 static guvrendik_claim claim;
 static uint8_t register_text[GUVRENDIK_REGISTER_TEXT], action_text[1024], verdict_text[GUVRENDIK_VERDICT_TEXT];
 static size_t action_length;
+/* Eight levels of plans, each with eight of the 64 actions behind the plan in it. */
+static uint8_t plan_text[GUVRENDIK_TEXT_ACTIONS * (sizeof action_text + 16)];
+static size_t plan_length;
 
 static guvrendik_soundness soundness;
 static guvrendik_granted granted;
 static guvrendik_revoked revoked, cleared, expired;
 static guvrendik_verdict verdict;
 static guvrendik_plan_verdict judged;
+static guvrendik_plan_text_verdict text_judged;
 static guvrendik_written written, printed;
 static guvrendik_register_read register_read;
 static guvrendik_action_read action_read;
+
+static void put_plan(const char *lines) {
+    memcpy(plan_text + plan_length, lines, strlen(lines));
+    plan_length += strlen(lines);
+}
 
 /* Actor 1 keeps every resource and holds a root on one after the other; claims 1, 65, 129 and 193 are on resource 1. */
 static void fill(void) {
@@ -72,6 +81,15 @@ static void fill(void) {
     for (size_t i = 0; i < GUVRENDIK_ACTIONS; i++) {
         plan.actions[i] = action;
     }
+    for (size_t level = 1; level < GUVRENDIK_LEVELS; level++) {
+        put_plan("plan=9\nstep=plan\n");
+    }
+    put_plan("plan=8\n");
+    for (size_t i = 0; i < GUVRENDIK_TEXT_ACTIONS; i++) {
+        put_plan("step=action\n");
+        memcpy(plan_text + plan_length, action_text, action_length);
+        plan_length += action_length;
+    }
 }
 
 static void *call_sound(void *unused) { return soundness = guvrendik_sound(state), unused; }
@@ -81,6 +99,9 @@ static void *call_clear_resource(void *unused) { return cleared = guvrendik_clea
 static void *call_clear_expired(void *unused) { return expired = guvrendik_clear_expired(state, 1, 1), unused; }
 static void *call_gate(void *unused) { return verdict = guvrendik_gate(state, action), unused; }
 static void *call_plan(void *unused) { return judged = guvrendik_judge_plan(state, plan), unused; }
+static void *call_plan_text(void *unused) {
+    return text_judged = guvrendik_judge_plan_text(state, plan_text, plan_length), unused;
+}
 static void *call_write(void *unused) {
     return written = guvrendik_write_register(state, register_text, sizeof register_text), unused;
 }
@@ -122,6 +143,10 @@ int main(void) {
     in_small_thread(call_plan);
     expect(judged.accepted == 1 && judged.count == GUVRENDIK_ACTIONS && judged.list[GUVRENDIK_ACTIONS - 1].decision == GUVRENDIK_PERMITTED,
            "every action of the plan is permitted");
+    in_small_thread(call_plan_text);
+    expect(text_judged.accepted == 1 && text_judged.count == GUVRENDIK_TEXT_ACTIONS &&
+               text_judged.list[GUVRENDIK_TEXT_ACTIONS - 1].decision == GUVRENDIK_PERMITTED,
+           "every action of the plan's text is permitted");
     in_small_thread(call_write);
     expect(written.accepted == 1, "the register is written");
     in_small_thread(call_read);

@@ -184,6 +184,7 @@ void change_lines(void);
 void order_lines(void);
 void gate_lines(void);
 void plan_lines(void);
+void plan_text_lines(void);
 void word_lines(void);
 
 #endif

@@ -7,6 +7,7 @@ int main(void) {
     order_lines();
     gate_lines();
     plan_lines();
+    plan_text_lines();
     word_lines();
     return 0;
 }

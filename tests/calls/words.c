@@ -1,7 +1,7 @@
 /* Words for numbers, and the header's functions that build a register: a line to a call.
  *
- * What is expected of the words comes from 01's table of refusals and list of violations, 02's T-04 for 24 and 25, T-03 for 11 and T-09 for
- * 18, and from the names of T-04's form. A line `from a to b` stands for every number of the range: its words are the same. */
+ * What is expected of the words comes from 01's table of refusals and list of violations, 02's T-01 for 22 and 23, T-04 for 24 and 25, T-03 for
+ * 11 and T-09 for 18, and from the names of T-04's form. A line `from a to b` stands for every number of the range: its words are the same. */
 #include "calls.h"
 
 typedef guvrendik_written (*Words)(uint32_t number, uint8_t *buffer, size_t buffer_len);

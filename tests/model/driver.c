@@ -43,6 +43,7 @@ enum {
     WRITE_JSON,
     CLEAR_RESOURCE,
     CLEAR_EXPIRED,
+    PLAN_TEXT,
     BOUNDARY,
     THREADS,
     STACK,
@@ -232,13 +233,17 @@ static void settle(guvrendik_register *r) {
     }
 }
 
-static void settle_plan(guvrendik_plan_verdict *v) {
-    for (size_t i = 0; i < GUVRENDIK_ACTIONS; i++) {
-        uint8_t *judgement = (uint8_t *)&v->list[i];
+static void settle_judgements(guvrendik_judgement *list, size_t count) {
+    for (size_t i = 0; i < count; i++) {
+        uint8_t *judgement = (uint8_t *)&list[i];
         size_t gap = offsetof(guvrendik_judgement, decision) + sizeof(uint32_t);
         memset(judgement + gap, 0, offsetof(guvrendik_judgement, violations) - gap);
     }
 }
+
+static void settle_plan(guvrendik_plan_verdict *v) { settle_judgements(v->list, GUVRENDIK_ACTIONS); }
+
+static void settle_plan_text(guvrendik_plan_text_verdict *v) { settle_judgements(v->list, GUVRENDIK_TEXT_ACTIONS); }
 
 static void settle_containment(guvrendik_containment *c) {
     size_t gap = offsetof(guvrendik_containment, contained) + sizeof(uint32_t);
@@ -322,6 +327,21 @@ static void do_plan(payload *p) {
     guvrendik_plan_verdict got = guvrendik_judge_plan(current, plan);
     settle_plan(&got);
     answer_marked(errno_mark(), &got, sizeof got);
+}
+
+static void do_plan_text(payload *p) {
+    guvrendik_plan_text_verdict got[2];
+    size_t size = p->left;
+    const uint8_t *text = take_bytes(p, size);
+    uint32_t marks = 0;
+    for (placement where = AT_END; where <= AT_START; where++) {
+        const uint8_t *lent = lend(arena_one, text, size, where);
+        got[where] = guvrendik_judge_plan_text(current, lent, size);
+        settle_plan_text(&got[where]);
+        marks |= input_mark(lent, text, size);
+    }
+    marks |= memcmp(&got[0], &got[1], sizeof *got) == 0 ? 0 : PLACES_DIFFER;
+    answer_marked(marks | errno_mark(), got, sizeof *got);
 }
 
 static void do_contains(payload *p) {
@@ -758,6 +778,64 @@ static void pass_plans(void) {
     }
 }
 
+/* A plan's text that is being written. */
+static char plan_page[1 << 16];
+static size_t plan_page_len;
+
+static void page_line(const char *key, unsigned number) {
+    plan_page_len += (size_t)snprintf(plan_page + plan_page_len, sizeof plan_page - plan_page_len, "%s=%u\n", key, number);
+}
+
+static void page_word(const char *word) {
+    plan_page_len += (size_t)snprintf(plan_page + plan_page_len, sizeof plan_page - plan_page_len, "step=%s\n", word);
+}
+
+/* An action of actor 1 that writes the public resource as often as is said: a violation each time. */
+static void page_action(uint32_t actor, size_t writes) {
+    page_word("action");
+    page_line("now", 5);
+    page_line("actor", actor);
+    page_line("flags", 0);
+    page_line("uses", (unsigned)writes);
+    for (size_t i = 0; i < writes; i++) {
+        page_line("use", 10);
+        page_line("right", GUVRENDIK_WRITE);
+    }
+    page_line("governs", 0);
+}
+
+/* Eight plans in each other, eight actions to each, in reading order behind the plan in it: the nth action has n violations, up to 32. The
+ * action at one position is of another actor. */
+static guvrendik_plan_text_verdict judge_page(size_t other_at, uint32_t other) {
+    size_t position = 0;
+    plan_page_len = 0;
+    for (size_t level = 1; level <= GUVRENDIK_LEVELS; level++) {
+        page_line("plan", level < GUVRENDIK_LEVELS ? 9 : 8);
+        if (level < GUVRENDIK_LEVELS) page_word("plan");
+    }
+    for (; position < GUVRENDIK_TEXT_ACTIONS; position++) {
+        page_action(position == other_at ? other : 1, position % (GUVRENDIK_USES + 1));
+    }
+    return guvrendik_judge_plan_text(small_register(), (const uint8_t *)plan_page, plan_page_len);
+}
+
+/* Each verdict of a plan's text stands at its place, and each place names its action. */
+static void pass_plan_texts(void) {
+    guvrendik_plan_text_verdict judged = judge_page(0, 1);
+    expect(judged.accepted == 1 && judged.refusal == 0 && judged.line == 0 && judged.position == 0 &&
+               judged.count == GUVRENDIK_TEXT_ACTIONS,
+           "a full plan's text is judged");
+    for (size_t i = 0; i < GUVRENDIK_TEXT_ACTIONS; i++) {
+        size_t writes = i % (GUVRENDIK_USES + 1);
+        expect(judged.list[i].decision == (writes == 0 ? GUVRENDIK_PERMITTED : GUVRENDIK_REFUSED) && judged.list[i].violations == writes,
+               "each verdict of a plan's text stands at its place");
+        guvrendik_plan_text_verdict stopped = judge_page(i, 2);
+        expect(stopped.accepted == 0 && stopped.refusal == GUVRENDIK_ABSENT && stopped.line == 0 && stopped.position == i &&
+                   stopped.count == 0 && stopped.list[0].decision == 0 && stopped.list[GUVRENDIK_TEXT_ACTIONS - 1].decision == 0,
+               "each action of a plan's text is named by its position");
+    }
+}
+
 /* An action that JSON has a place for, with a number of its own in every field, uses ordered by right. */
 static guvrendik_action json_action(void) {
     guvrendik_action a = {.actor = 60001, .flags = 0x2AA, .now = GUVRENDIK_MOMENT_MAX, .used = GUVRENDIK_USES};
@@ -800,6 +878,8 @@ static void pass_nulls(void) {
     expect(r.accepted == 0 && r.refusal == GUVRENDIK_FORM && r.line == 1, "no register text at all");
     guvrendik_action_read a = guvrendik_read_action(NULL, 0);
     expect(a.accepted == 0 && a.refusal == GUVRENDIK_FORM && a.line == 1, "no action text at all");
+    guvrendik_plan_text_verdict p = guvrendik_judge_plan_text(small_register(), NULL, 0);
+    expect(p.accepted == 0 && p.refusal == GUVRENDIK_FORM && p.line == 1 && p.count == 0, "no plan text at all");
     guvrendik_written w = guvrendik_write_register(small_register(), NULL, 0);
     expect(w.accepted == 0 && w.refusal == GUVRENDIK_BUFFER && w.length == 0, "no buffer for a register");
     guvrendik_written v = guvrendik_verdict_text(NULL, 0, NULL, 0, NULL, 0);
@@ -842,6 +922,7 @@ static void do_boundary(payload *p) {
     pass_texts(register_text, action_text);
     pass_actions();
     pass_plans();
+    pass_plan_texts();
     pass_json();
     pass_nulls();
     free(register_text);
@@ -852,7 +933,7 @@ static void do_boundary(payload *p) {
 
 /* ---- Threads ---- */
 
-enum { THREAD_COUNT = 8, ACTION_TEXT = 4096, JSON_NOW = 1999 };
+enum { THREAD_COUNT = 8, ACTION_TEXT = 4096, PLAN_TEXT_MOST = 1 << 16, JSON_NOW = 1999 };
 
 /* What all calls are asked about. */
 typedef struct {
@@ -869,6 +950,8 @@ typedef struct {
     size_t action_len;
     uint8_t json_text[ACTION_TEXT];
     size_t json_len;
+    uint8_t plan_text[PLAN_TEXT_MOST];
+    size_t plan_len;
 } input;
 
 typedef struct {
@@ -886,16 +969,17 @@ typedef struct {
     guvrendik_written json_written;
     guvrendik_revoked cleared;
     guvrendik_revoked renewed;
+    guvrendik_plan_text_verdict plan_judged;
     uint8_t text[GUVRENDIK_REGISTER_TEXT];
     uint8_t lines[GUVRENDIK_VERDICT_TEXT];
     uint8_t page[GUVRENDIK_JSON_TEXT];
 } answers;
 
-/* A text with its length before it. */
-static size_t take_text(payload *p, void *text) {
+/* A text with its length before it, into so much room. */
+static size_t take_text(payload *p, void *text, size_t room) {
     size_t size = take64(p);
-    if (size > ACTION_TEXT) {
-        fprintf(stderr, "driver: action text too long\n");
+    if (size > room) {
+        fprintf(stderr, "driver: text too long\n");
         exit(1);
     }
     take(p, text, size);
@@ -914,11 +998,12 @@ static void take_input(payload *p, input *in) {
     in->resource = take32(p);
     in->caller = take32(p);
     in->moment = take64(p);
-    in->action_len = take_text(p, in->action_text);
-    in->json_len = take_text(p, in->json_text);
+    in->action_len = take_text(p, in->action_text, sizeof in->action_text);
+    in->json_len = take_text(p, in->json_text, sizeof in->json_text);
+    in->plan_len = take_text(p, in->plan_text, sizeof in->plan_text);
 }
 
-enum { CALLS = 14 };
+enum { CALLS = 15 };
 
 /* Where each call leaves its answer: a struct, and a text where it writes one. */
 static const struct {
@@ -932,6 +1017,7 @@ static const struct {
     {PART(action), 0, 0},       {PART(printed), PART(lines)},
     {PART(json), 0, 0},         {PART(json_written), PART(page)},
     {PART(cleared), 0, 0},      {PART(renewed), 0, 0},
+    {PART(plan_judged), 0, 0},
 #undef PART
 };
 
@@ -984,6 +1070,10 @@ static void make_call(size_t call, const input *in, const answers *known, answer
     case 13:
         out->renewed = guvrendik_clear_expired(in->r, in->caller, in->moment);
         settle(&out->renewed.state);
+        break;
+    case 14:
+        out->plan_judged = guvrendik_judge_plan_text(in->r, in->plan_text, in->plan_len);
+        settle_plan_text(&out->plan_judged);
         break;
     }
 }
@@ -1085,6 +1175,9 @@ static void stack_clear_expired(void) {
 }
 static void stack_gate(void) { stack_answers.verdict = guvrendik_gate(stack_input.r, stack_input.a); }
 static void stack_judge_plan(void) { stack_answers.judged = guvrendik_judge_plan(stack_input.r, stack_input.p); }
+static void stack_judge_plan_text(void) {
+    stack_answers.plan_judged = guvrendik_judge_plan_text(stack_input.r, stack_input.plan_text, stack_input.plan_len);
+}
 static void stack_contains(void) {
     const guvrendik_resource *one = &stack_input.r.resources.list[0], *two = &stack_input.r.resources.list[1];
     stack_answers.contained = guvrendik_contains(one->path, one->len, two->path, two->len);
@@ -1143,7 +1236,7 @@ static void do_stack(payload *p) {
     static void (*const bodies[CALLS])(void) = {
         stack_sound,    stack_grant,          stack_revoke,        stack_gate,        stack_judge_plan,
         stack_contains, stack_write_register, stack_read_register, stack_read_action, stack_verdict_text,
-        stack_read_json, stack_write_json,    stack_clear_resource, stack_clear_expired,
+        stack_read_json, stack_write_json,    stack_clear_resource, stack_clear_expired, stack_judge_plan_text,
     };
     take_input(p, &stack_input);
     uint64_t idle = stack_of(no_call), used[CALLS];
@@ -1273,6 +1366,7 @@ int main(void) {
         case WRITE_JSON: do_write_json(&p); break;
         case CLEAR_RESOURCE: do_clear_resource(&p); break;
         case CLEAR_EXPIRED: do_clear_expired(&p); break;
+        case PLAN_TEXT: do_plan_text(&p); break;
         case BOUNDARY: do_boundary(&p); break;
         case THREADS: do_threads(&p); break;
         case STACK: do_stack(&p); break;

@@ -6,7 +6,7 @@ ghost use Prim.Native.Nat.{_-_};
 ghost use lib.ListN.{length, replicate};
 ghost use Rattle.actions.specs.Actions.{noUse, useLimit, governLimit, noAction};
 ghost use Rattle.lines.specs.Answers.{stateOf};
-ghost use Rattle.text_rules.specs.Actions.{readUse, readUses, readGoverns, actionRead, actionEnding};
+ghost use Rattle.text_rules.specs.Actions.{readUse, readUses, readGoverns, readAction, actionRead, actionEnding};
 ghost use Rattle.register_reading.specs.Reads.{Reads};
 use actions::Action;
 use actions::Usage;
@@ -36,6 +36,12 @@ struct GovernsRead {
     governs: [u32; Action::GOVERNED],
     governed: usize,
     cursor: Cursor,
+}
+
+// The action that lines say, and where the reading then stands.
+pub struct ActionForm {
+    pub action: Action,
+    pub cursor: Cursor,
 }
 
 // The lines `use` and `right`.
@@ -130,9 +136,10 @@ fn answer(s: &[u8], c: Cursor, action: Action) -> ActionRead
 {
     if !lines::goes_on(s, c) {
         let none = no_action();
+        let why = c.refusal;
         return ActionRead {
             action: none,
-            outcome: Outcome::Refused(text_rules::refusal_of(c.refusal)),
+            outcome: Outcome::Refused(why),
             line: c.line,
         };
     }
@@ -143,16 +150,15 @@ fn answer(s: &[u8], c: Cursor, action: Action) -> ActionRead
     }
 }
 
-// Reads a text as an action.
-pub fn read_action(text: &[u8]) -> ActionRead
-    ensures { λ r. ⌜ r ≡ actionRead (now (text .entry)) ⌝ }
+// The lines of an action, from `now` to the last `govern`.
+pub fn read_lines(s: &[u8], c: Cursor) -> ActionForm
+    ensures { λ r. ⌜ Reads (now (s .entry)) (r .action) (r .cursor) (readAction (stateOf (now (s .entry)) c)) ⌝ }
 {
-    let moment = lines::read_number(text, lines::start(), b"now=", 0, MOMENT_END - 1);
-    let actor = lines::read_number(text, moment.cursor, b"actor=", 0, ID_LIMIT as u64);
-    let flags = lines::read_number(text, actor.cursor, b"flags=", 0, FLAGS_LIMIT);
-    let first = read_uses(text, flags.cursor);
-    let second = read_governs(text, first.cursor);
-    let end = lines::finish(text, second.cursor);
+    let moment = lines::read_number(s, c, b"now=", 0, MOMENT_END - 1);
+    let actor = lines::read_number(s, moment.cursor, b"actor=", 0, ID_LIMIT as u64);
+    let flags = lines::read_number(s, actor.cursor, b"flags=", 0, FLAGS_LIMIT);
+    let first = read_uses(s, flags.cursor);
+    let second = read_governs(s, first.cursor);
     let uses = first.uses;
     let governs = second.governs;
     let action = Action {
@@ -164,5 +170,16 @@ pub fn read_action(text: &[u8]) -> ActionRead
         governs,
         governed: second.governed,
     };
+    let cursor = second.cursor;
+    ActionForm { action, cursor }
+}
+
+// Reads a text as an action.
+pub fn read_action(text: &[u8]) -> ActionRead
+    ensures { λ r. ⌜ r ≡ actionRead (now (text .entry)) ⌝ }
+{
+    let form = read_lines(text, lines::start());
+    let action = form.action;
+    let end = lines::finish(text, form.cursor);
     answer(text, end, action)
 }

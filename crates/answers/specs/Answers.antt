@@ -22,6 +22,8 @@ use Rattle.text_rules.specs.declared.RegisterRead.{RegisterRead}
 use Rattle.text_rules.specs.declared.ActionRead.{ActionRead}
 use Rattle.buffers.specs.declared.Written.{Written}
 use Rattle.json_rules.specs.declared.JsonRead.{JsonRead}
+use Rattle.steps.specs.Steps.{textActionLimit}
+use Rattle.steps.specs.declared.PlanTextVerdict.{PlanTextVerdict}
 use Rattle.answers.specs.declared.Containment.{Containment}
 use Rattle.answers.specs.declared.Soundness.{Soundness}
 use Rattle.answers.specs.declared.GrantAnswer.{GrantAnswer}
@@ -30,6 +32,7 @@ use Rattle.answers.specs.declared.ViolationNumbers.{ViolationNumbers}
 use Rattle.answers.specs.declared.GateAnswer.{GateAnswer}
 use Rattle.answers.specs.declared.JudgementNumbers.{JudgementNumbers}
 use Rattle.answers.specs.declared.PlanAnswer.{PlanAnswer}
+use Rattle.answers.specs.declared.PlanTextAnswer.{PlanTextAnswer}
 use Rattle.answers.specs.declared.RegisterAnswer.{RegisterAnswer}
 use Rattle.answers.specs.declared.ActionAnswer.{ActionAnswer}
 use Rattle.answers.specs.declared.WrittenAnswer.{WrittenAnswer}
@@ -133,6 +136,20 @@ planAnswer v = record {
   count = v .count;
 }
 
+-- a plan text: the outcome, the failing line, the position of the action that stopped it, and the verdicts with their count
+abbrev pub textJudgementList : PlanTextVerdict → List JudgementNumbers
+textJudgementList v = filled (λ j. judgementNumbers (j .what)) noJudgement textActionLimit (v .count) (v .list)
+
+abbrev pub planTextAnswer : PlanTextVerdict → PlanTextAnswer
+planTextAnswer v = record {
+  accepted = acceptedNumber (v .outcome);
+  refusal = refusalNumber (v .outcome);
+  line = v .line;
+  position = v .position;
+  list = textJudgementList v;
+  count = v .count;
+}
+
 -- a reading: the register or the action, beside its outcome and the line
 abbrev pub registerAnswer : RegisterRead → RegisterAnswer
 registerAnswer r = record {
@@ -171,4 +188,4 @@ jsonAnswer r = record {
 
 -- the version of the calls, as the header has it
 abbrev pub versionNumbers : VersionNumbers
-versionNumbers = record { major = 1; minor = 0; patch = 0 }
+versionNumbers = record { major = 1; minor = 1; patch = 0 }

@@ -22,16 +22,18 @@ use Rattle.actions.specs.declared.PlanVerdict.{PlanVerdict}
 use Rattle.text_rules.specs.declared.RegisterRead.{RegisterRead}
 use Rattle.text_rules.specs.declared.ActionRead.{ActionRead}
 use Rattle.json_rules.specs.declared.JsonRead.{JsonRead}
+use Rattle.steps.specs.declared.PlanTextVerdict.{PlanTextVerdict}
 use Rattle.answers.specs.declared.GrantAnswer.{GrantAnswer}
 use Rattle.answers.specs.declared.RevokeAnswer.{RevokeAnswer}
 use Rattle.answers.specs.declared.ViolationNumbers.{ViolationNumbers}
 use Rattle.answers.specs.declared.GateAnswer.{GateAnswer}
 use Rattle.answers.specs.declared.JudgementNumbers.{JudgementNumbers}
 use Rattle.answers.specs.declared.PlanAnswer.{PlanAnswer}
+use Rattle.answers.specs.declared.PlanTextAnswer.{PlanTextAnswer}
 use Rattle.answers.specs.declared.RegisterAnswer.{RegisterAnswer}
 use Rattle.answers.specs.declared.ActionAnswer.{ActionAnswer}
 use Rattle.answers.specs.declared.JsonAnswer.{JsonAnswer}
-use Rattle.answers.specs.Answers.{containment, yesNumber, acceptedNumber, refusalNumber, grantAnswer, revokeAnswer, decisionNumber, stopNumber, violationList, gateAnswer, judgementList, planAnswer, registerAnswer, actionAnswer, jsonAnswer}
+use Rattle.answers.specs.Answers.{containment, yesNumber, acceptedNumber, refusalNumber, grantAnswer, revokeAnswer, decisionNumber, stopNumber, violationList, gateAnswer, judgementList, planAnswer, textJudgementList, planTextAnswer, registerAnswer, actionAnswer, jsonAnswer}
 use Rattle.answers.specs.declared.Containment.{Containment}
 
 -- the same by the one answer that tells both
@@ -87,6 +89,11 @@ pub plan-told : {v w : PlanVerdict} {a n : ℕ} {l : List JudgementNumbers} → 
     → l ≡ judgementList v
     → _≡_ {A = PlanAnswer} (record { accepted = a; refusal = n; position = v .position; list = l; count = v .count }) (planAnswer w)
 plan-told same accepted refused judged = rw (sym same, accepted, refused, judged)
+
+pub plan-text-told : {v w : PlanTextVerdict} {a n : ℕ} {l : List JudgementNumbers} → v ≡ w → a ≡ acceptedNumber (v .outcome) → n ≡ refusalNumber (v .outcome)
+    → l ≡ textJudgementList v
+    → _≡_ {A = PlanTextAnswer} (record { accepted = a; refusal = n; line = v .line; position = v .position; list = l; count = v .count }) (planTextAnswer w)
+plan-text-told same accepted refused judged = rw (sym same, accepted, refused, judged)
 
 pub register-told : {g h : RegisterRead} {a n : ℕ} → g ≡ h → a ≡ acceptedNumber (g .outcome) → n ≡ refusalNumber (g .outcome)
     → _≡_ {A = RegisterAnswer} (record { state = g .register; accepted = a; refusal = n; line = g .line }) (registerAnswer h)

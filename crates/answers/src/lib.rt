@@ -2,7 +2,7 @@
 // Here is what gives the numbers of an inner answer. No call asks anything of its caller, and no
 // answer whose numbers are all zero is a yes.
 ghost use mathlib.Core.Path.{_≡_};
-ghost use Rattle.answers.specs.Answers.{yesNumber, acceptedNumber, refusalNumber, decisionNumber, stopNumber, violationNumbers, violationList, judgementNumbers, judgementList, writtenAnswer, versionNumbers};
+ghost use Rattle.answers.specs.Answers.{yesNumber, acceptedNumber, refusalNumber, decisionNumber, stopNumber, violationNumbers, violationList, judgementNumbers, judgementList, textJudgementList, writtenAnswer, versionNumbers};
 ghost use Rattle.answers.specs.Laws.{containmentOf, grantedAnswer, withdrawnAnswer};
 use actions::Action;
 use actions::Decision;
@@ -20,6 +20,8 @@ use register::Claim;
 use register::Claims;
 use register::Register;
 use register::Resources;
+use steps::PlanTextVerdict;
+use steps::TEXT_ACTIONS;
 use withdrawing::Struck;
 
 // The answer of a containment: 1 for a yes, with the length of the trimmed outer path, which may be 0. Else zeros.
@@ -92,6 +94,18 @@ pub struct PlanAnswer {
     pub count: usize,
 }
 
+// The answer for a plan text: accepted is 1, with a verdict to each action in reading order. Else it is 0, with 01's or 02's number, the failing
+// line of the text from 1, or the position of the action that stopped the plan. Past the count, zeros.
+#[repr(C)]
+pub struct PlanTextAnswer {
+    pub accepted: u32,
+    pub refusal: u32,
+    pub line: usize,
+    pub position: usize,
+    pub list: [JudgementNumbers; TEXT_ACTIONS],
+    pub count: usize,
+}
+
 // The answer of a reading of a register's text: accepted is 1, with the register and line 0. Else it is 0, with 01's number, the empty
 // register, and the failing line from 1, or 0 where the register is not sound.
 #[repr(C)]
@@ -146,7 +160,7 @@ pub fn version() -> VersionNumbers
 {
     VersionNumbers {
         major: 1,
-        minor: 0,
+        minor: 1,
         patch: 0,
     }
 }
@@ -242,7 +256,8 @@ pub fn violations(vs: Violations) -> [ViolationNumbers; Violations::MOST]
     list
 }
 
-fn judgement(j: Judgement) -> JudgementNumbers
+// The numbers of a verdict on an action.
+pub fn judgement(j: Judgement) -> JudgementNumbers
     ensures { λ y. ⌜ y ≡ judgementNumbers j ⌝ }
 {
     JudgementNumbers {
@@ -261,6 +276,26 @@ pub fn judgements(v: PlanVerdict) -> [JudgementNumbers; Plan::ACTIONS]
         violations: 0,
     };
     let mut list = [none; Plan::ACTIONS];
+    let mut i: usize = 0;
+    while i < top {
+        let j = v.list[i];
+        let what = j.what;
+        list[i] = judgement(what);
+        i += 1;
+    }
+    list
+}
+
+// The same of a plan text.
+pub fn text_judgements(v: PlanTextVerdict) -> [JudgementNumbers; TEXT_ACTIONS]
+    ensures { λ y. ⌜ y ≡ textJudgementList v ⌝ }
+{
+    let top = lists::least(v.count, TEXT_ACTIONS);
+    let none = JudgementNumbers {
+        decision: 0,
+        violations: 0,
+    };
+    let mut list = [none; TEXT_ACTIONS];
     let mut i: usize = 0;
     while i < top {
         let j = v.list[i];

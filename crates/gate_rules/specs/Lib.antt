@@ -12,3 +12,4 @@ pub mod Reaching
 pub mod Bounds
 pub mod Cancelling
 pub mod Sameness
+pub mod SameActions

@@ -8,10 +8,10 @@ use lib.Dec.{eqb}
 use lib.ListN.{length, getD, drop, replicate, drop-of-length-le, length-append, length-drop}
 use lib.Seq.{drop-drop}
 use borrow.Author.Tests.{eq-eqb, ne-eqb, le-leb, lt-leb, lt-ltb, le-ltb}
-use Rattle.register.specs.Limits.{humanKind, machineKind, pathLimit, pathByteLeast, pathByteGreatest}
+use Rattle.register.specs.Limits.{pathLimit, pathByteLeast, pathByteGreatest}
 use Rattle.decimals.specs.Decimals.{Parsed, got, large, bad, parse}
 use Rattle.decimals.specs.Walk.{drop-byte}
-use Rattle.lines.specs.Lines.{lineFeed, Line, line, beyond, fault, begins, ended, parseLimited, atLeast, decimalLine, humanLine, machineLine, parseKind, scopeKey, pathOn, parseScope}
+use Rattle.lines.specs.Lines.{lineFeed, Line, line, beyond, fault, begins, ended, parseLimited, atLeast, decimalLine, parseWord, scopeKey, pathOn, parseScope}
 use Rattle.lines.specs.Answers.{PathSays}
 use Rattle.lines.specs.Laws.{begins-split, limited-read, decimal-line-length}
 use Rattle.lines.specs.declared.PathRead.{PathRead}
@@ -113,20 +113,23 @@ pub at-least-fault : (least : ℕ) (p : Line ℕ) → p ≡ fault → atLeast le
 unfolding atLeast
 at-least-fault least p e = rw e
 
--- what the keys' tests make of an actor's kind and of a path's line
+-- what the keys' tests make of a line of two words
+module _ (first : List ℕ) (one : ℕ) (second : List ℕ) (other : ℕ) (s : List ℕ) (at : ℕ) where
+  pub word-first : begins first (drop at s) ≡ true → parseWord first one second other (drop at s) ≡ line one (drop (at + length first) s)
+  unfolding parseWord
+  word-first e = rw (e, drop-drop)
+
+  pub word-second : begins first (drop at s) ≡ false → begins second (drop at s) ≡ true →
+      parseWord first one second other (drop at s) ≡ line other (drop (at + length second) s)
+  unfolding parseWord
+  word-second e f = rw (e, f, drop-drop)
+
+  pub word-none : begins first (drop at s) ≡ false → begins second (drop at s) ≡ false → parseWord first one second other (drop at s) ≡ fault
+  unfolding parseWord
+  word-none e f = rw (e, f)
+
+-- what the key's test makes of a path's line
 module _ (s : List ℕ) (at : ℕ) where
-  pub kind-human : begins humanLine (drop at s) ≡ true → parseKind (drop at s) ≡ line humanKind (drop (at + 11) s)
-  unfolding parseKind
-  kind-human e = rw (e, drop-drop)
-
-  pub kind-machine : begins humanLine (drop at s) ≡ false → begins machineLine (drop at s) ≡ true → parseKind (drop at s) ≡ line machineKind (drop (at + 13) s)
-  unfolding parseKind
-  kind-machine e f = rw (e, f, drop-drop)
-
-  pub kind-none : begins humanLine (drop at s) ≡ false → begins machineLine (drop at s) ≡ false → parseKind (drop at s) ≡ fault
-  unfolding parseKind
-  kind-none e f = rw (e, f)
-
   pub scope-none : begins scopeKey (drop at s) ≡ false → parseScope (drop at s) ≡ fault
   unfolding parseScope
   scope-none e = rw e

@@ -5,9 +5,10 @@ use mathlib.Core.Path.{_≡_}
 use mathlib.Core.List.{List}
 use mathlib.Core.Bool.{true, false, cond, _&&_}
 use lib.ListN.{length, drop}
-use lib.Dec.{eqb, leb}
-use Rattle.lines.specs.Lines.{Line, line, beyond, fault, heldPath}
-use Rattle.lines.specs.Reading.{Read, failed, State, going}
+use lib.Dec.{leb}
+use Rattle.refusals.specs.declared.Refusal.the-variants.{Form}
+use Rattle.lines.specs.Lines.{Line, line, beyond, fault, parseWord, actionStep, actionStepLine, planStep, planStepLine, heldPath}
+use Rattle.lines.specs.Reading.{Read, failed, State, going, taken}
 use Rattle.lines.specs.declared.LineRead.{LineRead}
 use Rattle.lines.specs.declared.LineRead.the-variants.{Value, Over, Fault}
 use Rattle.lines.specs.declared.PathRead.{PathRead}
@@ -15,10 +16,19 @@ use Rattle.lines.specs.declared.Field.{Field}
 use Rattle.lines.specs.declared.Scope.{Scope}
 use Rattle.lines.specs.declared.Cursor.{Cursor}
 
--- a reading by the code: it goes on where it has no refusal and stands within the text, with no more lines than bytes behind it
+-- the next line is of one of two words, each with its number
+abbrev pub readWord : List ℕ → ℕ → List ℕ → ℕ → State → Read ℕ
+readWord first one second other (going t l) = taken 0 Form l (parseWord first one second other t)
+readWord first one second other (failed why l) = record { value = 0; state = failed why l }
+
+-- the next line is that of a step
+abbrev pub readStep : State → Read ℕ
+readStep st = readWord actionStepLine actionStep planStepLine planStep st
+
+-- a reading by the code: it goes on where it is on and stands within the text, with no more lines than bytes behind it
 abbrev pub stateOf : List ℕ → Cursor → State
 stateOf s c =
-    cond (eqb (c .refusal) 0 && (leb (c .at) (length s) && leb (c .line) (c .at))) (going (drop (c .at) s) (c .line + 1)) (failed (c .refusal) (c .line))
+    cond (c .on && (leb (c .at) (length s) && leb (c .line) (c .at))) (going (drop (c .at) s) (c .line + 1)) (failed (c .refusal) (c .line))
 
 -- the code's answer for a line that begins at a position of s
 abbrev pub LineSays : List ℕ → ℕ → LineRead → Line ℕ → Type 0

@@ -15,7 +15,8 @@ use Rattle.register.specs.Limits.{humanKind, machineKind, pathLimit, pathByteLe
 use Rattle.decimals.specs.Decimals.{digits, Parsed, got, large, bad, parse}
 use Rattle.decimals.specs.Laws.{parse-digits, digits-parse}
 use Rattle.decimals.specs.Answers.{starts}
-use Rattle.lines.specs.Lines.{lineFeed, Line, line, beyond, fault, begins, ended, parseLimited, atLeast, parseDecimal, decimalLine, humanLine, machineLine, parseKind, kindLine, scopeKey, pathOn, parseScope, scopeLine}
+use Rattle.refusals.specs.declared.Refusal.{Refusal}
+use Rattle.lines.specs.Lines.{lineFeed, Line, line, beyond, fault, begins, ended, parseLimited, atLeast, parseDecimal, decimalLine, parseWord, wordLine, humanLine, machineLine, parseKind, kindLine, scopeKey, pathOn, parseScope, scopeLine}
 use Rattle.lines.specs.Reading.{State, going, failed, decimal, taken, readForm, LineForm, kind}
 
 abbrev pub formFits : LineForm → ℕ → Bool
@@ -117,31 +118,47 @@ pub decimal-line-length : (key : List ℕ) (n : ℕ) → length (decimalLine key
 unfolding decimalLine
 decimal-line-length key n = simp length-append (omega arith)
 
+-- A line of one of two words, of which the first does not begin the second, with two numbers.
+module _ (first : List ℕ) (one : ℕ) (second : List ℕ) (other : ℕ) where
+  pub word-reads : ((rest : List ℕ) → begins first (second ++ rest) ≡ false) → (n : ℕ) (rest : List ℕ) → eqb n one || eqb n other ≡ true →
+      parseWord first one second other (wordLine first one second n ++ rest) ≡ line n rest
+  unfolding parseWord wordLine
+  word-reads apart n rest h =
+      cases (eqb n one)
+      (λ e. rw (e, begins-append first rest, drop-append-seam first rest) (ap (λ (m : ℕ). line m rest) (sym (eqb-true n one e))))
+      (λ e.
+      let same = eqb-true n other (or-other (eqb n one) (eqb n other) h e) in
+      rw (e, apart rest, begins-append second rest, drop-append-seam second rest) (ap (λ (m : ℕ). line m rest) (sym same)))
+
+  pub word-read : eqb other one ≡ false → (n : ℕ) (rest t : List ℕ) → parseWord first one second other t ≡ line n rest →
+      (t ≡ wordLine first one second n ++ rest) × (eqb n one || eqb n other ≡ true)
+  unfolding parseWord wordLine
+  word-read differ n rest t h = go (begins first t) (begins second t) refl refl h
+    where
+      go : (x y : Bool) → begins first t ≡ x → begins second t ≡ y →
+          cond x (line one (drop (length first) t)) (cond y (line other (drop (length second) t)) fault) ≡ line n rest →
+          (t ≡ cond (eqb n one) first second ++ rest) × (eqb n one || eqb n other ≡ true)
+      go true y e f p =
+          let same : one ≡ n = cc in
+          let follows : drop (length first) t ≡ rest = cc in
+          rw (← same, eq-eqb one one refl) (rw follows at (begins-split first t e), refl)
+      go false true e f p =
+          let same : other ≡ n = cc in
+          let follows : drop (length second) t ≡ rest = cc in
+          rw (← same, differ, eq-eqb other other refl) (rw follows at (begins-split second t f), refl)
+      go false false e f p = line-fault-clash p
+
 -- The line of an actor's kind.
+human-apart : (rest : List ℕ) → begins humanLine (machineLine ++ rest) ≡ false
+unfolding begins
+human-apart rest = refl
+
 pub kind-reads : (k : ℕ) (rest : List ℕ) → eqb k humanKind || eqb k machineKind ≡ true → parseKind (kindLine k ++ rest) ≡ line k rest
-unfolding parseKind kindLine begins
-kind-reads k rest h =
-    cases (eqb k humanKind)
-    (λ e. let same : k ≡ humanKind = eqb-true k humanKind e in rw same)
-    (λ e. let same : k ≡ machineKind = eqb-true k machineKind (or-other (eqb k humanKind) (eqb k machineKind) h e) in rw same)
+kind-reads = word-reads humanLine humanKind machineLine machineKind human-apart
 
 pub kind-read : (k : ℕ) (rest t : List ℕ) → parseKind t ≡ line k rest →
     (t ≡ kindLine k ++ rest) × (eqb k humanKind || eqb k machineKind ≡ true)
-unfolding parseKind kindLine
-kind-read k rest t h = go (begins humanLine t) (begins machineLine t) refl refl h
-  where
-    go : (x y : Bool) → begins humanLine t ≡ x → begins machineLine t ≡ y →
-        cond x (line humanKind (drop (length humanLine) t)) (cond y (line machineKind (drop (length machineLine) t)) fault) ≡ line k rest →
-        (t ≡ cond (eqb k humanKind) humanLine machineLine ++ rest) × (eqb k humanKind || eqb k machineKind ≡ true)
-    go true y e f p =
-        let same : humanKind ≡ k = cc in
-        let follows : drop (length humanLine) t ≡ rest = cc in
-        rw (← same) (rw follows at (begins-split humanLine t e), refl)
-    go false true e f p =
-        let same : machineKind ≡ k = cc in
-        let follows : drop (length machineLine) t ≡ rest = cc in
-        rw (← same) (rw follows at (begins-split machineLine t f), refl)
-    go false false e f p = line-fault-clash p
+kind-read = word-read humanLine humanKind machineLine machineKind refl
 
 -- a byte of a path
 abbrev isPathByte : ℕ → Bool
@@ -222,14 +239,14 @@ scope-read p rest t h = go (begins scopeKey t) refl h
     go false e q = line-fault-clash q
 
 -- What a reading gives is what stands for it where the line fails, or the line's value.
-taken-value : {A : Type 0} (Q : A → Type 0) (none : A) (above l : ℕ) (p : Line A) → Q none → ((a : A) (rest : List ℕ) → p ≡ line a rest → Q a) →
+taken-value : {A : Type 0} (Q : A → Type 0) (none : A) (above : Refusal) (l : ℕ) (p : Line A) → Q none → ((a : A) (rest : List ℕ) → p ≡ line a rest → Q a) →
     Q (taken none above l p .value)
 taken-value Q none above l (line a rest) q f = f a rest refl
 taken-value Q none above l beyond q f = q
 taken-value Q none above l fault q f = q
 
 -- a number is at most its greatest
-pub form-bound : (key : List ℕ) (least greatest above : ℕ) (st : State) → readForm (decimal key least greatest above) st .value ≤ greatest
+pub form-bound : (key : List ℕ) (least greatest : ℕ) (above : Refusal) (st : State) → readForm (decimal key least greatest above) st .value ≤ greatest
 form-bound key least greatest above (going t l) =
     taken-value (λ n. n ≤ greatest) 0 above l (parseDecimal key least greatest t) (omega arith) (λ n rest e. decimal-value key least greatest n rest t e)
 form-bound key least greatest above (failed why l) = omega arith

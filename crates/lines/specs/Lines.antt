@@ -1,4 +1,4 @@
--- Believed: A line of a text, `key=value` and LF: a decimal, an actor's kind, a path. What a text begins with, and the text of each.
+-- Believed: A line of a text, `key=value` and LF: a decimal, one of two words, a path. What a text begins with, and the text of each.
 use Prim.Native.Nat.{ℕ, _-_}
 use mathlib.Core.List.{List, [], _∷_, _++_}
 use mathlib.Core.Bool.{Bool, true, false, cond}
@@ -50,6 +50,16 @@ parseDecimal key least greatest t = atLeast least (parseLimited key greatest t)
 unfoldable pub decimalLine : List ℕ → ℕ → List ℕ
 decimalLine key n = key ++ (digits n ++ (lineFeed ∷ []))
 
+-- a line of one of two words, each with its number
+unfoldable pub parseWord : List ℕ → ℕ → List ℕ → ℕ → List ℕ → Line ℕ
+parseWord first one second other t =
+    cond (begins first t) (line one (drop (length first) t))
+    (cond (begins second t) (line other (drop (length second) t)) fault)
+
+-- its text
+unfoldable pub wordLine : List ℕ → ℕ → List ℕ → ℕ → List ℕ
+wordLine first one second n = cond (eqb n one) first second
+
 -- the line of each kind
 abbrev pub humanLine : List ℕ
 humanLine = bytes "kind=human\n"
@@ -58,14 +68,30 @@ abbrev pub machineLine : List ℕ
 machineLine = bytes "kind=machine\n"
 
 -- an actor's kind
-unfoldable pub parseKind : List ℕ → Line ℕ
-parseKind t =
-    cond (begins humanLine t) (line humanKind (drop (length humanLine) t))
-    (cond (begins machineLine t) (line machineKind (drop (length machineLine) t)) fault)
+abbrev pub parseKind : List ℕ → Line ℕ
+parseKind t = parseWord humanLine humanKind machineLine machineKind t
 
 -- its text
-unfoldable pub kindLine : ℕ → List ℕ
-kindLine k = cond (eqb k humanKind) humanLine machineLine
+abbrev pub kindLine : ℕ → List ℕ
+kindLine k = wordLine humanLine humanKind machineLine k
+
+-- what a step of a plan is: an action, or a whole plan
+abbrev pub actionStep : ℕ
+actionStep = 1
+
+abbrev pub planStep : ℕ
+planStep = 2
+
+-- the line of each
+abbrev pub actionStepLine : List ℕ
+actionStepLine = bytes "step=action\n"
+
+abbrev pub planStepLine : List ℕ
+planStepLine = bytes "step=plan\n"
+
+-- the line of a step
+abbrev pub parseStep : List ℕ → Line ℕ
+parseStep t = parseWord actionStepLine actionStep planStepLine planStep t
 
 -- the key of a path
 abbrev pub scopeKey : List ℕ

@@ -1,34 +1,36 @@
 // Lines `key=value` of a text, each ended by LF, read one behind the other.
 // The slice is lent, of any length and content. A reading that failed stays as it is: the first
-// failing line decides.
+// failing line decides, with the refusal of that line.
 ghost use mathlib.Core.Path.{_≡_};
-ghost use mathlib.Core.Bool.{false, _&&_};
+ghost use mathlib.Core.Bool.{true, false, _&&_};
 ghost use mathlib.Core.List.{[]};
 ghost use Prim.Native.Nat.{_+_, _≤_, _<_};
-ghost use lib.Dec.{eqb, leb};
+ghost use lib.Dec.{leb};
 ghost use lib.ListN.{length, drop};
 ghost use Rattle.lines.specs.Lines.{begins, parseLimited, parseDecimal, pathOn, heldPath};
 ghost use Rattle.lines.specs.Reading.{decimal, number, count, kind, readForm, readScope, closed};
-ghost use Rattle.lines.specs.Answers.{LineSays, PathSays, FieldSays, ScopeSays, stateOf};
+ghost use Rattle.lines.specs.Answers.{LineSays, PathSays, FieldSays, ScopeSays, stateOf, readWord, readStep};
 use decimals::Number;
+use refusals::Refusal;
 use register::Actor;
 use register::PATH_BYTE_GREATEST;
 use register::PATH_BYTE_LEAST;
 use register::Register;
 
-// 01's refusals of a text: it is not of the form; a count line is above its limit.
-pub const FORM_REFUSAL: u32 = 19;
+// What a step's line opens: an action, or a whole plan.
+pub const ACTION_STEP: u64 = 1;
 
-pub const COUNT_REFUSAL: u32 = 20;
+pub const PLAN_STEP: u64 = 2;
 
 // The byte that ends a line.
 const LINE_FEED: u8 = 10;
 
-// Where a reading stands: the position of the next line, and how many lines are behind it. Failed: a refusal that is not 0, and the line.
+// Where a reading stands: the position of the next line, and how many lines are behind it. Failed: not on, with the refusal, and the line.
 pub struct Cursor {
     pub at: usize,
     pub line: usize,
-    pub refusal: u32,
+    pub on: bool,
+    pub refusal: Refusal,
 }
 
 // A number that was read, 0 where the reading failed, and where it then stands.
@@ -59,22 +61,42 @@ pub struct PathRead {
     pub next: usize,
 }
 
-// Before the first line.
-pub fn start() -> Cursor
-    ensures { λ r. ⌜ r ≡ record { at = 0; line = 0; refusal = 0 } ⌝ }
+// A reading that is on, with so many lines behind it.
+pub fn behind(at: usize, line: usize) -> Cursor
+    ensures { λ r. ⌜ r ≡ record { at = at; line = line; on = true; refusal = Refusal.Form } ⌝ }
 {
     Cursor {
-        at: 0,
-        line: 0,
-        refusal: 0,
+        at,
+        line,
+        on: true,
+        refusal: Refusal::Form,
     }
 }
 
-// Whether a reading goes on: it has no refusal and stands within the text, with no more lines than bytes behind it.
-pub fn goes_on(s: &[u8], c: Cursor) -> bool
-    ensures { λ r. ⌜ r ≡ (eqb (c .refusal) 0 && (leb (c .at) (length (now (s .entry))) && leb (c .line) (c .at))) ⌝ }
+// Before the first line.
+pub fn start() -> Cursor
+    ensures { λ r. ⌜ r ≡ record { at = 0; line = 0; on = true; refusal = Refusal.Form } ⌝ }
 {
-    if c.refusal != 0 {
+    behind(0, 0)
+}
+
+// A reading that was refused at the last line behind it.
+pub fn refused(c: Cursor, refusal: Refusal) -> Cursor
+    ensures { λ r. ⌜ r ≡ record { at = c .at; line = c .line; on = false; refusal = refusal } ⌝ }
+{
+    Cursor {
+        at: c.at,
+        line: c.line,
+        on: false,
+        refusal,
+    }
+}
+
+// Whether a reading goes on: it is on and stands within the text, with no more lines than bytes behind it.
+pub fn goes_on(s: &[u8], c: Cursor) -> bool
+    ensures { λ r. ⌜ r ≡ (c .on && (leb (c .at) (length (now (s .entry))) && leb (c .line) (c .at))) ⌝ }
+{
+    if !c.on {
         return false;
     }
     if s.len() < c.at {
@@ -148,20 +170,27 @@ fn read_ranged(s: &[u8], at: usize, key: &[u8], least: u64, greatest: u64) -> Li
 }
 
 // A reading that fails at the next line.
-fn failing(c: Cursor, refusal: u32) -> Cursor
+fn failing(c: Cursor, refusal: Refusal) -> Cursor
     requires { ⌜ c .line < 18446744073709551615 ⌝ }
-    ensures { λ r. ⌜ r ≡ record { at = c .at; line = c .line + 1; refusal = refusal } ⌝ }
+    ensures { λ r. ⌜ r ≡ record { at = c .at; line = c .line + 1; on = false; refusal = refusal } ⌝ }
 {
     Cursor {
         at: c.at,
         line: c.line + 1,
+        on: false,
         refusal,
     }
 }
 
 // The next line of `key`, with the refusal of a number above the greatest.
-fn read_decimal(s: &[u8], c: Cursor, key: &[u8], least: u64, greatest: u64, above: u32) -> Field
-    requires { ⌜ 0 < above ⌝ }
+pub fn read_decimal(
+    s: &[u8],
+    c: Cursor,
+    key: &[u8],
+    least: u64,
+    greatest: u64,
+    above: Refusal,
+) -> Field
     ensures { λ r. ⌜ FieldSays (now (s .entry)) r (readForm (decimal (now (key .entry)) least greatest above) (stateOf (now (s .entry)) c)) ⌝ }
 {
     if !goes_on(s, c) {
@@ -172,11 +201,7 @@ fn read_decimal(s: &[u8], c: Cursor, key: &[u8], least: u64, greatest: u64, abov
     }
     match read_ranged(s, c.at, key, least, greatest) {
         LineRead::Value(value, next) => {
-            let cursor = Cursor {
-                at: next,
-                line: c.line + 1,
-                refusal: 0,
-            };
+            let cursor = behind(next, c.line + 1);
             Field { value, cursor }
         }
         LineRead::Over => {
@@ -184,7 +209,7 @@ fn read_decimal(s: &[u8], c: Cursor, key: &[u8], least: u64, greatest: u64, abov
             Field { value: 0, cursor }
         }
         LineRead::Fault => {
-            let cursor = failing(c, FORM_REFUSAL);
+            let cursor = failing(c, Refusal::Form);
             Field { value: 0, cursor }
         }
     }
@@ -194,19 +219,27 @@ fn read_decimal(s: &[u8], c: Cursor, key: &[u8], least: u64, greatest: u64, abov
 pub fn read_number(s: &[u8], c: Cursor, key: &[u8], least: u64, greatest: u64) -> Field
     ensures { λ r. ⌜ FieldSays (now (s .entry)) r (readForm (number (now (key .entry)) least greatest) (stateOf (now (s .entry)) c)) ⌝ }
 {
-    read_decimal(s, c, key, least, greatest, FORM_REFUSAL)
+    read_decimal(s, c, key, least, greatest, Refusal::Form)
 }
 
 // The next line of `key`, with a count up to its limit.
 pub fn read_count(s: &[u8], c: Cursor, key: &[u8], limit: u64) -> Field
     ensures { λ r. ⌜ FieldSays (now (s .entry)) r (readForm (count (now (key .entry)) limit) (stateOf (now (s .entry)) c)) ⌝ }
 {
-    read_decimal(s, c, key, 0, limit, COUNT_REFUSAL)
+    read_decimal(s, c, key, 0, limit, Refusal::Count)
 }
 
-// The next line, with an actor's kind.
-pub fn read_kind(s: &[u8], c: Cursor) -> Field
-    ensures { λ r. ⌜ FieldSays (now (s .entry)) r (readForm kind (stateOf (now (s .entry)) c)) ⌝ }
+// The next line, of one of two words, each with its number. A word is a whole line and no empty one.
+fn read_word<'a>(
+    s: &[u8],
+    c: Cursor,
+    first: &'a [u8],
+    one: u64,
+    second: &'a [u8],
+    other: u64,
+) -> Field
+    requires { ⌜ (0 < length (now first)) × (0 < length (now second)) ⌝ }
+    ensures { λ r. ⌜ FieldSays (now (s .entry)) r (readWord (now (first .entry)) one (now (second .entry)) other (stateOf (now (s .entry)) c)) ⌝ }
 {
     if !goes_on(s, c) {
         return Field {
@@ -214,30 +247,47 @@ pub fn read_kind(s: &[u8], c: Cursor) -> Field
             cursor: c,
         };
     }
-    if has_key(s, c.at, b"kind=human\n") {
-        let cursor = Cursor {
-            at: c.at + 11,
-            line: c.line + 1,
-            refusal: 0,
-        };
+    if has_key(s, c.at, first) {
+        let cursor = behind(c.at + first.len(), c.line + 1);
+        return Field { value: one, cursor };
+    }
+    if has_key(s, c.at, second) {
+        let cursor = behind(c.at + second.len(), c.line + 1);
         return Field {
-            value: Actor::HUMAN as u64,
+            value: other,
             cursor,
         };
     }
-    if has_key(s, c.at, b"kind=machine\n") {
-        let cursor = Cursor {
-            at: c.at + 13,
-            line: c.line + 1,
-            refusal: 0,
-        };
-        return Field {
-            value: Actor::MACHINE as u64,
-            cursor,
-        };
-    }
-    let cursor = failing(c, FORM_REFUSAL);
+    let cursor = failing(c, Refusal::Form);
     Field { value: 0, cursor }
+}
+
+// The next line, with an actor's kind.
+pub fn read_kind(s: &[u8], c: Cursor) -> Field
+    ensures { λ r. ⌜ FieldSays (now (s .entry)) r (readForm kind (stateOf (now (s .entry)) c)) ⌝ }
+{
+    read_word(
+        s,
+        c,
+        b"kind=human\n",
+        Actor::HUMAN as u64,
+        b"kind=machine\n",
+        Actor::MACHINE as u64,
+    )
+}
+
+// The next line, with what a step of a plan is.
+pub fn read_step(s: &[u8], c: Cursor) -> Field
+    ensures { λ r. ⌜ FieldSays (now (s .entry)) r (readStep (stateOf (now (s .entry)) c)) ⌝ }
+{
+    read_word(
+        s,
+        c,
+        b"step=action\n",
+        ACTION_STEP,
+        b"step=plan\n",
+        PLAN_STEP,
+    )
 }
 
 // No path.
@@ -305,18 +355,14 @@ pub fn read_scope(s: &[u8], c: Cursor) -> Scope
         return no_scope(c);
     }
     if !has_key(s, c.at, b"scope=") {
-        return no_scope(failing(c, FORM_REFUSAL));
+        return no_scope(failing(c, Refusal::Form));
     }
     let read = read_path(s, c.at + 6);
     if !read.ok {
-        return no_scope(failing(c, FORM_REFUSAL));
+        return no_scope(failing(c, Refusal::Form));
     }
     let path = read.path;
-    let cursor = Cursor {
-        at: read.next,
-        line: c.line + 1,
-        refusal: 0,
-    };
+    let cursor = behind(read.next, c.line + 1);
     Scope {
         path,
         len: read.len,
@@ -332,7 +378,7 @@ pub fn finish(s: &[u8], c: Cursor) -> Cursor
         return c;
     }
     if c.at < s.len() {
-        return failing(c, FORM_REFUSAL);
+        return failing(c, Refusal::Form);
     }
     c
 }

@@ -27,7 +27,7 @@ use Rattle.gate_rules.specs.Sameness.{planned-same}
 use Rattle.gate.specs.Judged.{Lent, lentIn, lentJudged}
 use Rattle.gate.specs.Sheets.{sheeted, sheeted-same}
 use Rattle.plans.specs.Judgements.{judgedAs, judgementsBy}
-use Rattle.plans.proofs.Laws.{judgements-by-nil, judgements-by-cons, judgements-natural}
+use Rattle.plans.specs.Laws.{judgements-by-nil, judgements-by-cons, judgements-natural}
 
 -- the verdict by the number of violations
 pub judged-none : (n : ℕ) → n ≡ 0 → Permitted ≡ judgedAs n

@@ -23,7 +23,7 @@ use Rattle.gate_rules.specs.Cancelling.{planned-stopped}
 use Rattle.gate.specs.Judged.{Lent, lentIn, lentTests}
 use Rattle.gate.specs.Sheets.{sheeted}
 use Rattle.plans.specs.Stops.{stopOf, haltBy}
-use Rattle.plans.proofs.Laws.{halt-by-nil, halt-by-pass, halt-by-fail, halt-natural}
+use Rattle.plans.specs.Laws.{halt-by-nil, halt-by-pass, halt-by-fail, halt-natural}
 use Rattle.plans.specs.declared.Stop.{Stop}
 
 -- of the actions, of which there are top, the loop has come to place i: none before it stops the plan

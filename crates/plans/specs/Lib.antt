@@ -1,2 +1,3 @@
 pub mod Stops
 pub mod Judgements
+pub mod Laws

@@ -6,11 +6,12 @@
 // refused with its number of violations. Soundness is judged, and what is looked at of the register
 // is taken out of it, once for the whole plan; it is lent to each action.
 ghost use mathlib.Core.Path.{_≡_};
-ghost use mathlib.Core.Bool.{false};
+ghost use mathlib.Core.Bool.{false, cond};
 ghost use Rattle.gate_rules.specs.Plans.{actionsOf, held, stopped, planned};
-ghost use Rattle.gate.specs.Judged.{lentOf};
+ghost use Rattle.gate.specs.Judged.{lentOf, lentJudged};
 ghost use Rattle.plans.specs.Stops.{stopOf, haltBy};
 ghost use Rattle.plans.specs.Judgements.{judgedAs, judgementsBy};
+use actions::Action;
 use actions::Judged;
 use actions::Judgement;
 use actions::Plan;
@@ -78,6 +79,26 @@ fn verdict_by(count: usize) -> Judgement
         return Judgement::Permitted;
     }
     Judgement::Refused(count)
+}
+
+// The verdict on an action, by what is lent.
+pub fn judge<'a>(
+    counts: Counts,
+    found: Findings,
+    lens: &'a [usize],
+    ends: &'a [u64],
+    sheet: &'a [u32],
+    bytes: &'a [u8],
+    a: Action,
+    cancelled: bool,
+) -> Judgement
+    ensures { λ y. ⌜ y ≡ cond cancelled Judgement.Cancelled (judgedAs (lentJudged (lentOf counts found (now (lens .entry)) (now (ends .entry)) (now (sheet .entry)) (now (bytes .entry))) a .violations .count)) ⌝ }
+{
+    if cancelled {
+        return Judgement::Cancelled;
+    }
+    let judged = gate::judge_by(counts, found, lens, ends, sheet, bytes, a);
+    verdict_by(judged.violations.count)
 }
 
 // The verdicts on the actions of a plan, by what is lent.

@@ -7,6 +7,7 @@ ghost use Rattle.soundness_rules.specs.Sound.{sound};
 ghost use Rattle.change_rules.specs.Changes.{granted, revoke, clearResource, clearExpired, withdrawn};
 ghost use Rattle.gate_rules.specs.Gate.{gated};
 ghost use Rattle.gate_rules.specs.Plans.{planned};
+ghost use Rattle.steps.specs.Judging.{planTextJudged};
 ghost use Rattle.text_rules.specs.Registers.{registerRead};
 ghost use Rattle.text_rules.specs.Actions.{actionRead};
 ghost use Rattle.buffers.specs.Buffers.{put};
@@ -14,7 +15,7 @@ ghost use Rattle.register_writing.specs.Writing.{registerWritten, registerBuffe
 ghost use Rattle.buffers.specs.Delivery.{delivered};
 ghost use Rattle.verdict_printing.specs.Printed.{printed};
 ghost use Rattle.json_rules.specs.Actions.{jsonRead, jsonWritten, jsonBuffer};
-ghost use Rattle.answers.specs.Answers.{containment, soundness, grantAnswer, revokeAnswer, gateAnswer, planAnswer, registerAnswer, actionAnswer, writtenAnswer, jsonAnswer, versionNumbers};
+ghost use Rattle.answers.specs.Answers.{containment, soundness, grantAnswer, revokeAnswer, gateAnswer, planAnswer, planTextAnswer, registerAnswer, actionAnswer, writtenAnswer, jsonAnswer, versionNumbers};
 ghost use Rattle.words.specs.Words.{refusalText, violationText, rightName, flagName};
 use actions::Action;
 use actions::Plan;
@@ -24,6 +25,7 @@ use answers::GateAnswer;
 use answers::GrantAnswer;
 use answers::JsonAnswer;
 use answers::PlanAnswer;
+use answers::PlanTextAnswer;
 use answers::RegisterAnswer;
 use answers::RevokeAnswer;
 use answers::Soundness;
@@ -116,6 +118,23 @@ pub extern "C" fn guvrendik_judge_plan(r: Register, p: Plan) -> PlanAnswer
         refusal: answers::refusal(outcome),
         position: verdict.position,
         list: answers::judgements(verdict),
+        count: verdict.count,
+    }
+}
+
+// The gate for a plan text, whose steps are actions and whole plans.
+#[no_mangle]
+pub extern "C" fn guvrendik_judge_plan_text(r: Register, text: &[u8]) -> PlanTextAnswer
+    ensures { λ y. ⌜ y ≡ planTextAnswer (planTextJudged r (now (text .entry))) ⌝ }
+{
+    let verdict = nested_plans::plan_text(r, text);
+    let outcome = verdict.outcome;
+    PlanTextAnswer {
+        accepted: answers::accepted(outcome),
+        refusal: answers::refusal(outcome),
+        line: verdict.line,
+        position: verdict.position,
+        list: answers::text_judgements(verdict),
         count: verdict.count,
     }
 }

@@ -5,13 +5,13 @@ use Prim.Native.Nat.{ℕ}
 use lib.ListN.{getD}
 use Rattle.refusals.specs.Refusals.{numberOf}
 use Rattle.refusals.specs.declared.Refusal.{Refusal}
-use Rattle.refusals.specs.declared.Refusal.the-variants.{Unsound, Range, Absent, Stands, Full, NotKeeper, Ownerless, NotByMachine, NoParent, NotHeld, NotLive, NoDelegate, RightLacking, WeightAbove, TooManyHops, Circle, NoClaim, NoGrantor, Form, Count, Buffer, JsonForm, JsonLacks}
+use Rattle.refusals.specs.declared.Refusal.the-variants.{Unsound, Range, Absent, Stands, Full, NotKeeper, Ownerless, NotByMachine, NoParent, NotHeld, NotLive, NoDelegate, RightLacking, WeightAbove, TooManyHops, Circle, NoClaim, NoGrantor, Form, Count, Buffer, TooDeep, TooManyActions, JsonForm, JsonLacks}
 
--- the refusals by their numbers; those that are no refusal's hold the first
+-- the refusals by their numbers; 0, which is no refusal's, holds the first
 refusals : List Refusal
 refusals =
     Unsound ∷ Unsound ∷ Range ∷ Absent ∷ Stands ∷ Full ∷ NotKeeper ∷ Ownerless ∷ NotByMachine ∷ NoParent ∷ NotHeld ∷ NotLive ∷ NoDelegate
-    ∷ RightLacking ∷ WeightAbove ∷ TooManyHops ∷ Circle ∷ NoClaim ∷ NoGrantor ∷ Form ∷ Count ∷ Buffer ∷ Unsound ∷ Unsound ∷ JsonForm ∷ JsonLacks
+    ∷ RightLacking ∷ WeightAbove ∷ TooManyHops ∷ Circle ∷ NoClaim ∷ NoGrantor ∷ Form ∷ Count ∷ Buffer ∷ TooDeep ∷ TooManyActions ∷ JsonForm ∷ JsonLacks
     ∷ []
 
 told-back : (why : Refusal) → getD refusals (numberOf why) Unsound ≡ why
@@ -37,6 +37,8 @@ told-back NoGrantor = refl
 told-back Form = refl
 told-back Count = refl
 told-back Buffer = refl
+told-back TooDeep = refl
+told-back TooManyActions = refl
 told-back JsonForm = refl
 told-back JsonLacks = refl
 

@@ -8,7 +8,7 @@ use Rattle.lists.specs.Tests.{cases}
 use Rattle.lists.specs.Lists.{All}
 use Rattle.refusals.specs.Refusals.{numberOf, Test, outcomeOf}
 use Rattle.refusals.specs.declared.Refusal.{Refusal}
-use Rattle.refusals.specs.declared.Refusal.the-variants.{Unsound, Range, Absent, Stands, Full, NotKeeper, Ownerless, NotByMachine, NoParent, NotHeld, NotLive, NoDelegate, RightLacking, WeightAbove, TooManyHops, Circle, NoClaim, NoGrantor, Form, Count, Buffer, JsonForm, JsonLacks}
+use Rattle.refusals.specs.declared.Refusal.the-variants.{Unsound, Range, Absent, Stands, Full, NotKeeper, Ownerless, NotByMachine, NoParent, NotHeld, NotLive, NoDelegate, RightLacking, WeightAbove, TooManyHops, Circle, NoClaim, NoGrantor, Form, Count, Buffer, TooDeep, TooManyActions, JsonForm, JsonLacks}
 use Rattle.refusals.specs.declared.Outcome.{Outcome}
 use Rattle.refusals.specs.declared.Outcome.the-variants.{Accepted, Refused}
 
@@ -35,6 +35,8 @@ number-bounds NoGrantor = (omega arith, omega arith)
 number-bounds Form = (omega arith, omega arith)
 number-bounds Count = (omega arith, omega arith)
 number-bounds Buffer = (omega arith, omega arith)
+number-bounds TooDeep = (omega arith, omega arith)
+number-bounds TooManyActions = (omega arith, omega arith)
 number-bounds JsonForm = (omega arith, omega arith)
 number-bounds JsonLacks = (omega arith, omega arith)
 

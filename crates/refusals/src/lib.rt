@@ -48,6 +48,10 @@ pub enum Refusal {
     Count,
     // 21: the buffer is too short for the text.
     Buffer,
+    // 22: a plan text goes deeper than 8 levels.
+    TooDeep,
+    // 23: a plan text has more than 64 actions.
+    TooManyActions,
     // 24: the text is not of the builder's form, or a number in it is out of range, or it has more than 32 uses.
     JsonForm,
     // 25: the builder's form has no place for a right above 2 or a governed entry.
@@ -85,6 +89,8 @@ pub fn number(why: Refusal) -> u32
         Refusal::Form => 19,
         Refusal::Count => 20,
         Refusal::Buffer => 21,
+        Refusal::TooDeep => 22,
+        Refusal::TooManyActions => 23,
         Refusal::JsonForm => 24,
         Refusal::JsonLacks => 25,
     }

@@ -219,7 +219,8 @@ fn answer(s: &[u8], c: Cursor, register: Register) -> RegisterRead
     ensures { λ r. ⌜ r ≡ registerEnding register (stateOf (now (s .entry)) c) ⌝ }
 {
     if !lines::goes_on(s, c) {
-        return refused(text_rules::refusal_of(c.refusal), c.line);
+        let why = c.refusal;
+        return refused(why, c.line);
     }
     if !soundness::is_sound(register) {
         return refused(Refusal::Unsound, 0);

@@ -1,8 +1,8 @@
 -- What an accepted reading and a refused one say of the state that the reading ended in. Assumes nothing.
 use Prim.Native.Nat.{ℕ}
-use mathlib.Core.Path.{_≡_, refl, ap}
+use mathlib.Core.Path.{_≡_, refl}
 use mathlib.Core.Bool.{Bool, true, false, cond}
-use mathlib.Core.List.{List, [], _∷_}
+use mathlib.Core.List.{List}
 use native.Mathlib.Omega.{arith}
 use Rattle.register.specs.Register.{emptyRegister}
 use Rattle.register.specs.declared.Register.{Register}
@@ -12,7 +12,7 @@ use Rattle.refusals.specs.declared.Refusal.{Refusal}
 use Rattle.refusals.specs.declared.Refusal.the-variants.{Unsound}
 use Rattle.actions.specs.declared.Action.{Action}
 use Rattle.actions.specs.Actions.{noAction}
-use Rattle.lines.specs.Reading.{State, going, failed, closed}
+use Rattle.lines.specs.Reading.{State, going, failed}
 use Rattle.text_rules.specs.Registers.{registerEnding}
 use Rattle.text_rules.specs.Actions.{actionEnding}
 use Rattle.text_rules.specs.declared.RegisterRead.{RegisterRead}
@@ -20,16 +20,6 @@ use Rattle.text_rules.specs.declared.RegisterRead.{RegisterRead}
 -- an outcome is not both
 pub outcome-clash : {A : Type 0} {why : Refusal} → Refused why ≡ Accepted → A
 outcome-clash e = let never : _≡_ {A = ℕ} 0 1 = cc in absurd (omega arith)
-
--- two readings at one place have one text before them
-pub going-same : (t u : List ℕ) (l m : ℕ) → going t l ≡ going u m → t ≡ u
-going-same t u l m e = cc
-
--- a reading that was closed and goes on stood at the end of the text
-pub closed-going : (st : State) (t : List ℕ) (l : ℕ) → closed st ≡ going t l → st ≡ going [] l
-closed-going (going [] m) t l h = let same : m ≡ l = cc in ap (going []) same
-closed-going (going (b ∷ u) m) t l h = let never : _≡_ {A = ℕ} 0 1 = cc in absurd (omega arith)
-closed-going (failed why m) t l h = let never : _≡_ {A = ℕ} 0 1 = cc in absurd (omega arith)
 
 -- an accepted answer: the reading goes on, the register is sound, and is the one answered
 pub record Accepting (r : Register) (st : State) : Type 0 where

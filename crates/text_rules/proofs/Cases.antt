@@ -23,11 +23,11 @@ use Rattle.refusals.specs.declared.Refusal.{Refusal}
 use Rattle.refusals.specs.declared.Refusal.the-variants.{Unsound, Form, Count}
 use Rattle.refusals.specs.declared.Outcome.the-variants.{Accepted, Refused}
 use Rattle.decimals.specs.Decimals.{digits, digitsWith, after, value, canonical, parse, digitRun}
-use Rattle.lines.specs.Lines.{begins, ended, parseLimited, atLeast, decimalLine, parseKind, kindLine, pathOn, parseScope, scopeLine}
+use Rattle.lines.specs.Lines.{begins, ended, parseLimited, atLeast, decimalLine, parseWord, wordLine, pathOn, parseScope, scopeLine}
 use Rattle.text_rules.specs.Records.{values, passed, linesText, many, texts}
 use Rattle.text_rules.specs.Registers.{readActors, readResources, readClaims, registerFrom, registerText, registerRead}
 use Rattle.actions.specs.Actions.{noUse, noAction}
-use Rattle.text_rules.specs.Actions.{readUses, readGoverns, actionOf, actionText, actionRead}
+use Rattle.text_rules.specs.Actions.{readUses, readGoverns, readAction, actionOf, actionText, actionRead}
 use Rattle.text_rules.specs.declared.RegisterRead.{RegisterRead}
 use Rattle.text_rules.specs.declared.ActionRead.{ActionRead}
 
@@ -62,11 +62,11 @@ abbrev pub caseText : List ℕ
 caseText = lined "register=1 actors=2 actor=1 kind=human owner=0 actor=2 kind=machine owner=1 resources=1 resource=10 public=0 keeper=1 scope=site/a claims=2 claim=1 parent=0 grantor=1 holder=1 resource=10 rights=19 weight=1000 expiry=0 claim=2 parent=1 grantor=1 holder=2 resource=10 rights=1 weight=600 expiry=2000"
 
 register-case-read : registerRead caseText ≡ record { register = caseR; outcome = Accepted; line = 0 }
-unfolding registerRead registerFrom readActors readResources readClaims values passed many parseLimited atLeast begins ended parse canonical digitRun after value parseKind parseScope pathOn sound withinLimits soundActors soundResources soundClaims acceptable alone over fresh drawn overChain machineMay drawnFrom rootKept namesStand claimFits resourceFits actorFits distinct chain circling rootGranted hasRight hasRights barsMachine
+unfolding registerRead registerFrom readActors readResources readClaims values passed many parseLimited atLeast begins ended parse canonical digitRun after value parseWord parseScope pathOn sound withinLimits soundActors soundResources soundClaims acceptable alone over fresh drawn overChain machineMay drawnFrom rootKept namesStand claimFits resourceFits actorFits distinct chain circling rootGranted hasRight hasRights barsMachine
 register-case-read = refl
 
 register-case-written : registerText caseR ≡ caseText
-unfolding registerText linesText texts decimalLine kindLine scopeLine digits digitsWith
+unfolding registerText linesText texts decimalLine wordLine scopeLine digits digitsWith
 register-case-written = refl
 
 -- a reading refused for a reason at a line
@@ -98,7 +98,7 @@ register-case-refused : map registerRead (
     ∷ refusedAt Count 2 ∷ refusedAt Form 2 ∷ refusedAt Count 2 ∷ refusedAt Form 2
     ∷ refusedAt Form 3 ∷ refusedAt Form 5 ∷ refusedAt Form 4 ∷ refusedAt Form 12 ∷ refusedAt Form 7
     ∷ refusedAt Form 31 ∷ refusedAt Form 31 ∷ [])
-unfolding registerRead registerFrom readActors readResources readClaims values passed many parseLimited atLeast begins ended parse canonical digitRun after value parseKind parseScope pathOn sound withinLimits soundActors soundResources soundClaims acceptable alone over fresh drawn overChain machineMay drawnFrom rootKept namesStand claimFits resourceFits actorFits distinct chain circling rootGranted hasRight hasRights barsMachine
+unfolding registerRead registerFrom readActors readResources readClaims values passed many parseLimited atLeast begins ended parse canonical digitRun after value parseWord parseScope pathOn sound withinLimits soundActors soundResources soundClaims acceptable alone over fresh drawn overChain machineMay drawnFrom rootKept namesStand claimFits resourceFits actorFits distinct chain circling rootGranted hasRight hasRights barsMachine
 register-case-refused = refl
 
 -- soundness comes last, with line 0: a human's owner is 0, and a keeper stands
@@ -107,7 +107,7 @@ register-case-unsound : map registerRead (
     ∷ lined "register=1 actors=1 actor=1 kind=human owner=0 resources=1 resource=10 public=0 keeper=9 scope=site/a claims=0"
     ∷ [])
     ≡ (refusedAt Unsound 0 ∷ refusedAt Unsound 0 ∷ [])
-unfolding registerRead registerFrom readActors readResources readClaims values passed many parseLimited atLeast begins ended parse canonical digitRun after value parseKind parseScope pathOn sound withinLimits soundActors soundResources soundClaims acceptable alone over fresh drawn overChain machineMay drawnFrom rootKept namesStand claimFits resourceFits actorFits distinct chain circling rootGranted hasRight hasRights barsMachine
+unfolding registerRead registerFrom readActors readResources readClaims values passed many parseLimited atLeast begins ended parse canonical digitRun after value parseWord parseScope pathOn sound withinLimits soundActors soundResources soundClaims acceptable alone over fresh drawn overChain machineMay drawnFrom rootKept namesStand claimFits resourceFits actorFits distinct chain circling rootGranted hasRight hasRights barsMachine
 register-case-unsound = refl
 
 -- the action of case R
@@ -129,7 +129,7 @@ abbrev pub actionCase : List ℕ
 actionCase = lined "now=1999 actor=2 flags=0 uses=2 use=10 right=0 use=10 right=1 governs=0"
 
 action-case-read : actionRead actionCase ≡ record { action = actionR; outcome = Accepted; line = 0 }
-unfolding actionRead actionOf readUses readGoverns values passed many parseLimited atLeast begins ended parse canonical digitRun after value
+unfolding actionRead actionOf readAction readUses readGoverns values passed many parseLimited atLeast begins ended parse canonical digitRun after value
 action-case-read = refl
 
 action-case-written : actionText actionR ≡ actionCase
@@ -152,5 +152,5 @@ action-case-refused : map actionRead (
     ∷ [])
     ≡ (actionRefusedAt Form 1 ∷ actionRefusedAt Form 2 ∷ actionRefusedAt Form 3 ∷ actionRefusedAt Count 4 ∷ actionRefusedAt Form 6
     ∷ actionRefusedAt Count 5 ∷ actionRefusedAt Form 6 ∷ actionRefusedAt Form 10 ∷ [])
-unfolding actionRead actionOf readUses readGoverns values passed many parseLimited atLeast begins ended parse canonical digitRun after value
+unfolding actionRead actionOf readAction readUses readGoverns values passed many parseLimited atLeast begins ended parse canonical digitRun after value
 action-case-refused = refl

@@ -1,13 +1,9 @@
-pub mod Things
-pub mod Forms
 pub mod Entries
-pub mod Holding
 pub mod Answering
 pub mod RegisterLaws
 pub mod ActionLaws
 pub mod Sameness
 pub mod Naming
-pub mod Numbering
 pub mod Theorems
 pub mod Cases
 pub mod TheoremsActions

@@ -30,11 +30,12 @@ use Rattle.text_rules.specs.Records.{texts, sectionText}
 use Rattle.text_rules.specs.Registers.{actorForms, actorNumbers, resourceText, claimForms, claimNumbers, heldActors, heldResources, heldClaims, readActors, readResources, readClaims, versionForm, registerFrom, registerText, registerRead, registerEnding}
 use Rattle.text_rules.specs.declared.RegisterRead.{RegisterRead}
 use Rattle.text_rules.specs.Fitting.{ResourceLines, RegisterLines, register-lines-fit, linesFit}
-use Rattle.text_rules.proofs.Things.{Codec, Pair, pair}
-use Rattle.text_rules.proofs.Forms.{form, sectioned}
+use Rattle.text_rules.specs.Things.{Codec, Pair, pairCodec}
+use Rattle.text_rules.specs.Forms.{formCodec, sectionCodec}
 use Rattle.text_rules.proofs.Entries.{actor, actor-fits, claim, claim-fits, resource, cleaned, cleaned-fits, cleaned-text, cleaned-standing}
-use Rattle.text_rules.proofs.Holding.{held-entries}
-use Rattle.text_rules.proofs.Answering.{going-same, closed-going, accepted-answer, refused-answer, sound-answer}
+use Rattle.text_rules.specs.Holding.{held-entries}
+use Rattle.text_rules.specs.Telling.{going-same, closed-going}
+use Rattle.text_rules.proofs.Answering.{accepted-answer, refused-answer, sound-answer}
 
 -- the parts of a register, in the order of its text
 abbrev Lists : Type 0
@@ -42,8 +43,8 @@ Lists = Pair ℕ (Pair (List Actor) (Pair (List Resource) (List Claim)))
 
 abbrev parts : Codec Lists
 parts =
-    pair (form versionForm)
-    (pair (sectioned actorsKey actorLimit actor) (pair (sectioned resourcesKey resourceLimit resource) (sectioned claimsKey claimLimit claim)))
+    pairCodec (formCodec versionForm)
+    (pairCodec (sectionCodec actorsKey actorLimit actor) (pairCodec (sectionCodec resourcesKey resourceLimit resource) (sectionCodec claimsKey claimLimit claim)))
 
 -- the register that holds parts, and the parts of a register that has zeros past its paths
 abbrev holding : Lists → Register

@@ -9,14 +9,16 @@ use Rattle.register.specs.Register.{resourcesOf, Standing, resourceStanding, Sa
 use Rattle.register.specs.declared.Resource.{Resource}
 use Rattle.register.specs.declared.Register.{Register}
 use Rattle.soundness_rules.specs.Sound.{sound}
-use Rattle.actions.specs.Actions.{useLimit, governLimit, actionFits, SameAction}
+use Rattle.actions.specs.Actions.{actionFits, SameAction}
 use Rattle.actions.specs.declared.Action.{Action}
 use Rattle.lines.specs.Lines.{scopeLine}
 use Rattle.lines.specs.Reading.{count, formLine}
-use Rattle.text_rules.specs.Keys.{actorsKey, resourcesKey, claimsKey, usesKey, governsKey}
+use Rattle.text_rules.specs.Keys.{actorsKey, resourcesKey, claimsKey}
 use Rattle.text_rules.specs.Records.{linesText, texts, sectionText}
 use Rattle.text_rules.specs.Registers.{actorText, resourceForms, resourceText, claimText, versionForm, registerText, registerRead}
-use Rattle.text_rules.specs.Actions.{headForms, useText, governText, ShapedAction, actionText, actionRead}
+use Rattle.text_rules.specs.Actions.{ShapedAction, actionText, actionRead}
+use Rattle.text_rules.specs.ActionCodec.{pieces-same}
+use Rattle.text_rules.specs.ActionTexts.{same-action-sym, same-action-trans}
 use Rattle.text_rules.proofs.RegisterLaws.{read-written}
 use Rattle.text_rules.proofs.ActionLaws as actions
 
@@ -59,7 +61,7 @@ standing-section l =
 pub same-text : (r s : Register) → Same r s → registerText r ≡ registerText s
 unfolding registerText
 same-text r s same =
-    ap (λ (t : List ℕ). formLine versionForm 1 ++ t) (actions.pieces-same _ _ _ _ _ _
+    ap (λ (t : List ℕ). formLine versionForm 1 ++ t) (pieces-same _ _ _ _ _ _
     (ap (sectionText actorsKey actorLimit actorText) (same .actors))
     (standing-section (resourcesOf (r .resources)) ∙ ap (sectionText resourcesKey resourceLimit standingText) (same .resources)
     ∙ sym (standing-section (resourcesOf (s .resources))))
@@ -71,39 +73,6 @@ text-same r s fine shaped other full e =
     same-trans r (registerRead (registerText s) .register) s
     (subst (λ (t : List ℕ). Same r (registerRead t .register)) e (same-sym (registerRead (registerText r) .register) r (read-written r fine shaped)))
     (read-written s other full)
-
-pub same-action-sym : (a b : Action) → SameAction a b → SameAction b a
-same-action-sym a b same = record {
-  actor = sym (same .actor);
-  flags = sym (same .flags);
-  now = sym (same .now);
-  used = sym (same .used);
-  uses = sym (same .uses);
-  governed = sym (same .governed);
-  governs = sym (same .governs);
-}
-
-pub same-action-trans : (a b c : Action) → SameAction a b → SameAction b c → SameAction a c
-same-action-trans a b c one other = record {
-  actor = one .actor ∙ other .actor;
-  flags = one .flags ∙ other .flags;
-  now = one .now ∙ other .now;
-  used = one .used ∙ other .used;
-  uses = one .uses ∙ other .uses;
-  governed = one .governed ∙ other .governed;
-  governs = one .governs ∙ other .governs;
-}
-
--- the same actions have one text
-pub same-action-text : (a b : Action) → SameAction a b → actionText a ≡ actionText b
-unfolding actionText
-same-action-text a b same =
-    actions.pieces-same _ _ _ _ _ _
-    (ap (λ (n : ℕ). linesText headForms (n ∷ a .actor ∷ a .flags ∷ [])) (same .now)
-    ∙ ap (λ (n : ℕ). linesText headForms (b .now ∷ n ∷ a .flags ∷ [])) (same .actor)
-    ∙ ap (λ (n : ℕ). linesText headForms (b .now ∷ b .actor ∷ n ∷ [])) (same .flags))
-    (ap (sectionText usesKey useLimit useText) (same .uses))
-    (ap (sectionText governsKey governLimit governText) (same .governs))
 
 -- one text has the same actions
 pub text-same-action : (a b : Action) → actionFits a ≡ true → ShapedAction a → actionFits b ≡ true → ShapedAction b → actionText a ≡ actionText b → SameAction a b

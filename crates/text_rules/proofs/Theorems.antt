@@ -10,7 +10,6 @@ use Rattle.actions.specs.Actions.{noAction}
 use Rattle.register.specs.Register.{Same, emptyRegister, Shaped}
 use Rattle.register.specs.declared.Register.{Register}
 use Rattle.soundness_rules.specs.Sound.{sound}
-use Rattle.refusals.specs.Refusals.{numberOf}
 use Rattle.refusals.specs.declared.Refusal.{Refusal}
 use Rattle.refusals.specs.declared.Refusal.the-variants.{Unsound, Form, Count}
 use Rattle.refusals.specs.declared.Outcome.the-variants.{Accepted, Refused}
@@ -22,7 +21,6 @@ use Rattle.text_rules.proofs.RegisterLaws as registers
 use Rattle.text_rules.proofs.ActionLaws as actions
 use Rattle.text_rules.proofs.Sameness as sameness
 use Rattle.text_rules.proofs.Naming as naming
-use Rattle.text_rules.proofs.Numbering as numbering
 
 -- 1a. The text of every sound register is accepted.
 pub register-accepted : (r : Register) → sound r ≡ true → Shaped r → registerRead (registerText r) .outcome ≡ Accepted
@@ -78,10 +76,12 @@ pub action-refused-line : (t : List ℕ) (why : Refusal) → actionRead t .outco
     → ((why ≡ Form) ⊎ (why ≡ Count)) × (1 ≤ actionRead t .line)
 action-refused-line = naming.action-refused-line
 
--- 6e. The number that a failing line has, 19 or 20, is 01's number of the refusal that is answered.
-pub refused-number : (t : List ℕ) (n l : ℕ) (why : Refusal) → registerFrom t .state ≡ failed n l → registerRead t .outcome ≡ Refused why → numberOf why ≡ n
-refused-number = numbering.refused-number
+-- 6e. What the failing line is refused with, and its number, is what is answered.
+pub refused-number : (t : List ℕ) (why : Refusal) (l : ℕ) → registerFrom t .state ≡ failed why l
+    → (registerRead t .outcome ≡ Refused why) × (registerRead t .line ≡ l)
+refused-number = naming.refused-number
 
 -- 6f. So with an action.
-pub action-refused-number : (t : List ℕ) (n l : ℕ) (why : Refusal) → actionOf t .state ≡ failed n l → actionRead t .outcome ≡ Refused why → numberOf why ≡ n
-action-refused-number = numbering.action-refused-number
+pub action-refused-number : (t : List ℕ) (why : Refusal) (l : ℕ) → actionOf t .state ≡ failed why l
+    → (actionRead t .outcome ≡ Refused why) × (actionRead t .line ≡ l)
+action-refused-number = naming.action-refused-number

@@ -8,6 +8,7 @@ use Rattle.actions.specs.Actions.{actionFits, SameAction}
 use Rattle.actions.specs.declared.Action.{Action}
 use Rattle.refusals.specs.declared.Outcome.the-variants.{Accepted}
 use Rattle.text_rules.specs.Actions.{ShapedAction, actionText, actionRead}
+use Rattle.text_rules.specs.ActionTexts as texts
 use Rattle.text_rules.proofs.ActionLaws as actions
 use Rattle.text_rules.proofs.Sameness as sameness
 
@@ -29,7 +30,7 @@ action-read-fits t h = actions.accepted-text t h .fine
 
 -- 7e. No action has two texts.
 pub action-one-text : (a b : Action) → SameAction a b → actionText a ≡ actionText b
-action-one-text = sameness.same-action-text
+action-one-text = texts.same-action-text
 
 -- 7f. No text is that of two actions in their ranges.
 pub text-one-action : (a b : Action) → actionFits a ≡ true → ShapedAction a → actionFits b ≡ true → ShapedAction b → actionText a ≡ actionText b → SameAction a b

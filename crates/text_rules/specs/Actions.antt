@@ -12,7 +12,6 @@ use Rattle.refusals.specs.declared.Outcome.the-variants.{Accepted, Refused}
 use Rattle.lines.specs.Reading.{State, going, failed, Read, LineForm, number, readForm, closed}
 use Rattle.text_rules.specs.Keys.{nowKey, actorKey, flagsKey, usesKey, useKey, rightKey, governsKey, governKey}
 use Rattle.text_rules.specs.Records.{values, passed, linesText, section, sectionText}
-use Rattle.text_rules.specs.Registers.{textRefusal}
 use Rattle.text_rules.specs.declared.ActionRead.{ActionRead}
 
 -- `now`, `actor`, `flags`
@@ -75,12 +74,16 @@ readUses st = section usesKey useLimit readUse st
 unfoldable pub readGoverns : State → Read (List ℕ)
 readGoverns st = section governsKey governLimit readGovern st
 
--- the action of a text, as far as the first failing line; nothing follows the governed entries
-unfoldable pub actionOf : List ℕ → Read Action
-actionOf t =
-    let uses = readUses (passed headForms (going t 1)) in
+-- the lines of an action, from `now` to the last `govern`, as far as the first failing one
+unfoldable pub readAction : State → Read Action
+readAction st =
+    let uses = readUses (passed headForms st) in
     let governs = readGoverns (uses .state) in
-    record { value = actionFrom (values headForms (going t 1)) (uses .value) (governs .value); state = closed (governs .state) }
+    record { value = actionFrom (values headForms st) (uses .value) (governs .value); state = governs .state }
+
+-- the action of a text: nothing follows the governed entries
+unfoldable pub actionOf : List ℕ → Read Action
+actionOf t = let read = readAction (going t 1) in record { value = read .value; state = closed (read .state) }
 
 -- the text of an action: entries past a count are not in it
 unfoldable pub actionText : Action → List ℕ
@@ -91,7 +94,7 @@ actionText a =
 -- a refused reading gives the action of all zeros
 abbrev pub actionEnding : Action → State → ActionRead
 actionEnding a (going t l) = record { action = a; outcome = Accepted; line = 0 }
-actionEnding a (failed why l) = record { action = noAction; outcome = Refused (textRefusal why); line = l }
+actionEnding a (failed why l) = record { action = noAction; outcome = Refused why; line = l }
 
 -- the reading of a text as an action
 unfoldable pub actionRead : List ℕ → ActionRead

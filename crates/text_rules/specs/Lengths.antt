@@ -22,7 +22,7 @@ use Rattle.soundness_rules.specs.Sound.{sound}
 use Rattle.soundness_rules.specs.Laws.{ranged-greatest, ranged-in}
 use Rattle.decimals.specs.Decimals.{digits, digitsWith}
 use Rattle.decimals.specs.Walk.{length-small, length-step}
-use Rattle.lines.specs.Lines.{lineFeed, machineLine, kindLine, decimalLine, scopeLine}
+use Rattle.lines.specs.Lines.{lineFeed, machineLine, wordLine, decimalLine, scopeLine}
 use Rattle.lines.specs.Reading.{LineForm, decimal, kind, count, formLine}
 use Rattle.lines.specs.Laws.{decimal-line-length, formFits}
 use Rattle.text_rules.specs.Records.{linesText, texts, sectionText}
@@ -51,7 +51,7 @@ formWidth (decimal key least greatest above) = length key + length (digits great
 formWidth kind = length machineLine
 
 pub form-length : (f : LineForm) (n : ℕ) → formFits f n ≡ true → length (formLine f n) ≤ formWidth f
-unfolding formWidth kindLine
+unfolding formWidth wordLine
 form-length (decimal key least greatest above) n h =
     omega (arith, decimal-line-length key n, digits-more (suc n) n greatest (omega arith) (ranged-greatest least greatest n h))
 form-length kind n h = cases (eqb n humanKind) (λ e. rw e (omega arith)) (λ e. rw e (omega arith))

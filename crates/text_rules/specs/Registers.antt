@@ -3,7 +3,6 @@ use Prim.Native.Nat.{ℕ, _-_, _^_}
 use mathlib.Core.List.{List, [], _∷_, _++_}
 use mathlib.Core.Bool.{cond}
 use lib.ListN.{length, getD, replicate}
-use lib.Dec.{eqb}
 use Rattle.register.specs.Limits.{actorLimit, resourceLimit, claimLimit, idLimit, weightLimit, momentEnd}
 use Rattle.register.specs.Register.{actorsOf, resourcesOf, claimsOf, pathOf, noActor, noResource, noClaim, emptyRegister}
 use Rattle.register.specs.declared.Actor.{Actor}
@@ -16,10 +15,9 @@ use Rattle.register.specs.declared.Register.{Register}
 use Rattle.rights.specs.Rights.{rightCount}
 use Rattle.soundness_rules.specs.Sound.{sound}
 use Rattle.refusals.specs.declared.Outcome.the-variants.{Accepted, Refused}
-use Rattle.refusals.specs.declared.Refusal.{Refusal}
-use Rattle.refusals.specs.declared.Refusal.the-variants.{Unsound, Form, Count}
+use Rattle.refusals.specs.declared.Refusal.the-variants.{Unsound}
 use Rattle.lines.specs.Lines.{scopeLine, heldPath}
-use Rattle.lines.specs.Reading.{State, going, failed, Read, LineForm, number, kind, readForm, formLine, readScope, closed, countRefusal}
+use Rattle.lines.specs.Reading.{State, going, failed, Read, LineForm, number, kind, readForm, formLine, readScope, closed}
 use Rattle.text_rules.specs.Keys.{registerKey, actorsKey, actorKey, ownerKey, resourcesKey, resourceKey, publicKey, keeperKey, claimsKey, claimKey, parentKey, grantorKey, holderKey, rightsKey, weightKey, expiryKey}
 use Rattle.text_rules.specs.Records.{values, passed, linesText, section, sectionText}
 use Rattle.text_rules.specs.declared.RegisterRead.{RegisterRead}
@@ -147,15 +145,11 @@ registerText r =
 abbrev pub textLimit : ℕ
 textLimit = 37741
 
--- 01's refusal of the number that a failed reading has
-abbrev pub textRefusal : ℕ → Refusal
-textRefusal why = cond (eqb why countRefusal) Count Form
-
 -- soundness comes last, with 1 and line 0; a refused reading gives the empty register
 abbrev pub registerEnding : Register → State → RegisterRead
 registerEnding r (going t l) =
     cond (sound r) (record { register = r; outcome = Accepted; line = 0 }) (record { register = emptyRegister; outcome = Refused Unsound; line = 0 })
-registerEnding r (failed why l) = record { register = emptyRegister; outcome = Refused (textRefusal why); line = l }
+registerEnding r (failed why l) = record { register = emptyRegister; outcome = Refused why; line = l }
 
 -- the reading of a text as a register
 unfoldable pub registerRead : List ℕ → RegisterRead

@@ -12,10 +12,10 @@ use Rattle.refusals.specs.Refusals.{outcomeOf}
 use Rattle.actions.specs.Actions.{actionFits}
 use Rattle.gate_rules.specs.Gate.{publicRead, contains, covering, covers, isOwnerless, ownerLacks, firstOf, flagsSet, governed, useViolation, useViolations, violationsOf, actionTests, gateTests, gated}
 use Rattle.decimals.specs.Decimals.{digits, digitsWith, after, value, canonical, parse, digitRun}
-use Rattle.lines.specs.Lines.{begins, ended, parseLimited, atLeast, decimalLine, parseKind, pathOn, parseScope}
+use Rattle.lines.specs.Lines.{begins, ended, parseLimited, atLeast, decimalLine, parseWord, pathOn, parseScope}
 use Rattle.text_rules.specs.Records.{values, passed, many, texts}
 use Rattle.text_rules.specs.Registers.{readActors, readResources, readClaims, registerFrom, registerRead}
-use Rattle.text_rules.specs.Actions.{readUses, readGoverns, actionOf, actionRead}
+use Rattle.text_rules.specs.Actions.{readUses, readGoverns, readAction, actionOf, actionRead}
 use Rattle.text_rules.proofs.Cases.{lined, caseText, actionCase}
 use Rattle.verdict_printing.specs.Printed.{pairText, listText, stoppedText, verdictText, printed, jsonPrinted}
 
@@ -29,7 +29,7 @@ printed-in-R : map (printed caseText) (
     ∷ lined "verdict=permitted violations=0"
     ∷ lined "verdict=refused violations=4 violation=1 at=0 violation=1 at=9 violation=3 at=0 violation=3 at=1"
     ∷ []
-unfolding printed verdictText listText pairText stoppedText texts decimalLine digits digitsWith registerRead registerFrom readActors readResources readClaims actionRead actionOf readUses readGoverns values passed many parseLimited atLeast begins ended parse canonical digitRun after value parseKind parseScope pathOn gated gateTests actionTests outcomeOf actionFits violationsOf flagsSet dropping isOwnerless governed useViolations useViolation covers covering publicRead contains ownerLacks firstOf contained climbing components same trimmed starting sound withinLimits soundActors soundResources soundClaims acceptable alone over fresh drawn overChain machineMay drawnFrom rootKept namesStand claimFits resourceFits actorFits distinct chain circling rootGranted hasRight hasRights barsMachine
+unfolding printed verdictText listText pairText stoppedText texts decimalLine digits digitsWith registerRead registerFrom readActors readResources readClaims actionRead actionOf readAction readUses readGoverns values passed many parseLimited atLeast begins ended parse canonical digitRun after value parseWord parseScope pathOn gated gateTests actionTests outcomeOf actionFits violationsOf flagsSet dropping isOwnerless governed useViolations useViolation covers covering publicRead contains ownerLacks firstOf contained climbing components same trimmed starting sound withinLimits soundActors soundResources soundClaims acceptable alone over fresh drawn overChain machineMay drawnFrom rootKept namesStand claimFits resourceFits actorFits distinct chain circling rootGranted hasRight hasRights barsMachine
 printed-in-R = refl
 
 abbrev nobody : List ℕ
@@ -42,7 +42,7 @@ printed-stopped :
     × (printed [] [] ≡ lined "verdict=stopped refusal=19")
     × (printed nobody [] ≡ lined "verdict=stopped refusal=19")
     × (printed nobody (lined "now=0 actor=2 flags=0 uses=33") ≡ lined "verdict=stopped refusal=20")
-unfolding printed verdictText stoppedText decimalLine digits digitsWith registerRead registerFrom readActors readResources readClaims actionRead actionOf readUses readGoverns values passed many parseLimited atLeast begins ended parse canonical digitRun after value parseKind parseScope pathOn gated gateTests actionTests outcomeOf actionFits sound withinLimits soundActors soundResources soundClaims actorFits resourceFits distinct hasRight
+unfolding printed verdictText stoppedText decimalLine digits digitsWith registerRead registerFrom readActors readResources readClaims actionRead actionOf readAction readUses readGoverns values passed many parseLimited atLeast begins ended parse canonical digitRun after value parseWord parseScope pathOn gated gateTests actionTests outcomeOf actionFits sound withinLimits soundActors soundResources soundClaims actorFits resourceFits distinct hasRight
 printed-stopped = (refl, refl, refl, refl, refl)
 
 -- the first refusal is printed: a register that is refused with 20, whatever is wrong with the action

@@ -15,13 +15,13 @@ use Rattle.actions.specs.declared.Action.{Action}
 use Rattle.actions.specs.declared.Verdict.{Verdict}
 use Rattle.gate_rules.specs.Gate.{gated}
 use Rattle.lines.specs.Reading.{State, going, failed, closed}
-use Rattle.text_rules.specs.Registers.{textRefusal, registerEnding, registerFrom, registerRead}
+use Rattle.text_rules.specs.Registers.{registerEnding, registerFrom, registerRead}
 use Rattle.text_rules.specs.Actions.{actionRead}
 use Rattle.text_rules.specs.declared.RegisterRead.{RegisterRead}
 use Rattle.text_rules.specs.declared.ActionRead.{ActionRead}
 use Rattle.json_rules.specs.Actions.{jsonRead}
 use Rattle.json_rules.specs.declared.JsonRead.{JsonRead}
-use Rattle.verdict_printing.specs.Printed.{stoppedText, verdictText, actionLines, registerLines, printed, printedLimit, jsonLines, clockRefusal, clockRead, clockLines, registerJson, jsonPrinted}
+use Rattle.verdict_printing.specs.Printed.{stoppedText, verdictText, actionLines, registerLines, printed, printedLimit, jsonLines, clockRead, clockLines, registerJson, jsonPrinted}
 use Rattle.verdict_printing.proofs.Lengths.{gated-fitting}
 
 -- the gate's verdict fits
@@ -48,7 +48,7 @@ module _ (t : List ℕ) {r : Register} {st : State} (of-register : r ≡ registe
   unfolding registerRead
   ended = rw (of-register, of-state)
 
-  pub failed-answer : {why l : ℕ} → st ≡ failed why l → registerRead t .outcome ≡ Refused (textRefusal why)
+  pub failed-answer : {why : Refusal} {l : ℕ} → st ≡ failed why l → registerRead t .outcome ≡ Refused why
   failed-answer e = ap (λ (a : RegisterRead). a .outcome) (sym ended ∙ ap (registerEnding r) e)
 
   module _ {u : List ℕ} {l : ℕ} (goes : st ≡ going u l) where
@@ -99,8 +99,8 @@ module _ (r : Register) (clock action : List ℕ) where
       ap (λ (st : State). clockLines r st (clockRead clock .value) action) e
       ∙ ap (λ (n : ℕ). jsonLines r (jsonRead action n .outcome) (jsonRead action n .action)) (sym same)
 
-  pub clock-failed : (why l : ℕ) → closed (clockRead clock .state) ≡ failed why l
-      → clockLines r (closed (clockRead clock .state)) (clockRead clock .value) action ≡ stoppedText (clockRefusal why)
+  pub clock-failed : (why : Refusal) (l : ℕ) → closed (clockRead clock .state) ≡ failed why l
+      → clockLines r (closed (clockRead clock .state)) (clockRead clock .value) action ≡ stoppedText why
   clock-failed why l e = ap (λ (st : State). clockLines r st (clockRead clock .value) action) e
 
 -- a register that is read before a clock and a JSON action, and one that is refused

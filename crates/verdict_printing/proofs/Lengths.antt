@@ -44,7 +44,7 @@ use Rattle.text_rules.specs.Actions.{actionRead}
 use Rattle.text_rules.specs.Lengths.{texts-length}
 use Rattle.text_rules.specs.declared.RegisterRead.{RegisterRead}
 use Rattle.text_rules.specs.declared.ActionRead.{ActionRead}
-use Rattle.verdict_printing.specs.Printed.{permittedLine, refusedLine, stoppedLine, violationsKey, violationKey, atKey, refusalKey, violationsIn, pairText, listText, stoppedText, verdictLines, verdictText, actionLines, registerLines, printed, printedLimit, jsonLines, clockRefusal, clockRead, clockLines, registerJson, jsonPrinted}
+use Rattle.verdict_printing.specs.Printed.{permittedLine, refusedLine, stoppedLine, violationsKey, violationKey, atKey, refusalKey, violationsIn, pairText, listText, stoppedText, verdictLines, verdictText, actionLines, registerLines, printed, printedLimit, jsonLines, clockRead, clockLines, registerJson, jsonPrinted}
 
 -- a violation names a number of 16 bits
 abbrev pub Small : Violation → Type 0
@@ -189,7 +189,7 @@ json-lines-length r (RefusedFor why) a = stopped-length why
 
 clock-length : (r : Register) (st : State) (moment : ℕ) (action : List ℕ) → length (clockLines r st moment action) ≤ printedLimit
 clock-length r (going t l) moment action = json-lines-length r (jsonRead action moment .outcome) (jsonRead action moment .action)
-clock-length r (failed why l) moment action = stopped-length (clockRefusal why)
+clock-length r (failed why l) moment action = stopped-length why
 
 register-json-length : (o : Outcome) (r : RegisterRead) (clock action : List ℕ) → length (registerJson o r clock action) ≤ printedLimit
 register-json-length Accepted r clock action = clock-length (r .register) (closed (clockRead clock .state)) (clockRead clock .value) action

@@ -1,8 +1,6 @@
 -- Believed: The lines that 01's program prints, of the two texts that it reads, and those of the JSON program, of three.
 use Prim.Native.Nat.{ℕ, _-_}
 use mathlib.Core.List.{List, _++_, map}
-use mathlib.Core.Bool.{cond}
-use lib.Dec.{eqb}
 use lib.ListN.{take}
 use mathlib.Core.Path.{_≡_}
 use Rattle.lists.specs.Bytes.{bytes}
@@ -12,7 +10,7 @@ use Rattle.refusals.specs.Refusals.{numberOf}
 use Rattle.refusals.specs.declared.Outcome.{Outcome}
 use Rattle.refusals.specs.declared.Outcome.the-variants.{Accepted, Refused as RefusedFor}
 use Rattle.refusals.specs.declared.Refusal.{Refusal}
-use Rattle.refusals.specs.declared.Refusal.the-variants.{Range, Form}
+use Rattle.refusals.specs.declared.Refusal.the-variants.{Range}
 use Rattle.actions.specs.Actions.{kindOf, valueOf}
 use Rattle.actions.specs.declared.Action.{Action}
 use Rattle.actions.specs.declared.Violation.{Violation}
@@ -22,7 +20,7 @@ use Rattle.actions.specs.declared.Decision.the-variants.{Permitted, Refused, St
 use Rattle.actions.specs.declared.Verdict.{Verdict}
 use Rattle.gate_rules.specs.Gate.{gated}
 use Rattle.lines.specs.Lines.{decimalLine}
-use Rattle.lines.specs.Reading.{State, going, failed, Read, count, countRefusal, readForm, closed}
+use Rattle.lines.specs.Reading.{State, going, failed, Read, decimal, readForm, closed}
 use Rattle.text_rules.specs.Keys.{nowKey}
 use Rattle.text_rules.specs.Records.{texts}
 use Rattle.text_rules.specs.Registers.{registerRead}
@@ -98,16 +96,13 @@ jsonLines r Accepted a = verdictText (gated r a)
 jsonLines r (RefusedFor why) a = stoppedText why
 
 -- a clock that is no line `now=`, or not that line alone, is 19; a moment above its limit is the 2 of reading at it
-abbrev pub clockRefusal : ℕ → Refusal
-clockRefusal why = cond (eqb why countRefusal) Range Form
-
 abbrev pub clockRead : List ℕ → Read ℕ
-clockRead clock = readForm (count nowKey (momentEnd - 1)) (going clock 1)
+clockRead clock = readForm (decimal nowKey 0 (momentEnd - 1) Range) (going clock 1)
 
 -- the clock's text, then the JSON action's, judged by a register that was read
 abbrev pub clockLines : Register → State → ℕ → List ℕ → List ℕ
 clockLines r (going t l) moment action = jsonLines r (jsonRead action moment .outcome) (jsonRead action moment .action)
-clockLines r (failed why l) moment action = stoppedText (clockRefusal why)
+clockLines r (failed why l) moment action = stoppedText why
 
 -- a register's text, then a clock's, then a JSON action's; the first refusal stops
 abbrev pub registerJson : Outcome → RegisterRead → List ℕ → List ℕ → List ℕ

@@ -19,7 +19,6 @@ use actions::Verdict;
 use actions::Violation;
 use actions::Violations;
 use buffers::Written;
-use lines::COUNT_REFUSAL;
 use refusals::Outcome;
 use refusals::Refusal;
 use register::Register;
@@ -126,7 +125,8 @@ fn compose(buf: &mut [u8], register: &[u8], action: &[u8]) -> usize
     let form = register_reading::read_form(register);
     let cursor = form.cursor;
     if !lines::goes_on(register, cursor) {
-        return put_stopped(buf, text_rules::refusal_of(cursor.refusal));
+        let why = cursor.refusal;
+        return put_stopped(buf, why);
     }
     let state = form.register;
     let actors = state.actors;
@@ -191,15 +191,20 @@ fn compose_clock(
     ensures behind { λ r. ⌜ r ≡ length (clockLines register (closed (clockRead (now (clock .entry)) .state)) (clockRead (now (clock .entry)) .value) (now (action .entry))) ⌝ }
     ensures written { λ _. ⌜ now (buf .exit) ≡ splice 0 (clockLines register (closed (clockRead (now (clock .entry)) .state)) (clockRead (now (clock .entry)) .value) (now (action .entry))) (now (buf .entry)) ⌝ }
 {
-    let field = lines::read_count(clock, lines::start(), b"now=", LAST_MOMENT);
+    let field = lines::read_decimal(
+        clock,
+        lines::start(),
+        b"now=",
+        0,
+        LAST_MOMENT,
+        Refusal::Range,
+    );
     let end = lines::finish(clock, field.cursor);
     if lines::goes_on(clock, end) {
         return compose_json(buf, register, sheet, known, field.value, action);
     }
-    if end.refusal == COUNT_REFUSAL {
-        return put_stopped(buf, Refusal::Range);
-    }
-    put_stopped(buf, Refusal::Form)
+    let why = end.refusal;
+    put_stopped(buf, why)
 }
 
 // Puts what is printed of the three texts into the buffer, and answers the position behind it.
@@ -211,7 +216,8 @@ fn compose_texts(buf: &mut [u8], register: &[u8], clock: &[u8], action: &[u8]) -
     let form = register_reading::read_form(register);
     let cursor = form.cursor;
     if !lines::goes_on(register, cursor) {
-        return put_stopped(buf, text_rules::refusal_of(cursor.refusal));
+        let why = cursor.refusal;
+        return put_stopped(buf, why);
     }
     let state = form.register;
     let actors = state.actors;

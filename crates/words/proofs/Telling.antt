@@ -13,7 +13,7 @@ use Rattle.lists.specs.Each.{every-at}
 use Rattle.lists.specs.Tests.{clash}
 use Rattle.refusals.specs.Refusals.{numberOf}
 use Rattle.refusals.specs.declared.Refusal.{Refusal}
-use Rattle.refusals.specs.declared.Refusal.the-variants.{Unsound, Range, Absent, Stands, Full, NotKeeper, Ownerless, NotByMachine, NoParent, NotHeld, NotLive, NoDelegate, RightLacking, WeightAbove, TooManyHops, Circle, NoClaim, NoGrantor, Form, Count, Buffer, JsonForm, JsonLacks}
+use Rattle.refusals.specs.declared.Refusal.the-variants.{Unsound, Range, Absent, Stands, Full, NotKeeper, Ownerless, NotByMachine, NoParent, NotHeld, NotLive, NoDelegate, RightLacking, WeightAbove, TooManyHops, Circle, NoClaim, NoGrantor, Form, Count, Buffer, TooDeep, TooManyActions, JsonForm, JsonLacks}
 use Rattle.actions.specs.Actions.{kindOf}
 use Rattle.actions.specs.declared.Violation.{Violation}
 use Rattle.actions.specs.declared.Violation.the-variants.{FlagSet, NoOwner, MachineGoverns, NotCovered, OwnerNotCovering}
@@ -67,6 +67,8 @@ refusal-said NoGrantor = refl
 refusal-said Form = refl
 refusal-said Count = refl
 refusal-said Buffer = refl
+refusal-said TooDeep = refl
+refusal-said TooManyActions = refl
 refusal-said JsonForm = refl
 refusal-said JsonLacks = refl
 

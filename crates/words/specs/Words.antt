@@ -5,7 +5,7 @@ use lib.ListN.{getD}
 use Rattle.lists.specs.Bytes.{bytes}
 use Rattle.json_rules.specs.Names.{kindNames, flagNames}
 
--- the refusals, in 01's and 02's words: the text at place n is that of number n; 0 is no refusal, and no call refuses with 22 or 23
+-- the refusals, in 01's and 02's words: the text at place n is that of number n; 0 is no refusal
 abbrev pub unknownRefusal : List ℕ
 unknownRefusal = bytes "unknown refusal"
 
@@ -33,8 +33,8 @@ refusalTexts =
     ∷ bytes "text not of the form"
     ∷ bytes "a count line above its limit"
     ∷ bytes "buffer too short for the text"
-    ∷ unknownRefusal
-    ∷ unknownRefusal
+    ∷ bytes "plan deeper than 8 levels"
+    ∷ bytes "more than 64 actions in a plan text"
     ∷ bytes "JSON action of another form, with a number out of range or with more than 32 uses"
     ∷ bytes "a right above 2 or a governed entry, for which a JSON action has no place"
     ∷ []

@@ -83,8 +83,8 @@ revoker is no grantor on that claim's chain, or caller is not the keeper or not 
 text not of the form
 a count line above its limit
 buffer too short for the text
-unknown refusal
-unknown refusal
+plan deeper than 8 levels
+more than 64 actions in a plan text
 JSON action of another form, with a number out of range or with more than 32 uses
 a right above 2 or a governed entry, for which a JSON action has no place
 unknown refusal

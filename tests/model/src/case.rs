@@ -34,6 +34,7 @@ pub enum Call {
     },
     Gate(Box<Action>),
     Plan(Box<Plan>),
+    PlanText(Vec<u8>),
     Contains {
         outer: Vec<u8>,
         inner: Vec<u8>,
@@ -71,7 +72,7 @@ pub struct Script {
     pub calls: Vec<Call>,
 }
 
-pub const CALLS: usize = 14;
+pub const CALLS: usize = 15;
 
 /// The calls that withdraw claims, by `Call::number`.
 pub const WITHDRAWALS: [usize; 3] = [2, 12, 13];
@@ -95,6 +96,10 @@ pub const NAMES: [(&str, &[Outcome]); CALLS] = [
     ("write_json", &[YES, 2, 25, 21]),
     ("clear_resource", &[YES, 1, 3, 18]),
     ("clear_expired", &[YES, 1, 2, 3, 18]),
+    (
+        "judge_plan_text",
+        &[1, 3, 19, 20, 22, 23, judgement(0), judgement(PERMITTED), judgement(REFUSED), judgement(CANCELLED)],
+    ),
 ];
 
 /// What an answer comes to: a refusal's number, or one of those below.
@@ -161,6 +166,7 @@ impl Call {
             Call::WriteJson { .. } => 11,
             Call::ClearResource { .. } => 12,
             Call::ClearExpired { .. } => 13,
+            Call::PlanText(_) => 14,
         }
     }
 
@@ -188,6 +194,7 @@ impl Call {
             }),
             Call::Gate(action) => put_request(out, Request::Gate, |out| action.put(out)),
             Call::Plan(plan) => put_request(out, Request::Plan, |out| plan.put(out)),
+            Call::PlanText(text) => put_request(out, Request::PlanText, |out| out.extend_from_slice(text)),
             Call::Contains { outer, inner } => put_request(out, Request::Contains, |out| {
                 [outer.len(), inner.len()].put(out);
                 out.extend_from_slice(outer);
@@ -226,6 +233,7 @@ impl Call {
                 Call::Revoke { .. } | Call::ClearResource { .. } | Call::ClearExpired { .. } => size_of::<Revoked>(),
                 Call::Gate(_) => size_of::<Verdict>(),
                 Call::Plan(_) => size_of::<PlanVerdict>(),
+                Call::PlanText(_) => size_of::<PlanTextVerdict>(),
                 Call::Contains { .. } => size_of::<Containment>(),
                 Call::ReadRegister(_) => size_of::<RegisterRead>(),
                 Call::ReadAction(_) => size_of::<ActionRead>(),
@@ -284,11 +292,12 @@ impl Call {
             Call::Plan(plan) => {
                 let verdict = model.judge_plan(state, plan);
                 verdict.put(out);
-                match (verdict.accepted, verdict.count) {
-                    (0, _) => verdict.refusal,
-                    (_, 0) => judgement(0),
-                    (_, count) => judgement(verdict.list[count - 1].decision),
-                }
+                planned(verdict.accepted, verdict.refusal, &verdict.list, verdict.count)
+            }
+            Call::PlanText(text) => {
+                let verdict = model.judge_plan_text(state, text);
+                verdict.put(out);
+                planned(verdict.accepted, verdict.refusal, &verdict.list, verdict.count)
             }
             Call::ReadRegister(text) => {
                 let mut read = Register::EMPTY;
@@ -345,6 +354,7 @@ impl Call {
             }
             Call::Gate(_) => fields(&Verdict::take(from)),
             Call::Plan(_) => fields(&PlanVerdict::take(from)),
+            Call::PlanText(_) => fields(&PlanTextVerdict::take(from)),
             Call::Contains { .. } => fields(&Containment::take(from)),
             Call::ReadRegister(_) => fields(&RegisterRead::take(from)),
             Call::ReadAction(_) => fields(&ActionRead::take(from)),
@@ -364,6 +374,15 @@ fn yes_or_no(answer: bool) -> Outcome {
         YES
     } else {
         NO
+    }
+}
+
+/// What the verdicts on a plan come to.
+fn planned(accepted: u32, refusal: u32, list: &[Judgement], count: usize) -> Outcome {
+    match list[..count.min(list.len())].last() {
+        _ if accepted == 0 => refusal,
+        None => judgement(0),
+        Some(last) => judgement(last.decision),
     }
 }
 

@@ -3,7 +3,7 @@
 use crate::case::{outcome_name, Call, Outcome, Script, CALLS, KINDS, NAMES, WITHDRAWALS};
 use crate::driver::Driver;
 use crate::generate::random::Random;
-use crate::generate::{actions, changes, json, registers, texts};
+use crate::generate::{actions, changes, json, registers, texts, trees};
 use crate::pairs::{Answers, Pair, DEMANDED};
 use crate::{saved, shrink};
 use guvrendik_model::model::words::Words;
@@ -537,7 +537,7 @@ fn put_input(random: &mut Random, shape: Shape, out: &mut Vec<u8>) {
         caller.put(out);
         now.put(out);
     }
-    for text in [text, json::full_page(random)] {
+    for text in [text, json::full_page(random), trees::deepest(random, &register)] {
         text.len().put(out);
         out.extend(text);
     }

@@ -85,6 +85,17 @@ pub extern "C" fn guvrendik_judge_plan(register: Register, plan: Plan) -> PlanVe
 }
 
 /// # Safety
+/// The pointer and length are good, as the header says.
+#[no_mangle]
+pub unsafe extern "C" fn guvrendik_judge_plan_text(
+    register: Register,
+    text: *const u8,
+    text_len: usize,
+) -> PlanTextVerdict {
+    MODEL.judge_plan_text(&register, lent(text, text_len))
+}
+
+/// # Safety
 /// The pointers and lengths are good, as the header says.
 #[no_mangle]
 pub unsafe extern "C" fn guvrendik_contains(
@@ -192,5 +203,5 @@ pub unsafe extern "C" fn guvrendik_flag_name(number: u32, buffer: *mut u8, buffe
 
 #[no_mangle]
 pub extern "C" fn guvrendik_version() -> VersionNumbers {
-    VersionNumbers { major: 1, minor: 0, patch: 0 }
+    VersionNumbers { major: 1, minor: 1, patch: 0 }
 }

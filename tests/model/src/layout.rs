@@ -36,6 +36,7 @@ layout! {
     "verdict" Verdict { decision, refusal, violations, count, hops }
     "judgement" Judgement { decision, violations }
     "plan_verdict" PlanVerdict { accepted, refusal, position, list, count }
+    "plan_text_verdict" PlanTextVerdict { accepted, refusal, line, position, list, count }
     "register_read" RegisterRead { state, accepted, refusal, line }
     "action_read" ActionRead { action, accepted, refusal, line }
     "json_read" JsonRead { action, accepted, refusal, kind, id_len, id }

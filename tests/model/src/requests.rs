@@ -21,6 +21,7 @@ pub enum Request {
     WriteJson,
     ClearResource,
     ClearExpired,
+    PlanText,
     Boundary,
     Threads,
     Stack,
@@ -40,7 +41,7 @@ pub fn put_request(out: &mut Vec<u8>, request: Request, put: impl FnOnce(&mut Ve
 }
 
 /// The calls, in the order in which the driver answers how much stack each of them took.
-pub const STACK_ORDER: [&str; 14] = [
+pub const STACK_ORDER: [&str; 15] = [
     "sound",
     "grant",
     "revoke",
@@ -55,4 +56,5 @@ pub const STACK_ORDER: [&str; 14] = [
     "write_json",
     "clear_resource",
     "clear_expired",
+    "judge_plan_text",
 ];

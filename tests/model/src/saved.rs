@@ -109,7 +109,7 @@ fn write_call(call: &Call, out: &mut String) {
         Call::Contains { outer, inner } => {
             line(out, format_args!("call {name} outer={} inner={}", quoted(outer), quoted(inner)));
         }
-        Call::ReadRegister(text) | Call::ReadAction(text) => {
+        Call::ReadRegister(text) | Call::ReadAction(text) | Call::PlanText(text) => {
             line(out, format_args!("call {name}"));
             write_bytes("text", text, out);
         }
@@ -272,7 +272,12 @@ fn action(script: &mut Script, planned: usize) -> Result<&mut Action, String> {
 
 fn text<'s>(script: &'s mut Script, kind: &str) -> Result<&'s mut Vec<u8>, String> {
     match (script.calls.last_mut(), kind) {
-        (Some(Call::ReadRegister(text) | Call::ReadAction(text) | Call::ReadJson { text, .. }), "text") => Ok(text),
+        (
+            Some(
+                Call::ReadRegister(text) | Call::ReadAction(text) | Call::PlanText(text) | Call::ReadJson { text, .. },
+            ),
+            "text",
+        ) => Ok(text),
         (Some(Call::VerdictText { register, .. }), "register-text") => Ok(register),
         (Some(Call::VerdictText { action, .. }), "action-text") => Ok(action),
         _ => Err("the call before it has no such text".to_owned()),
@@ -308,6 +313,7 @@ fn call(name: &str, parts: &Parts) -> Result<Call, String> {
         }
         "gate" => Call::Gate(Box::new(Action::ZERO)),
         "judge_plan" => Call::Plan(Box::new(Plan { count: number(parts, "count")?, ..Plan::EMPTY })),
+        "judge_plan_text" => Call::PlanText(Vec::new()),
         "contains" => {
             Call::Contains { outer: unquoted(value(parts, "outer")?)?, inner: unquoted(value(parts, "inner")?)? }
         }

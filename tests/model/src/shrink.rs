@@ -2,6 +2,7 @@
 
 use crate::case::{Call, Script};
 use guvrendik_model::types::*;
+use std::ops::Range;
 
 /// How often a smaller script is tried at most.
 const TRIES: usize = 3_000;
@@ -122,6 +123,7 @@ fn call_steps(call: &Call) -> usize {
         }
         Call::Contains { outer, inner } => outer.len() + inner.len() + outer.len().min(inner.len()),
         Call::ReadRegister(text) | Call::ReadAction(text) => text_steps(text, LINE),
+        Call::PlanText(text) => entries(text).len() + text_steps(text, LINE),
         Call::VerdictText { register, action, .. } => text_steps(register, LINE) + text_steps(action, LINE) + 1,
         Call::ReadJson { text, .. } => text_steps(text, MEMBER) + 1,
         Call::WriteJson { action, id, .. } => action_steps(action) + id.len() + 2,
@@ -164,6 +166,10 @@ fn step_call(call: &mut Call, mut step: usize) {
             }
         }
         Call::ReadRegister(text) | Call::ReadAction(text) => step_text(text, LINE, step),
+        Call::PlanText(text) => match entries(text).get(step) {
+            Some(entry) => drop_entry(text, entry),
+            None => step_text(text, LINE, step - entries(text).len()),
+        },
         Call::VerdictText { register, action, room, .. } => {
             let steps = text_steps(register, LINE);
             if step < steps {
@@ -254,6 +260,70 @@ fn step_text(text: &mut Vec<u8>, (end, _): Parts, step: usize) {
     }
 }
 
+/// A counted entry of a plan's text: its lines, and the line that has the count.
+struct Entry {
+    lines: Range<usize>,
+    count: usize,
+}
+
+/// The steps, uses and governed entries of a plan's text, as far as it is of the form.
+fn entries(text: &[u8]) -> Vec<Entry> {
+    let lines: Vec<&[u8]> = text.split_inclusive(|&byte| byte == b'\n').collect();
+    let mut entries = Vec::new();
+    list_plan(&lines, &mut 0, &mut entries);
+    entries
+}
+
+/// The count on a line with this key.
+fn count_of(line: Option<&&[u8]>, key: &str) -> Option<usize> {
+    std::str::from_utf8(line?).ok()?.strip_prefix(key)?.trim_end().parse().ok()
+}
+
+fn list_plan(lines: &[&[u8]], at: &mut usize, entries: &mut Vec<Entry>) -> Option<()> {
+    let count = *at;
+    *at += 1;
+    for _ in 0..count_of(lines.get(count), "plan=")? {
+        let start = *at;
+        *at += 1;
+        if lines.get(start)?.starts_with(b"step=plan") {
+            list_plan(lines, at, entries)?;
+        } else {
+            // Behind `now`, `actor` and `flags`.
+            *at += 3;
+            list_counted(lines, at, "uses=", 2, entries)?;
+            list_counted(lines, at, "governs=", 1, entries)?;
+        }
+        entries.push(Entry { lines: start..*at, count });
+    }
+    Some(())
+}
+
+fn list_counted(lines: &[&[u8]], at: &mut usize, key: &str, size: usize, entries: &mut Vec<Entry>) -> Option<()> {
+    let count = *at;
+    *at += 1;
+    for _ in 0..count_of(lines.get(count), key)?.min(lines.len()) {
+        entries.push(Entry { lines: *at..*at + size, count });
+        *at += size;
+    }
+    Some(())
+}
+
+fn drop_entry(text: &mut Vec<u8>, entry: &Entry) {
+    let mut smaller = Vec::with_capacity(text.len());
+    for (at, line) in text.split_inclusive(|&byte| byte == b'\n').enumerate() {
+        let key = line.iter().position(|&byte| byte == b'=').map_or(0, |equals| equals + 1);
+        match count_of(Some(&&line[key..]), "") {
+            _ if entry.lines.contains(&at) => (),
+            Some(count) if at == entry.count => {
+                smaller.extend_from_slice(&line[..key]);
+                smaller.extend_from_slice(format!("{}\n", count - 1).as_bytes());
+            }
+            _ => smaller.extend_from_slice(line),
+        }
+    }
+    *text = smaller;
+}
+
 #[cfg(test)]
 mod tests {
     use super::*;
@@ -278,6 +348,13 @@ mod tests {
             let found = (0..200).flat_map(|round| generator.round(round)).find(|script| differs(script, fault));
             let small = shrink(found.expect("found in 200 rounds"), |script| differs(script, fault));
             let claims = small.register.as_ref().map_or(0, |register| register.claims.count);
+            let lines = |call: &Call| if let Call::PlanText(text) = call { lengths(text, b'\n').len() } else { 0 };
+            let room = if fault == Fault::RoomPerPlan { 65 * 7 } else { 0 };
+            assert!(
+                small.calls.iter().map(lines).sum::<usize>() <= room + 40,
+                "{name}: {}",
+                crate::saved::write(&small)
+            );
             assert!(small.calls.len() <= 3 && claims <= 5, "{name}: {}", crate::saved::write(&small));
         }
     }

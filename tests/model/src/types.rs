@@ -8,6 +8,12 @@ pub const PATH: usize = 64;
 pub const USES: usize = 32;
 pub const GOVERNS: usize = 8;
 pub const ACTIONS: usize = 16;
+/// Plans in each other in a plan's text, the outermost counted.
+pub const LEVELS: usize = 8;
+/// Steps of one plan in a plan's text.
+pub const STEPS: usize = 64;
+/// Actions of a plan's text, in all its plans together.
+pub const TEXT_ACTIONS: usize = 64;
 /// Ten flags, one violation of kind 2, eight governed entries and 32 uses.
 pub const VIOLATIONS: usize = 51;
 /// No text of a register is longer than this.
@@ -249,6 +255,28 @@ impl PlanVerdict {
         refusal: 0,
         position: 0,
         list: [Judgement { decision: 0, violations: 0 }; ACTIONS],
+        count: 0,
+    };
+}
+
+#[repr(C)]
+#[derive(Clone, Debug, PartialEq, Eq)]
+pub struct PlanTextVerdict {
+    pub accepted: u32,
+    pub refusal: u32,
+    pub line: usize,
+    pub position: usize,
+    pub list: [Judgement; TEXT_ACTIONS],
+    pub count: usize,
+}
+
+impl PlanTextVerdict {
+    pub const EMPTY: Self = PlanTextVerdict {
+        accepted: 0,
+        refusal: 0,
+        line: 0,
+        position: 0,
+        list: [Judgement { decision: 0, violations: 0 }; TEXT_ACTIONS],
         count: 0,
     };
 }

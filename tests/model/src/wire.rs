@@ -88,6 +88,7 @@ structs! {
     Verdict { decision, refusal, violations, count, hops }
     Judgement { decision, violations }
     PlanVerdict { accepted, refusal, position, list, count }
+    PlanTextVerdict { accepted, refusal, line, position, list, count }
     RegisterRead { state, accepted, refusal, line }
     ActionRead { action, accepted, refusal, line }
     JsonRead { action, accepted, refusal, kind, id_len, id }

@@ -8,9 +8,9 @@ use Rattle.action_reading.proofs.answer.Tie as tie
 
 returns : tie.Need-returns
 returns c =
-    let args = c .before .before .before .before .before .args in
-    let halted = sym (c .before .before .before .goes-on .ensures) ∙ not-true _ (c .before .before .if1 .taken) in
-    rw (c .refusal-of .ensures, c .before .no-action .ensures, stands-failed (args .s .now) (args .c) halted)
+    let args = c .before .before .before .before .args in
+    let halted = sym (c .before .before .goes-on .ensures) ∙ not-true _ (c .before .if1 .taken) in
+    rw (c .no-action .ensures, stands-failed (args .s .now) (args .c) halted)
 
 returns-2 : tie.Need-returns-2
 returns-2 c =
@@ -19,4 +19,4 @@ returns-2 c =
     rw (stands-going (args .s .now) (args .c) on)
 
 pub answer-spec : {M : Type 1} → statement M
-answer-spec = tie.close (tie.spec (λ c κs. search needs) (λ c κs. search needs) (λ c κs. search needs) returns returns-2)
+answer-spec = tie.close (tie.spec (λ c κs. search needs) (λ c κs. search needs) returns returns-2)

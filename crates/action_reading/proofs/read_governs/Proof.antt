@@ -5,7 +5,7 @@ use native.Mathlib.Omega.{arith}
 use mathlib.Core.Path.{refl}
 use Rattle.register.specs.Limits.{idLimit}
 use Rattle.actions.specs.Actions.{governLimit}
-use Rattle.lines.specs.Reading.{countRefusal, formRefusal}
+use Rattle.refusals.specs.declared.Refusal.the-variants.{Form, Count}
 use Rattle.lines.specs.Answers.{stateOf}
 use Rattle.text_rules.specs.Keys.{governsKey, governKey}
 use Rattle.text_rules.specs.Actions.{readGovern, readGoverns}
@@ -24,7 +24,7 @@ abbrev μ-loop : tie.MeasureT-loop
 count-bound : (c : tie.After-read-count Inv-loop μ-loop) → c .read-count .result .value ≤ governLimit
 count-bound c =
     let args = c .before .before .before .args in
-    field-bound (args .s .now) governsKey 0 governLimit countRefusal (stateOf (args .s .now) (args .c)) (c .read-count .result) (c .read-count .ensures)
+    field-bound (args .s .now) governsKey 0 governLimit Count (stateOf (args .s .now) (args .c)) (c .read-count .result) (c .read-count .ensures)
 
 loop-holds : tie.Need-loop-holds Inv-loop μ-loop
 loop-holds c = listing-start _ _ refl refl
@@ -34,7 +34,7 @@ cast-governs c =
     let s = c .before .before .before .before .before .before .before .before .before .before .args .s .now in
     let before = c .before .before .before .before .before .loop in
     let one = c .before .before .read-number in
-    omega (arith, field-bound s governKey 0 idLimit formRefusal (stateOf s (before .cursor)) (one .result) (one .ensures))
+    omega (arith, field-bound s governKey 0 idLimit Form (stateOf s (before .cursor)) (one .result) (one .ensures))
 
 mul-governs : tie.Need-mul-governs Inv-loop μ-loop
 mul-governs c = omega (arith, count-bound (c .before .before .before .before .before .before .before), c .before .before .before .before .loop-test .taken)

@@ -6,7 +6,8 @@ use mathlib.Core.List.{[]}
 use mathlib.Core.Path.{sym}
 use Rattle.rights.specs.Rights.{rightCount}
 use Rattle.register.specs.Limits.{idLimit}
-use Rattle.lines.specs.Reading.{number, formRefusal}
+use Rattle.refusals.specs.declared.Refusal.the-variants.{Form}
+use Rattle.lines.specs.Reading.{number}
 use Rattle.lines.specs.Answers.{stateOf}
 use Rattle.text_rules.specs.Keys.{useKey, rightKey}
 use Rattle.register_reading.specs.Runs.{run-none, run-next, field-bound}
@@ -17,14 +18,14 @@ cast-t14 : tie.Need-cast-t14
 cast-t14 c =
     let args = c .before .before .before .before .before .before .args in
     let resource = c .before .before .before .read-number in
-    omega (arith, field-bound (args .s .now) useKey 0 idLimit formRefusal (stateOf (args .s .now) (args .c)) (resource .result) (resource .ensures))
+    omega (arith, field-bound (args .s .now) useKey 0 idLimit Form (stateOf (args .s .now) (args .c)) (resource .result) (resource .ensures))
 
 cast-t15 : tie.Need-cast-t15
 cast-t15 c =
     let s = c .before .before .before .before .before .before .before .args .s .now in
     let resource = c .before .before .before .before .read-number in
     let right = c .before .before .read-number2 in
-    omega (arith, field-bound s rightKey 0 (rightCount - 1) formRefusal (stateOf s (resource .result .cursor)) (right .result) (right .ensures))
+    omega (arith, field-bound s rightKey 0 (rightCount - 1) Form (stateOf s (resource .result .cursor)) (right .result) (right .ensures))
 
 returns : tie.Need-returns
 returns c =

@@ -4,7 +4,7 @@ use borrow.Author.Needs.{needs}
 use native.Mathlib.Omega.{arith}
 use mathlib.Core.Path.{refl}
 use Rattle.actions.specs.Actions.{noUse, useLimit}
-use Rattle.lines.specs.Reading.{countRefusal}
+use Rattle.refusals.specs.declared.Refusal.the-variants.{Count}
 use Rattle.lines.specs.Answers.{stateOf}
 use Rattle.text_rules.specs.Keys.{usesKey}
 use Rattle.text_rules.specs.Actions.{readUse, readUses}
@@ -23,7 +23,7 @@ abbrev μ-loop : tie.MeasureT-loop
 count-bound : (c : tie.After-read-count Inv-loop μ-loop) → c .read-count .result .value ≤ useLimit
 count-bound c =
     let args = c .before .before .before .args in
-    field-bound (args .s .now) usesKey 0 useLimit countRefusal (stateOf (args .s .now) (args .c)) (c .read-count .result) (c .read-count .ensures)
+    field-bound (args .s .now) usesKey 0 useLimit Count (stateOf (args .s .now) (args .c)) (c .read-count .result) (c .read-count .ensures)
 
 loop-holds : tie.Need-loop-holds Inv-loop μ-loop
 loop-holds c = listing-start _ _ refl refl

@@ -2,20 +2,20 @@
 -- Assumes nothing.
 use borrow.Author.Needs.{needs}
 use borrow.Author.Tests.{eq-eqb, ne-eqb}
-use Rattle.lines.specs.Lines.{kindLine}
+use Rattle.lines.specs.Lines.{wordLine}
 use Rattle.buffers.proofs.put_kind.Statement.{statement}
 use Rattle.buffers.proofs.put_kind.Tie as tie
 
 -- a human
 returns : tie.Need-returns
-unfolding kindLine
+unfolding wordLine
 returns c =
     let call = c .before .before .put-bytes in
     rw (eq-eqb _ _ (c .before .before .before .before .before .if1 .taken)) (call .ensures .0, call .ensures .1)
 
 -- any other kind
 returns-2 : tie.Need-returns-2
-unfolding kindLine
+unfolding wordLine
 returns-2 c =
     let call = c .before .before .put-bytes2 in
     rw (ne-eqb _ _ (c .before .before .before .before .before .if1 .left)) (call .ensures .0, call .ensures .1)

@@ -44,8 +44,8 @@ returns c =
 read-ranged-requires : tie.Need-read-ranged-requires
 read-ranged-requires c κs = let a = c .before .before .before .before .args in on-within (a .s .now) (a .c) (on c)
 
-add-t16 : tie.Need-add-t16
-add-t16 c = omega (arith, line-fits (c .before .before .before .before .before))
+add-behind : tie.Need-add-behind
+add-behind c = omega (arith, line-fits (c .before .before .before .before .before))
 
 failing-requires : tie.Need-failing-requires
 failing-requires c κs = omega (arith, line-fits (c .before .before .before))
@@ -55,19 +55,19 @@ failing-requires-2 c κs = omega (arith, line-fits (c .before .before .before))
 
 returns-2 : tie.Need-returns-2
 returns-2 c =
-    let r = c .before .before .before .before in
+    let r = c .before .before .before .before .before in
     let a = r .before .before .before .before .before .args in
-    let f = c .before .before .value .given in
+    let f = c .before .before .before .value .given in
     let t = told r _ (f .1) in
-    field-behind (a .s .now) (a .c) (decimal (a .key .now) (a .least) (a .greatest) (a .above)) (on (r .before)) (f .0 .0) (f .0 .1 .0) (t .0) (t .1) (t .2)
+    field-behind (a .s .now) (a .c) (decimal (a .key .now) (a .least) (a .greatest) (a .above)) (on (r .before)) (f .0 .0) (f .0 .1 .0)
+    (c .behind .result) (t .0) (t .1) (t .2) (c .behind .ensures)
 
 returns-3 : tie.Need-returns-3
 returns-3 c =
     let r = c .before .before .before in
-    let b = r .before .before .before .before .before in
-    let a = b .args in
+    let a = r .before .before .before .before .before .args in
     field-over (a .s .now) (a .c) (decimal (a .key .now) (a .least) (a .greatest) (a .above)) (on (r .before)) (c .failing .result)
-    (told r _ (c .before .enum-told .given .1)) (b .pre) (c .failing .ensures)
+    (told r _ (c .before .enum-told .given .1)) (c .failing .ensures)
 
 returns-4 : tie.Need-returns-4
 returns-4 c =
@@ -84,7 +84,8 @@ read-decimal-spec =
     returns
     read-ranged-requires
     (λ c. search needs)
-    add-t16
+    add-behind
+    (λ c κs. search needs)
     (λ c. search needs)
     failing-requires
     (λ c. search needs)

@@ -83,18 +83,18 @@ returns-3 c =
     (p .read-path .ensures) (not-true _ (t .if3 .taken)))
     (c .before .failing2 .ensures) (c .no-scope3 .ensures)
 
-add-t12 : tie.Need-add-t12
-add-t12 c = omega (arith, line-fits (c .before .before .before .before .before .before .before .before .before))
+add-behind : tie.Need-add-behind
+add-behind c = omega (arith, line-fits (c .before .before .before .before .before .before .before .before .before))
 
 returns-4 : tie.Need-returns-4
 returns-4 c =
-    let t = c .before .before in
+    let t = c .before .before .before in
     let p = t .before .before in
     let k = p .before .before in
     let e = k .before .before .before in
     let a = e .before .before .before .args in
-    scope-behind (a .s .now) (a .c) (on e) (a .c .at + 6) (p .read-path .result) (pathOn [] (drop (a .c .at + 6) (a .s .now)))
-    (scope-on (a .s .now) (a .c .at) (keyed k)) (p .read-path .ensures) (not-false _ (t .if3 .left)) (omega arith)
+    scope-behind (a .s .now) (a .c) (on e) (a .c .at + 6) (p .read-path .result) (c .behind .result) (pathOn [] (drop (a .c .at + 6) (a .s .now)))
+    (scope-on (a .s .now) (a .c .at) (keyed k)) (p .read-path .ensures) (not-false _ (t .if3 .left)) (omega arith) (c .behind .ensures)
 
 pub read-scope-spec : {M : Type 1} → statement M
 read-scope-spec =
@@ -113,5 +113,6 @@ read-scope-spec =
     failing-requires-2
     (λ c κs. search needs)
     returns-3
-    add-t12
+    add-behind
+    (λ c κs. search needs)
     returns-4)

@@ -9,9 +9,9 @@ use Rattle.register_reading.proofs.answer.Tie as tie
 
 returns : tie.Need-returns
 returns c =
-    let args = c .before .before .before .before .before .args in
-    let halted = sym (c .before .before .before .goes-on .ensures) ∙ not-true _ (c .before .before .if1 .taken) in
-    c .refused .ensures ∙ rw (c .before .refusal-of .ensures, stands-failed (args .s .now) (args .c) halted)
+    let args = c .before .before .before .before .args in
+    let halted = sym (c .before .before .goes-on .ensures) ∙ not-true _ (c .before .if1 .taken) in
+    c .refused .ensures ∙ rw (stands-failed (args .s .now) (args .c) halted)
 
 returns-2 : tie.Need-returns-2
 returns-2 c =
@@ -31,7 +31,6 @@ pub answer-spec : {M : Type 1} → statement M
 answer-spec =
     tie.close
     (tie.spec
-    (λ c κs. search needs)
     (λ c κs. search needs)
     (λ c κs. search needs)
     returns

@@ -4,7 +4,8 @@ use native.Mathlib.Omega.{arith}
 use mathlib.Core.List.{[]}
 use mathlib.Core.Path.{sym}
 use Rattle.register.specs.Limits.{idLimit}
-use Rattle.lines.specs.Reading.{number, kind, formRefusal}
+use Rattle.refusals.specs.declared.Refusal.the-variants.{Form}
+use Rattle.lines.specs.Reading.{number, kind}
 use Rattle.lines.specs.Answers.{stateOf}
 use Rattle.text_rules.specs.Keys.{actorKey, ownerKey}
 use Rattle.register_reading.specs.Runs.{run-none, run-next, field-bound, kind-field-bound}
@@ -15,7 +16,7 @@ cast-t15 : tie.Need-cast-t15
 cast-t15 c =
     let args = c .before .before .before .before .before .before .before .args in
     let id = c .before .before .before .before .read-number in
-    omega (arith, field-bound (args .s .now) actorKey 1 idLimit formRefusal (stateOf (args .s .now) (args .c)) (id .result) (id .ensures))
+    omega (arith, field-bound (args .s .now) actorKey 1 idLimit Form (stateOf (args .s .now) (args .c)) (id .result) (id .ensures))
 
 cast-t16 : tie.Need-cast-t16
 cast-t16 c =
@@ -29,7 +30,7 @@ cast-t17 c =
     let args = c .before .before .before .before .before .before .before .before .before .args in
     let sort = c .before .before .before .before .before .read-kind in
     let owner = c .before .before .before .read-number2 in
-    omega (arith, field-bound (args .s .now) ownerKey 0 idLimit formRefusal (stateOf (args .s .now) (sort .result .cursor)) (owner .result) (owner .ensures))
+    omega (arith, field-bound (args .s .now) ownerKey 0 idLimit Form (stateOf (args .s .now) (sort .result .cursor)) (owner .result) (owner .ensures))
 
 returns : tie.Need-returns
 returns c =

@@ -6,7 +6,8 @@ use mathlib.Core.List.{[], _∷_}
 use mathlib.Core.Path.{sym}
 use Rattle.rights.specs.Rights.{rightCount}
 use Rattle.register.specs.Limits.{idLimit, weightLimit, momentEnd}
-use Rattle.lines.specs.Reading.{number, formRefusal}
+use Rattle.refusals.specs.declared.Refusal.the-variants.{Form}
+use Rattle.lines.specs.Reading.{number}
 use Rattle.lines.specs.Answers.{stateOf}
 use Rattle.text_rules.specs.Keys.{claimKey, parentKey, grantorKey, holderKey, resourceKey, rightsKey, weightKey, expiryKey}
 use Rattle.text_rules.specs.Registers.{claimForms}
@@ -20,7 +21,7 @@ id-bound c =
     let args = c .before .before .before .before .before .before .before .before .before .before .before .before .before .before .before .before .before .args in
     let s = args .s .now in
     let id = c .before .before .before .before .before .before .before .before .before .before .before .before .before .before .read-number in
-    field-bound s claimKey 1 idLimit formRefusal (stateOf s (args .c)) (id .result) (id .ensures)
+    field-bound s claimKey 1 idLimit Form (stateOf s (args .c)) (id .result) (id .ensures)
 
 parent-bound : (c : tie.After-read-number8) → c .before .before .before .before .before .before .before .before .before .before .before .before .read-number2 .result .value ≤ idLimit
 parent-bound c =
@@ -28,7 +29,7 @@ parent-bound c =
     let s = args .s .now in
     let id = c .before .before .before .before .before .before .before .before .before .before .before .before .before .before .read-number in
     let parent = c .before .before .before .before .before .before .before .before .before .before .before .before .read-number2 in
-    field-bound s parentKey 0 idLimit formRefusal (stateOf s (id .result .cursor)) (parent .result) (parent .ensures)
+    field-bound s parentKey 0 idLimit Form (stateOf s (id .result .cursor)) (parent .result) (parent .ensures)
 
 grantor-bound : (c : tie.After-read-number8) → c .before .before .before .before .before .before .before .before .before .before .read-number3 .result .value ≤ idLimit
 grantor-bound c =
@@ -36,7 +37,7 @@ grantor-bound c =
     let s = args .s .now in
     let parent = c .before .before .before .before .before .before .before .before .before .before .before .before .read-number2 in
     let grantor = c .before .before .before .before .before .before .before .before .before .before .read-number3 in
-    field-bound s grantorKey 1 idLimit formRefusal (stateOf s (parent .result .cursor)) (grantor .result) (grantor .ensures)
+    field-bound s grantorKey 1 idLimit Form (stateOf s (parent .result .cursor)) (grantor .result) (grantor .ensures)
 
 holder-bound : (c : tie.After-read-number8) → c .before .before .before .before .before .before .before .before .read-number4 .result .value ≤ idLimit
 holder-bound c =
@@ -44,7 +45,7 @@ holder-bound c =
     let s = args .s .now in
     let grantor = c .before .before .before .before .before .before .before .before .before .before .read-number3 in
     let holder = c .before .before .before .before .before .before .before .before .read-number4 in
-    field-bound s holderKey 1 idLimit formRefusal (stateOf s (grantor .result .cursor)) (holder .result) (holder .ensures)
+    field-bound s holderKey 1 idLimit Form (stateOf s (grantor .result .cursor)) (holder .result) (holder .ensures)
 
 resource-bound : (c : tie.After-read-number8) → c .before .before .before .before .before .before .read-number5 .result .value ≤ idLimit
 resource-bound c =
@@ -52,7 +53,7 @@ resource-bound c =
     let s = args .s .now in
     let holder = c .before .before .before .before .before .before .before .before .read-number4 in
     let resource = c .before .before .before .before .before .before .read-number5 in
-    field-bound s resourceKey 1 idLimit formRefusal (stateOf s (holder .result .cursor)) (resource .result) (resource .ensures)
+    field-bound s resourceKey 1 idLimit Form (stateOf s (holder .result .cursor)) (resource .result) (resource .ensures)
 
 rights-bound : (c : tie.After-read-number8) → c .before .before .before .before .read-number6 .result .value ≤ (2 ^ rightCount - 1)
 rights-bound c =
@@ -60,7 +61,7 @@ rights-bound c =
     let s = args .s .now in
     let resource = c .before .before .before .before .before .before .read-number5 in
     let rights = c .before .before .before .before .read-number6 in
-    field-bound s rightsKey 1 (2 ^ rightCount - 1) formRefusal (stateOf s (resource .result .cursor)) (rights .result) (rights .ensures)
+    field-bound s rightsKey 1 (2 ^ rightCount - 1) Form (stateOf s (resource .result .cursor)) (rights .result) (rights .ensures)
 
 weight-bound : (c : tie.After-read-number8) → c .before .before .read-number7 .result .value ≤ weightLimit
 weight-bound c =
@@ -68,7 +69,7 @@ weight-bound c =
     let s = args .s .now in
     let rights = c .before .before .before .before .read-number6 in
     let weight = c .before .before .read-number7 in
-    field-bound s weightKey 0 weightLimit formRefusal (stateOf s (rights .result .cursor)) (weight .result) (weight .ensures)
+    field-bound s weightKey 0 weightLimit Form (stateOf s (rights .result .cursor)) (weight .result) (weight .ensures)
 
 cast-t38 : tie.Need-cast-t38
 cast-t38 c = omega (arith, id-bound (c .before))

@@ -5,7 +5,8 @@ use borrow.Author.Needs.{needs}
 use native.Mathlib.Omega.{arith}
 use mathlib.Core.List.{[], _∷_}
 use Rattle.register.specs.Limits.{idLimit}
-use Rattle.lines.specs.Reading.{number, formRefusal}
+use Rattle.refusals.specs.declared.Refusal.the-variants.{Form}
+use Rattle.lines.specs.Reading.{number}
 use Rattle.lines.specs.Answers.{stateOf}
 use Rattle.text_rules.specs.Keys.{resourceKey, publicKey, keeperKey}
 use Rattle.text_rules.specs.Registers.{resourceForms}
@@ -19,21 +20,21 @@ id-bound c =
     let args = c .before .before .before .before .before .before .before .args in
     let s = args .s .now in
     let id = c .before .before .before .before .read-number in
-    field-bound s resourceKey 1 idLimit formRefusal (stateOf s (args .c)) (id .result) (id .ensures)
+    field-bound s resourceKey 1 idLimit Form (stateOf s (args .c)) (id .result) (id .ensures)
 
 public-bound : (c : tie.After-read-number3) → c .before .before .read-number2 .result .value ≤ 1
 public-bound c =
     let s = c .before .before .before .before .before .before .before .args .s .now in
     let id = c .before .before .before .before .read-number in
     let public = c .before .before .read-number2 in
-    field-bound s publicKey 0 1 formRefusal (stateOf s (id .result .cursor)) (public .result) (public .ensures)
+    field-bound s publicKey 0 1 Form (stateOf s (id .result .cursor)) (public .result) (public .ensures)
 
 keeper-bound : (c : tie.After-read-number3) → c .read-number3 .result .value ≤ idLimit
 keeper-bound c =
     let s = c .before .before .before .before .before .before .before .args .s .now in
     let public = c .before .before .read-number2 in
     let keeper = c .read-number3 in
-    field-bound s keeperKey 1 idLimit formRefusal (stateOf s (public .result .cursor)) (keeper .result) (keeper .ensures)
+    field-bound s keeperKey 1 idLimit Form (stateOf s (public .result .cursor)) (keeper .result) (keeper .ensures)
 
 -- the three lines
 lines-read : (c : tie.After-read-number3) →

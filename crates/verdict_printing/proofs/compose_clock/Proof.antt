@@ -1,19 +1,17 @@
 -- `verdict_printing::compose_clock` meets its contract: a clock that is read judges the JSON action's text at its moment; else the lines of the
 -- clock's refusal are put. Assumes nothing.
-use Prim.Native.Nat.{ℕ, _-_}
+use Prim.Native.Nat.{_-_}
 use mathlib.Core.Path.{_≡_, sym, ap, _∙_}
-use mathlib.Core.Bool.{cond}
 use native.Mathlib.Omega.{arith}
 use borrow.Author.Needs.{needs}
-use borrow.Author.Tests.{eq-eqb, ne-eqb}
 use Rattle.register.specs.Limits.{momentEnd}
-use Rattle.refusals.specs.declared.Refusal.the-variants.{Range, Form}
-use Rattle.lines.specs.Reading.{State, count, countRefusal, readForm, closed}
+use Rattle.refusals.specs.declared.Refusal.the-variants.{Range}
+use Rattle.lines.specs.Reading.{State, decimal, readForm, closed}
 use Rattle.lines.specs.Answers.{stateOf}
 use Rattle.text_rules.specs.Keys.{nowKey}
 use Rattle.register_reading.specs.Runs.{run-start, stands-failed, stands-going}
 use Rattle.json_rules.specs.Actions.{jsonRead}
-use Rattle.verdict_printing.specs.Printed.{stoppedText, jsonLines, clockRefusal, clockRead, clockLines}
+use Rattle.verdict_printing.specs.Printed.{stoppedText, jsonLines, clockRead, clockLines}
 use Rattle.verdict_printing.proofs.Lengths.{stopped-length}
 use Rattle.verdict_printing.proofs.Joining.{same-written}
 use Rattle.verdict_printing.proofs.Composing.{clock-going, clock-failed}
@@ -21,28 +19,21 @@ use Rattle.verdict_printing.proofs.compose_clock.Statement.{statement}
 use Rattle.verdict_printing.proofs.compose_clock.Tie as tie
 
 -- the moment that is read, and where the reading of the clock ends
-begun : (c : tie.After-read-count) →
+begun : (c : tie.After-read-decimal) →
     let clock = c .before .before .before .before .before .before .before .args .clock .now in
-    (c .read-count .result .value ≡ clockRead clock .value) × (stateOf clock (c .read-count .result .cursor) ≡ clockRead clock .state)
+    (c .read-decimal .result .value ≡ clockRead clock .value) × (stateOf clock (c .read-decimal .result .cursor) ≡ clockRead clock .state)
 begun c =
     let clock = c .before .before .before .before .before .before .before .args .clock .now in
     let start = c .before .before .start in
     let first = run-start clock (start .result) (start .ensures) in (
-      c .read-count .ensures .value ∙ ap (λ (st : State). readForm (count nowKey (momentEnd - 1)) st .value) first,
-      c .read-count .ensures .state ∙ ap (λ (st : State). readForm (count nowKey (momentEnd - 1)) st .state) first,
+      c .read-decimal .ensures .value ∙ ap (λ (st : State). readForm (decimal nowKey 0 (momentEnd - 1) Range) st .value) first,
+      c .read-decimal .ensures .state ∙ ap (λ (st : State). readForm (decimal nowKey 0 (momentEnd - 1) Range) st .state) first,
     )
 
 ended : (c : tie.After-finish) →
     let clock = c .before .before .before .before .before .before .before .before .args .clock .now in
     stateOf clock (c .finish .result) ≡ closed (clockRead clock .state)
 ended c = c .finish .ensures ∙ ap closed (begun (c .before) .1)
-
--- a refusal by which the clock's is told
-other : (why : ℕ) → (why ≡ countRefusal → ⊥) → clockRefusal why ≡ Form
-other why h = ap (λ b. cond b Range Form) (ne-eqb why countRefusal h)
-
-large : (why : ℕ) → why ≡ countRefusal → clockRefusal why ≡ Range
-large why h = ap (λ b. cond b Range Form) (eq-eqb why countRefusal h)
 
 returns : tie.Need-returns
 returns c =
@@ -51,7 +42,7 @@ returns c =
     let end = test .before .before in
     let read = end .before in
     let a = read .before .before .before .before .before .before .before .args in
-    let moment = read .read-count .result .value in
+    let moment = read .read-decimal .result .value in
     let going = stands-going (a .clock .now) (end .finish .result) (sym (test .before .goes-on .ensures) ∙ test .if1 .taken) in
     same-written (jsonLines (a .register) (jsonRead (a .action .now) moment .outcome) (jsonRead (a .action .now) moment .action))
     (clockLines (a .register) (closed (clockRead (a .clock .now) .state)) (clockRead (a .clock .now) .value) (a .action .now)) (a .buf .now)
@@ -60,40 +51,19 @@ returns c =
 
 put-stopped-requires : tie.Need-put-stopped-requires
 put-stopped-requires c κs =
-    omega (arith, stopped-length Range, c .before .before .before .before .before .before .before .before .before .before .before .before .before .pre .0)
+    omega (arith, stopped-length (c .before .before .before .finish .result .refusal), c .before .before .before .before .before .before .before .before .before .before .before .pre .0)
 
 returns-2 : tie.Need-returns-2
 returns-2 c =
     let call = c .before .before .put-stopped in
-    let which = c .before .before .before .before in
-    let test = which .before .before in
+    let test = c .before .before .before .before in
     let end = test .before .before in
     let a = end .before .before .before .before .before .before .before .before .args in
     let why = end .finish .result .refusal in
     let failed = stands-failed (a .clock .now) (end .finish .result) (sym (test .before .goes-on .ensures) ∙ test .if1 .left) in
-    same-written (stoppedText Range)
+    same-written (stoppedText why)
     (clockLines (a .register) (closed (clockRead (a .clock .now) .state)) (clockRead (a .clock .now) .value) (a .action .now)) (a .buf .now)
-    (clock-failed (a .register) (a .clock .now) (a .action .now) why (end .finish .result .line) (sym (ended end) ∙ failed)
-    ∙ ap stoppedText (large why (which .if2 .taken)))
-    (call .ensures .0) (call .ensures .1)
-
-put-stopped-requires-2 : tie.Need-put-stopped-requires-2
-put-stopped-requires-2 c κs =
-    omega (arith, stopped-length Form, c .before .before .before .before .before .before .before .before .before .before .before .before .before .pre .0)
-
-returns-3 : tie.Need-returns-3
-returns-3 c =
-    let call = c .before .before .put-stopped2 in
-    let which = c .before .before .before .before in
-    let test = which .before .before in
-    let end = test .before .before in
-    let a = end .before .before .before .before .before .before .before .before .args in
-    let why = end .finish .result .refusal in
-    let failed = stands-failed (a .clock .now) (end .finish .result) (sym (test .before .goes-on .ensures) ∙ test .if1 .left) in
-    same-written (stoppedText Form)
-    (clockLines (a .register) (closed (clockRead (a .clock .now) .state)) (clockRead (a .clock .now) .value) (a .action .now)) (a .buf .now)
-    (clock-failed (a .register) (a .clock .now) (a .action .now) why (end .finish .result .line) (sym (ended end) ∙ failed)
-    ∙ ap stoppedText (other why (which .if2 .left)))
+    (clock-failed (a .register) (a .clock .now) (a .action .now) why (end .finish .result .line) (sym (ended end) ∙ failed))
     (call .ensures .0) (call .ensures .1)
 
 pub compose-clock-spec : {M : Type 1} → statement M
@@ -110,7 +80,4 @@ compose-clock-spec =
     returns
     put-stopped-requires
     (λ c. search needs)
-    returns-2
-    put-stopped-requires-2
-    (λ c. search needs)
-    returns-3)
+    returns-2)

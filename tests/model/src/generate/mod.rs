@@ -9,6 +9,7 @@ pub mod paths;
 pub mod random;
 pub mod registers;
 pub mod texts;
+pub mod trees;
 
 use crate::case::{Call, Script};
 use crate::pairs::Pair;
@@ -21,11 +22,13 @@ use registers::{standing, EMPTY};
 
 pub struct Generator {
     pub random: Random,
+    /// Of the plan texts alone, so that a seed gives the other scripts whatever these take.
+    trees: Random,
 }
 
 impl Generator {
     pub fn new(seed: u64) -> Self {
-        Generator { random: Random::new(seed) }
+        Generator { random: Random::new(seed), trees: Random::new(!seed) }
     }
 
     /// The scripts that are the same in every run: the rule book's texts and all that lies beside them.
@@ -43,6 +46,7 @@ impl Generator {
         });
         scripts.push(Script::alone(Call::VerdictText { register, action, room: 100, fill: b'#' }));
         scripts.extend(json::fixed());
+        scripts.push(trees::fixed());
         scripts
     }
 
@@ -54,6 +58,7 @@ impl Generator {
         vec![
             self.texts(&register, round),
             self.calls(register.clone()),
+            self.trees(register.clone()),
             self.nested(),
             self.defect(round),
             self.sequence(register),
@@ -108,6 +113,12 @@ impl Generator {
         Script { register: Some(register), calls }
     }
 
+    /// Texts of plans in plans.
+    fn trees(&mut self, register: Box<Register>) -> Script {
+        let calls = trees::calls(&mut self.trees, &register, 17);
+        Script { register: Some(register), calls }
+    }
+
     /// Actions that several claims of the actor cover.
     fn nested(&mut self) -> Script {
         let random = &mut self.random;
@@ -143,6 +154,7 @@ impl Generator {
             changes::revoke(random, &register, false),
             changes::clear_resource(random, &register, false),
             changes::clear_expired(random, &register, false),
+            trees::calls(&mut self.trees, &register, 1).remove(0),
             Call::WriteRegister { room: random.below(REGISTER_TEXT), fill: random.word() as u8 },
         ];
         if register.actors.count <= ACTORS && register.resources.count <= RESOURCES && register.claims.count <= CLAIMS {

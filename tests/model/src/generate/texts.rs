@@ -120,7 +120,7 @@ fn revalue(random: &mut Random, text: &mut Vec<u8>, value: impl FnOnce(&[u8], &m
 
 /// Puts another value on the nth of the text's count lines.
 fn recount(random: &mut Random, text: &mut Vec<u8>, value: &[u8]) {
-    const KEYS: [&[u8]; 5] = [b"actors=", b"resources=", b"claims=", b"uses=", b"governs="];
+    const KEYS: [&[u8]; 6] = [b"actors=", b"resources=", b"claims=", b"uses=", b"governs=", b"plan="];
     let starts = line_starts(text);
     let counts: Vec<(usize, usize)> = starts
         .windows(2)
@@ -249,12 +249,8 @@ pub fn neighbours(text: &[u8], call: fn(Vec<u8>) -> Call) -> Script {
     Script { register: None, calls }
 }
 
-/// Counts of any length, on a line and at the end of the text.
-pub fn counts() -> Script {
-    let mut calls = Vec::new();
-    let register_starts: [&[u8]; 3] =
-        [b"register=1\nactors=", b"register=1\nactors=0\nresources=", b"register=1\nactors=0\nresources=0\nclaims="];
-    let action_starts: [&[u8]; 2] = [b"now=0\nactor=0\nflags=0\nuses=", b"now=0\nactor=0\nflags=0\nuses=0\ngoverns="];
+/// Counts of any length.
+pub fn count_values() -> Vec<Vec<u8>> {
     let mut values: Vec<Vec<u8>> = NUMBERS
         .iter()
         .map(|number| number.bytes().collect())
@@ -264,7 +260,16 @@ pub fn counts() -> Script {
     values.extend([20, 60_000].map(|length| [&vec![b'9'; length][..], b"x"].concat()));
     values.push([&b"1"[..], &vec![b'0'; 60_000]].concat());
     values.push([&b"0"[..], &vec![b'9'; 60_000]].concat());
-    for value in &values {
+    values
+}
+
+/// Counts of any length, on a line and at the end of the text.
+pub fn counts() -> Script {
+    let mut calls = Vec::new();
+    let register_starts: [&[u8]; 3] =
+        [b"register=1\nactors=", b"register=1\nactors=0\nresources=", b"register=1\nactors=0\nresources=0\nclaims="];
+    let action_starts: [&[u8]; 2] = [b"now=0\nactor=0\nflags=0\nuses=", b"now=0\nactor=0\nflags=0\nuses=0\ngoverns="];
+    for value in &count_values() {
         for end in [&b"\n"[..], b"", b"\r\n", b" \n"] {
             calls.extend(register_starts.map(|start| Call::ReadRegister([start, value, end].concat())));
             calls.extend(action_starts.map(|start| Call::ReadAction([start, value, end].concat())));

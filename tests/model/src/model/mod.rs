@@ -6,6 +6,7 @@ mod ids;
 pub mod json;
 pub mod paths;
 mod plan;
+mod plan_text;
 mod rules;
 pub mod text;
 mod withdraw;
@@ -13,6 +14,8 @@ pub mod words;
 
 #[cfg(test)]
 mod json_tests;
+#[cfg(test)]
+mod plan_text_tests;
 #[cfg(test)]
 mod tests;
 
@@ -64,6 +67,10 @@ pub enum Refusal {
     Count = 20,
     /// The buffer is too short for the text.
     Buffer = 21,
+    /// A plan of a plan's text stands deeper than 8 levels.
+    TooDeep = 22,
+    /// A plan's text has more than 64 actions.
+    TooManyActions = 23,
     /// The JSON action is of another form, has a number out of range or more than 32 uses.
     JsonForm = 24,
     /// A right above 2 or a governed entry, for which a JSON action has no place.
@@ -99,6 +106,10 @@ pub enum Fault {
     LengthZeroPassedOver,
     /// An action after a flagged one is judged.
     CancelledJudged,
+    /// In a plan's text a flag cancels what follows in its own plan only.
+    FlagPerPlan,
+    /// In a plan's text each plan has room for 64 actions of its own.
+    RoomPerPlan,
     /// A JSON action's second actor is taken, in place of the first.
     SecondActorTaken,
     /// A buffer too short for a JSON action gets the beginning of it.
@@ -106,7 +117,7 @@ pub enum Fault {
 }
 
 impl Fault {
-    pub const ALL: [(&'static str, Fault); 15] = [
+    pub const ALL: [(&'static str, Fault); 17] = [
         ("expiry-equal-live", Fault::ExpiryEqualLive),
         ("source-unasked", Fault::SourceUnasked),
         ("direct-children", Fault::DirectChildren),
@@ -120,6 +131,8 @@ impl Fault {
         ("untrimmed-length", Fault::UntrimmedLength),
         ("length-zero-passed-over", Fault::LengthZeroPassedOver),
         ("cancelled-judged", Fault::CancelledJudged),
+        ("flag-per-plan", Fault::FlagPerPlan),
+        ("room-per-plan", Fault::RoomPerPlan),
         ("second-actor-taken", Fault::SecondActorTaken),
         ("short-buffer-begun", Fault::ShortBufferBegun),
     ];

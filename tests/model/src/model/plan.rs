@@ -17,25 +17,38 @@ impl Model {
         let Some(actions) = plan.actions.get(..plan.count) else {
             return PlanVerdict::stopped(Refusal::Range, 0);
         };
+        let mut verdict = PlanVerdict { accepted: 1, count: plan.count, ..PlanVerdict::EMPTY };
+        match self.judge_list(&sound, actions, &mut verdict.list) {
+            Ok(()) => verdict,
+            Err((refusal, position)) => PlanVerdict::stopped(refusal, position),
+        }
+    }
+
+    /// Judges actions in order, or answers the first refusal and the position of its action.
+    pub fn judge_list(
+        &self,
+        sound: &Sound,
+        actions: &[Action],
+        list: &mut [Judgement],
+    ) -> Result<(), (Refusal, usize)> {
         // Every action is tested before any is judged: also one that would be cancelled can stop the plan.
-        let mut actors = [&Actor::ZERO; ACTIONS];
+        let mut actors = [&Actor::ZERO; TEXT_ACTIONS];
         for (position, action) in actions.iter().enumerate() {
-            match self.acting(&sound, action) {
-                Ok(actor) => actors[position] = actor,
-                Err(refusal) => return PlanVerdict::stopped(refusal, position),
+            let actor = self.acting(sound, action).map_err(|refusal| (refusal, position))?;
+            if let Some(place) = actors.get_mut(position) {
+                *place = actor;
             }
         }
-        let mut verdict = PlanVerdict { accepted: 1, count: plan.count, ..PlanVerdict::EMPTY };
         let mut cancelled = false;
-        for ((judgement, action), actor) in verdict.list.iter_mut().zip(actions).zip(actors) {
+        for ((judgement, action), actor) in list.iter_mut().zip(actions).zip(actors) {
             *judgement = if cancelled && !self.has(Fault::CancelledJudged) {
                 Judgement { decision: CANCELLED, violations: 0 }
             } else {
-                let verdict = self.judge(&sound, action, actor);
+                let verdict = self.judge(sound, action, actor);
                 Judgement { decision: verdict.decision, violations: verdict.count }
             };
             cancelled |= action.flags != 0;
         }
-        verdict
+        Ok(())
     }
 }

@@ -1,4 +1,4 @@
-//! The texts of a register, an action and a verdict.
+//! The texts of a register, an action, a plan and a verdict.
 
 use super::{Fault, Model, Refusal};
 use crate::types::*;
@@ -17,6 +17,8 @@ struct Lines<'t> {
     /// The number of the line read last.
     line: usize,
     leading_zeros: bool,
+    /// Whether the actions are counted anew in each plan.
+    room_per_plan: bool,
 }
 
 const ANY_ID: RangeInclusive<u64> = 0..=ID_MAX as u64;
@@ -147,7 +149,7 @@ impl<'t> Lines<'t> {
         self.end()
     }
 
-    /// Reads into the action of all zeros.
+    /// Reads an action's lines into the action of all zeros.
     fn action(&mut self, action: &mut Action) -> Result<(), Unread> {
         action.now = self.number("now", 0..=MOMENT_MAX)?;
         action.actor = self.id("actor", ANY_ID)?;
@@ -160,8 +162,43 @@ impl<'t> Lines<'t> {
         for governed in &mut action.governs[..action.governed] {
             *governed = self.id("govern", ANY_ID)?;
         }
-        self.end()
+        Ok(())
     }
+
+    /// Reads a plan that stands at a level, the outermost being 1, and the plans in it.
+    fn plan(&mut self, level: usize, plan: &mut PlanText) -> Result<(), Unread> {
+        let number = plan.plans;
+        plan.plans += 1;
+        let counted_from = if self.room_per_plan { plan.actions.len() } else { 0 };
+        let steps = self.count("plan", STEPS)?;
+        for _ in 0..steps {
+            let is_full = plan.actions.len() - counted_from == TEXT_ACTIONS;
+            match self.value("step")? {
+                b"action" if is_full => return self.fail(Refusal::TooManyActions),
+                b"action" => {
+                    let mut action = Action::ZERO;
+                    self.action(&mut action)?;
+                    plan.actions.push(action);
+                    plan.homes.push(number);
+                }
+                b"plan" if level == LEVELS => return self.fail(Refusal::TooDeep),
+                b"plan" => self.plan(level + 1, plan)?,
+                _ => return self.fail(Refusal::Form),
+            }
+        }
+        Ok(())
+    }
+}
+
+/// What a plan's text says.
+#[derive(Default)]
+pub struct PlanText {
+    /// In reading order.
+    pub actions: Vec<Action>,
+    /// By action: the number of the plan that it is a step of, from 0 in reading order.
+    pub homes: Vec<usize>,
+    /// How many plans there are.
+    pub plans: usize,
 }
 
 /// Where a text goes.
@@ -286,7 +323,12 @@ impl Text for Verdict {
 
 impl Model {
     fn lines<'t>(&self, text: &'t [u8]) -> Lines<'t> {
-        Lines { rest: text, line: 0, leading_zeros: self.has(Fault::LeadingZero) }
+        Lines {
+            rest: text,
+            line: 0,
+            leading_zeros: self.has(Fault::LeadingZero),
+            room_per_plan: self.has(Fault::RoomPerPlan),
+        }
     }
 
     /// Reads a register's text into an empty register. Refused, the register is left empty.
@@ -312,7 +354,16 @@ impl Model {
 
     pub fn read_action(&self, text: &[u8]) -> Result<Action, Unread> {
         let mut action = Action::ZERO;
-        self.lines(text).action(&mut action).map(|()| action)
+        let mut lines = self.lines(text);
+        lines.action(&mut action).and_then(|()| lines.end()).map(|()| action)
+    }
+
+    pub fn read_plan(&self, text: &[u8]) -> Result<PlanText, Unread> {
+        let mut plan = PlanText::default();
+        plan.actions.reserve(TEXT_ACTIONS);
+        plan.homes.reserve(TEXT_ACTIONS);
+        let mut lines = self.lines(text);
+        lines.plan(1, &mut plan).and_then(|()| lines.end()).map(|()| plan)
     }
 
     /// The moment that a clock's text gives: one line, its number of any size.

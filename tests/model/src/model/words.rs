@@ -63,6 +63,8 @@ fn refusal(number: u32) -> &'static str {
         19 => "text not of the form",
         20 => "a count line above its limit",
         21 => "buffer too short for the text",
+        22 => "plan deeper than 8 levels",
+        23 => "more than 64 actions in a plan text",
         24 => "JSON action of another form, with a number out of range or with more than 32 uses",
         25 => "a right above 2 or a governed entry, for which a JSON action has no place",
         _ => "unknown refusal",

@@ -1,0 +1,2 @@
+pub mod PlanPrinted
+pub mod Bounds

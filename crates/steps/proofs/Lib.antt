@@ -1,0 +1,11 @@
+pub mod Cases
+pub mod Reading
+pub mod Telling
+pub mod Same
+pub mod Cleaning
+pub mod Judged
+pub mod Halting
+pub mod OneText
+pub mod Ahead
+pub mod Barring
+pub mod Theorems
