@@ -1,9 +1,10 @@
-/* Guvrendik: a proved authority gate, for x86-64. `./install PREFIX` puts libguvrendik.a and libguvrendik.so.1, this header and
+/* Guvrendik: a proved authority gate, for x86-64. `./install PREFIX` puts libguvrendik.a and libguvrendik.so.2, this header and
  * guvrendik.pc in place; `pkg-config --cflags --libs guvrendik` says how to build with them.
  *
  * No call allocates, keeps a pointer, writes a global or touches errno: any number of threads may call at once, also on the same
- * register. Structs pass by value; a register is 16,664 bytes. What a call lends with a pointer and a length belongs to the
- * caller, is used during the call only, and may be NULL where the length is 0.
+ * register. Structs pass by value; a register is 16,160 bytes. No struct has bytes between or behind its fields, so an
+ * answer holds nothing but the answer. What a call lends with a pointer and a length belongs to the caller, is used during the call
+ * only, and may be NULL where the length is 0.
  *
  * Every input is answered: a number out of range, a count above its limit and a register that is not sound are refused, by the
  * numbers below. Entries past a count are ignored, and so are the bytes of a path past its length. An answer is determined whole,
@@ -37,8 +38,8 @@ extern "C" {
 
 /* The version of this header. guvrendik_version answers that of the library; the shared object is named by the first number. That one
  * changes where a caller must be changed or compiled anew, the second where a call is new. */
-#define GUVRENDIK_VERSION_MAJOR 1
-#define GUVRENDIK_VERSION_MINOR 1
+#define GUVRENDIK_VERSION_MAJOR 2
+#define GUVRENDIK_VERSION_MINOR 0
 #define GUVRENDIK_VERSION_PATCH 0
 
 /* Limits. */
@@ -54,7 +55,7 @@ extern "C" {
 #define GUVRENDIK_STEPS 64        /* steps of one plan in a plan's text */
 #define GUVRENDIK_TEXT_ACTIONS 64 /* actions of a plan's text, in all its plans together */
 #define GUVRENDIK_VIOLATIONS 51
-#define GUVRENDIK_REGISTER_TEXT 37741 /* no register's text is longer */
+#define GUVRENDIK_REGISTER_TEXT 39789 /* no register's text is longer; of version 1 none is longer than 37,741 */
 #define GUVRENDIK_VERDICT_TEXT 1103   /* no verdict's text is longer */
 #define GUVRENDIK_JSON_TEXT 807       /* no action that is written as JSON is longer */
 #define GUVRENDIK_JSON_ID 64          /* bytes of a JSON action's id */
@@ -64,8 +65,14 @@ extern "C" {
 #define GUVRENDIK_ID_MAX UINT32_C(65535)
 #define GUVRENDIK_RIGHTS_MAX UINT32_C(131071)
 #define GUVRENDIK_WEIGHT_MAX UINT32_C(1000)
+#define GUVRENDIK_LEFT_MAX UINT32_C(16)
 #define GUVRENDIK_MOMENT_MAX UINT64_C(4294967295)
 #define GUVRENDIK_FLAGS_MAX UINT32_C(1023)
+
+/* Versions of a register. In version 1 a claim has at most 16 hops. In version 2 each claim says how many more hands it may pass through,
+ * its left, and one with a parent says less than its parent. Any other version is not sound. */
+#define GUVRENDIK_REGISTER_1 UINT64_C(1)
+#define GUVRENDIK_REGISTER_2 UINT64_C(2)
 
 /* Kinds of actor. */
 #define GUVRENDIK_HUMAN UINT32_C(1)
@@ -120,7 +127,7 @@ extern "C" {
 #define GUVRENDIK_NO_DELEGATE 12    /* parent lacks DELEGATE */
 #define GUVRENDIK_RIGHT_LACKING 13  /* a right the parent lacks */
 #define GUVRENDIK_WEIGHT_ABOVE 14   /* weight above the parent's */
-#define GUVRENDIK_TOO_MANY_HOPS 15  /* more than 16 hops */
+#define GUVRENDIK_TOO_MANY_HOPS 15  /* more than 16 hops, or left not below the parent's */
 #define GUVRENDIK_CIRCLE 16         /* circle: the holder holds a claim higher on the chain, or granted its root */
 #define GUVRENDIK_NO_CLAIM 17       /* claim to revoke does not stand */
 #define GUVRENDIK_NO_GRANTOR 18     /* revoker is no grantor on that claim's chain, or caller is not the keeper or not human */
@@ -144,7 +151,7 @@ typedef struct guvrendik_resource {
     uint32_t id;        /* 1 to 65,535, distinct among the resources */
     uint32_t is_public; /* 1 public, 0 not */
     uint32_t keeper;    /* a human of the register */
-    size_t len;         /* bytes of the path, 0 to 64 */
+    uint32_t len;       /* bytes of the path, 0 to 64 */
     uint8_t path[GUVRENDIK_PATH]; /* each 0x21 to 0x7E */
 } guvrendik_resource;
 
@@ -158,6 +165,8 @@ typedef struct guvrendik_claim {
     uint32_t resource; /* a resource: the parent's, where there is one */
     uint32_t rights;   /* 1 to 131,071, the sum of the worths; none that the parent lacks */
     uint32_t weight;   /* 0 to 1,000; at most the parent's */
+    uint32_t left;     /* version 2: 0 to 16; below the parent's, where there is one. Version 1: not asked, any number; 16 less the hop count
+                        * in claims that a grant or a reading made */
     uint64_t expiry;   /* a moment in seconds, below 2^32; 0 for never */
 } guvrendik_claim;
 
@@ -176,12 +185,22 @@ typedef struct guvrendik_claims {
     size_t count; /* 0 to 256 */
 } guvrendik_claims;
 
-/* The register. All zeros is the empty one, which is sound. */
+/* The register. All zeros, never begun, has version 0 and is not sound. */
 typedef struct guvrendik_register {
     guvrendik_actors actors;
     guvrendik_resources resources;
     guvrendik_claims claims;
+    uint64_t version; /* GUVRENDIK_REGISTER_1 or GUVRENDIK_REGISTER_2. No call changes it */
 } guvrendik_register;
+
+/* Makes *r the empty register of this version: all zeros but for the version. With 1 or 2 it is sound. Part of this header, as the three
+ * functions below. */
+static inline void guvrendik_begin(guvrendik_register *r, uint64_t version) {
+    uint8_t *bytes = (uint8_t *)r;
+    size_t i;
+    for (i = 0; i < sizeof *r; i++) bytes[i] = 0;
+    r->version = version;
+}
 
 /* The three functions below put an entry at the end of its list in a register that is being built, and answer 1; or 0, and change
  * nothing, where the list is full or the path is longer than 64 bytes. They judge nothing else: guvrendik_sound does. They are part
@@ -207,7 +226,7 @@ static inline int guvrendik_put_resource(guvrendik_register *r, uint32_t id, uin
     o->id = id;
     o->is_public = is_public;
     o->keeper = keeper;
-    o->len = path_len;
+    o->len = (uint32_t)path_len;
     for (i = 0; i < GUVRENDIK_PATH; i++) o->path[i] = (uint8_t)(i < path_len ? bytes[i] : 0);
     return 1;
 }
@@ -225,8 +244,9 @@ typedef struct guvrendik_soundness {
 } guvrendik_soundness;
 
 /* Whether the register is sound: the limits, ranges and field rules above hold; every actor and resource that a claim names
- * stands; a parent has DELEGATE; a machine grants only where it has an owner, and never right 13, 15 or 16; no claim has more
- * than 16 hops; the holder of a claim with a parent holds no claim higher on the chain and did not grant its root.
+ * stands; a parent has DELEGATE; a machine grants only where it has an owner, and never right 13, 15 or 16; in version 1 no claim
+ * has more than 16 hops, in version 2 a claim with a parent has a left below its parent's; the holder of a claim with a parent holds
+ * no claim higher on the chain and did not grant its root.
  * No refusal: every register is answered.
  * Stack: 55,000 bytes. */
 guvrendik_soundness guvrendik_sound(guvrendik_register r);
@@ -242,15 +262,16 @@ typedef struct guvrendik_granted {
 
 /* Grants the claim c at the moment.
  *  r       the register before
- *  c       the claim, every field in the range that guvrendik_claim gives
+ *  c       the claim, every field in the range that guvrendik_claim gives; its left is not asked where the register has version 1
  *  moment  in seconds, below 2^32
  * Refusals, the first that applies: 1 register not sound; 2 a field of the claim or the moment out of range; 3 grantor, holder
  * or resource not in the register; 4 the id stands; 5 256 claims stand; 6 a root not granted by the keeper; 7 and 8 what a machine
  * may not grant; and where there is a parent: 9 it does not stand; 10 it is not held by the grantor or is on another resource;
  * 11 it is not live then: it or a claim higher on its chain has expired or has weight 0; 12 it lacks DELEGATE; 13 it lacks a
- * right; 14 it has less weight; 15 more than 16 hops; 16 a circle.
+ * right; 14 it has less weight; 15 more than 16 hops, in version 2 a left not below its own; 16 a circle.
  * Refused for no other cause: a claim of weight 0, whose expiry has passed or is later than its parent's, is granted.
- * Accepted, everything but the new claim and the count of claims is as it came, also what stands past the counts.
+ * Accepted, everything but the new claim and the count of claims is as it came, also what stands past the counts. The new claim is c; in
+ * version 1 its left is 16 less its hop count.
  * Stack: 85,000 bytes. */
 guvrendik_granted guvrendik_grant(guvrendik_register r, guvrendik_claim c, uint64_t moment);
 
@@ -362,7 +383,7 @@ typedef struct guvrendik_plan {
 
 typedef struct guvrendik_judgement {
     uint32_t decision;   /* PERMITTED, REFUSED or CANCELLED */
-    size_t violations;   /* how many; 0 where permitted or cancelled */
+    uint32_t violations; /* how many; 0 where permitted or cancelled */
 } guvrendik_judgement;
 
 /* The answer of guvrendik_judge_plan. */
@@ -387,7 +408,7 @@ guvrendik_plan_verdict guvrendik_judge_plan(guvrendik_register r, guvrendik_plan
 
 /* The answer of a containment. A struct that was never written, all zeros, reads as a no. */
 typedef struct guvrendik_containment {
-    uint32_t contained; /* 1: outer contains inner. 0: it does not. No other number. */
+    uint64_t contained; /* 1: outer contains inner. 0: it does not. No other number. */
     size_t length;      /* with a yes: how long outer is without the slashes at its end, which may be 0. With a no: 0 */
 } guvrendik_containment;
 
@@ -404,15 +425,17 @@ guvrendik_containment guvrendik_contains(const uint8_t *outer, size_t outer_len,
 
 /* ---- Texts ----
  * Lines key=value, each ended by LF, decimals without leading zeros.
- * A register: register=1; actors=, per actor actor, kind (human or machine), owner; resources=, per resource resource, public,
- * keeper, scope; claims=, per claim claim, parent, grantor, holder, resource, rights, weight, expiry. Nothing follows.
+ * A register: register=, 1 or 2, its version; actors=, per actor actor, kind (human or machine), owner; resources=, per resource
+ * resource, public, keeper, scope; claims=, per claim claim, parent, grantor, holder, resource, rights, weight, in version 2 left,
+ * expiry. Nothing follows.
  * An action: now, actor, flags; uses=, per use use and right; governs=, per entry govern. Nothing follows.
  * A plan: plan= with the number of its steps; each step begins with step=action, and an action's lines follow, or with step=plan, and
  * a plan follows. Behind the outermost plan nothing follows. */
 
 /* The answer of guvrendik_read_register. */
 typedef struct guvrendik_register_read {
-    guvrendik_register state; /* accepted: the register, zeros past the counts and past each path. Refused: all zeros */
+    guvrendik_register state; /* accepted: the register, zeros past the counts and past each path; in version 1 the left of each claim is 16
+                               * less its hop count. Refused: the empty register of version 1, all zeros but for the version */
     uint32_t accepted;        /* 1 or 0 */
     uint32_t refusal;         /* 0 where accepted, else the number */
     size_t line;              /* of 19 and 20: the first failing line, from 1. Else 0 */
@@ -424,7 +447,7 @@ typedef struct guvrendik_register_read {
  * Refusals: the first failing line decides between 19, not of the form or a number or path outside its field's range, and 20, a
  * count above its limit, whatever its length; a text that ends early, and bytes after the end, fail as the next line with 19.
  * Soundness comes last, with 1.
- * Stack: 86,000 bytes. */
+ * Stack: 109,000 bytes. */
 guvrendik_register_read guvrendik_read_register(const uint8_t *text, size_t text_len);
 
 /* The answer of a call that writes a text. */
@@ -440,7 +463,7 @@ typedef struct guvrendik_written {
  *                     every register. May be NULL where buffer_len is 0.
  * Refusals, the first that applies: 1 register not sound; 21 buffer too short. Then the buffer keeps every byte.
  * Accepted, the buffer keeps its bytes past the text. No zero byte is added.
- * Stack: 100,000 bytes. */
+ * Stack: 95,000 bytes. */
 guvrendik_written guvrendik_write_register(guvrendik_register r, uint8_t *buffer, size_t buffer_len);
 
 /* The answer of guvrendik_read_action. */
@@ -489,7 +512,7 @@ guvrendik_plan_text_verdict guvrendik_judge_plan_text(guvrendik_register r, cons
  *                              are enough for every verdict.
  * Refusal: 21 buffer too short. Then the buffer keeps every byte. A text that is not read is no refusal of this call: its answer
  * is the text with verdict=stopped.
- * Stack: 80,000 bytes. */
+ * Stack: 98,000 bytes. */
 guvrendik_written guvrendik_verdict_text(const uint8_t *register_text, size_t register_len, const uint8_t *action_text,
                                          size_t action_len, uint8_t *buffer, size_t buffer_len);
 
@@ -515,7 +538,7 @@ typedef struct guvrendik_json_read {
     uint32_t accepted;       /* 1 or 0 */
     uint32_t refusal;        /* 0 where accepted, else the number */
     uint32_t kind;           /* the right that capability_kind names; 0 where refused */
-    size_t id_len;           /* bytes of the id; 0 where refused */
+    uint32_t id_len;         /* bytes of the id; 0 where refused */
     uint8_t id[GUVRENDIK_JSON_ID]; /* zeros past its length */
 } guvrendik_json_read;
 

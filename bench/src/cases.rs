@@ -262,9 +262,9 @@ pub fn plan_text(shape: Shape, world: &World, what: &str, texts: Vec<Vec<u8>>, g
     }
 }
 
-pub fn read(shape: Shape, world: &World) -> Case {
+pub fn read(shape: Shape, world: &World, name: &str, goal: Goal) -> Case {
     let text = leak(register_text(&world.register));
-    let name = "read register".to_owned();
+    let name = name.to_owned();
     let (mut ours, mut theirs) = (Box::new(place()), Box::new(place()));
     model_read(&mut theirs, text);
     // SAFETY: it was filled by the line before.
@@ -273,7 +273,7 @@ pub fn read(shape: Shape, world: &World) -> Case {
         name,
         shape: Some(shape),
         bytes: Some(text.len()),
-        goal: Goal::texts(shape),
+        goal,
         library: Box::new(move |_| {
             black_box(library::read_register(&mut ours, black_box(text)));
         }),
@@ -285,10 +285,10 @@ pub fn read(shape: Shape, world: &World) -> Case {
     }
 }
 
-pub fn write(shape: Shape, world: &World) -> Case {
+pub fn write(shape: Shape, world: &World, name: &str, goal: Goal) -> Case {
     let register = leak(*world.register.clone());
     let text = register_text(register);
-    let name = "write register".to_owned();
+    let name = name.to_owned();
     let (mut ours, mut theirs) = (vec![0; REGISTER_TEXT], vec![0; REGISTER_TEXT]);
     same(&name, 0, &library::write_register(register, &mut ours).length, &text.len());
     same(&name, 0, &ours[..text.len()].to_vec(), &text);
@@ -296,7 +296,7 @@ pub fn write(shape: Shape, world: &World) -> Case {
         name,
         shape: Some(shape),
         bytes: Some(text.len()),
-        goal: Goal::texts(shape),
+        goal,
         library: Box::new(move |_| {
             black_box(library::write_register(black_box(register), black_box(&mut ours)));
         }),
@@ -455,11 +455,17 @@ pub fn all() -> Vec<Case> {
         }
         cases.push(plan(shape, &usual(), 4, ""));
         cases.push(plan(shape, &usual(), USES, ""));
+        cases.push(read(shape, &usual(), "read register", Goal::texts(shape)));
+        cases.push(write(shape, &usual(), "write register", Goal::texts(shape)));
         if shape == FULL {
             plan_texts(shape, &usual(), &mut cases);
+            cases.push(sound(shape, &usual().as_two(), "sound, version 2"));
+            cases.push(sound(shape, &deep().as_two(), "sound, version 2, chains of 16 hops"));
+            let roomy = roomy().as_two();
+            cases.push(grant(shape, &roomy, "grant, version 2", roomy.grants()));
+            cases.push(read(shape, &usual().as_two(), "read register, version 2", Goal::Times(1.2)));
+            cases.push(write(shape, &usual().as_two(), "write register, version 2", Goal::Times(1.2)));
         }
-        cases.push(read(shape, &usual()));
-        cases.push(write(shape, &usual()));
     }
     cases.push(read_action(USES));
     let random = &mut Random::new(23);
@@ -498,8 +504,8 @@ pub fn grown(claims: usize) -> Vec<Case> {
     }
     cases.push(gate(shape, &cut(), "32 uses", uses));
     cases.push(plan(shape, &cut_for_plan(claims), 4, ""));
-    cases.push(read(shape, &cut()));
-    cases.push(write(shape, &cut()));
+    cases.push(read(shape, &cut(), "read register", Goal::texts(shape)));
+    cases.push(write(shape, &cut(), "write register", Goal::texts(shape)));
     cases
 }
 

@@ -61,7 +61,7 @@ pub fn world(shape: Shape, holding: Holding) -> World {
     }
     for (at, id) in ids(random, shape.resources).into_iter().enumerate() {
         let path = path(at);
-        let mut resource = Resource { id, is_public: 0, keeper, len: path.len(), ..Resource::ZERO };
+        let mut resource = Resource { id, is_public: 0, keeper, len: path.len() as u32, ..Resource::ZERO };
         resource.path[..path.len()].copy_from_slice(&path);
         register.resources.push(resource);
     }
@@ -100,6 +100,7 @@ fn root(register: &Register, id: u32, holder: u32, usage: Usage) -> Claim {
         resource: usage.resource,
         rights: 1 << usage.right,
         weight: 500,
+        left: LEFT_MAX,
         expiry: if id & 1 == 0 { 0 } else { MOMENT_MAX },
     }
 }
@@ -178,7 +179,7 @@ pub fn covering(by: Covering) -> World {
             Covering::OnePath => path(at),
             Covering::Nested => "a/".repeat(PATH / 2).into_bytes()[..=at].to_vec(),
         };
-        resource.len = path.len();
+        resource.len = path.len() as u32;
         resource.path = [0; PATH];
         resource.path[..path.len()].copy_from_slice(&path);
     }
@@ -277,7 +278,8 @@ impl World {
             if number % 4 != 0 && random.chance(99) && !claims.is_empty() {
                 let parent = random.pick(claims);
                 let rights = parent.rights & !NOT_BY_MACHINE;
-                claim = Claim { id, parent: parent.id, grantor: parent.holder, holder, rights, ..*parent };
+                let left = parent.left.saturating_sub(1);
+                claim = Claim { id, parent: parent.id, grantor: parent.holder, holder, rights, left, ..*parent };
             }
             if Model::default().grantable(register, &claim, NOW).is_ok() {
                 return claim;
@@ -331,6 +333,16 @@ impl World {
         let clearings =
             self.resource_clearings().iter().map(|(keeper, _)| (*keeper, Withdrawn::Expired(NOW))).collect();
         (self, clearings)
+    }
+
+    /// The register as version 2, each claim with what it has left in version 1.
+    pub fn as_two(mut self) -> World {
+        let sound = Sound::of(&self.register).expect("it is sound");
+        let lefts: Vec<u32> = (0..self.register.claims.count).map(|at| sound.left(at)).collect();
+        self.register.claims.list.iter_mut().zip(lefts).for_each(|(claim, left)| claim.left = left);
+        self.register.version = VERSION_2;
+        assert!(Sound::of(&self.register).is_some());
+        self
     }
 
     /// The register without the claims from this number on.

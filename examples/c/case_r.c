@@ -104,6 +104,7 @@ int main(void) {
         .resource = 10,
         .rights = GUVRENDIK_WORTH(GUVRENDIK_WRITE),
         .weight = 500,
+        .left = 0, /* not asked in version 1 */
         .expiry = 3000,
     };
     guvrendik_granted granted = guvrendik_grant(r, claim, a.now);

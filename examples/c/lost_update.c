@@ -31,7 +31,7 @@ static guvrendik_claim claim(uint32_t id, uint32_t parent, uint32_t holder, uint
 
 /* Human 1 keeps report 10 and has a root on it, from which its machine 2 may read. */
 static void begin(void) {
-    memset(&stored, 0, sizeof stored);
+    guvrendik_begin(&stored, GUVRENDIK_REGISTER_1);
     demand(guvrendik_put_actor(&stored, 1, GUVRENDIK_HUMAN, 0) && guvrendik_put_actor(&stored, 2, GUVRENDIK_MACHINE, 1) &&
                guvrendik_put_actor(&stored, 3, GUVRENDIK_HUMAN, 0) && guvrendik_put_resource(&stored, 10, 0, 1, "site/a", 6) &&
                guvrendik_put_claim(&stored, claim(1, 0, 1, GUVRENDIK_WORTH(GUVRENDIK_READ) | GUVRENDIK_WORTH(GUVRENDIK_DELEGATE))) &&

@@ -1,6 +1,6 @@
 /* Makes every call that takes or answers a register in a thread of 128 KB of stack, which is what musl gives a thread by itself, on a register
- * with 64 actors, 64 resources and 255 claims; the caller's structs stand in static memory. A call that needs more ends the program by a
- * signal. Prints a line to a failure and 'N passed, M failed'. */
+ * with 64 actors, 64 resources and 255 claims, of either version; the caller's structs stand in static memory. A call that needs more ends
+ * the program by a signal. Prints a line to a failure and 'N passed, M failed'. */
 #define _GNU_SOURCE
 #include "guvrendik.h"
 
@@ -46,13 +46,10 @@ static guvrendik_written written, printed;
 static guvrendik_register_read register_read;
 static guvrendik_action_read action_read;
 
-static void put_plan(const char *lines) {
-    memcpy(plan_text + plan_length, lines, strlen(lines));
-    plan_length += strlen(lines);
-}
-
-/* Actor 1 keeps every resource and holds a root on one after the other; claims 1, 65, 129 and 193 are on resource 1. */
-static void fill(void) {
+/* Actor 1 keeps every resource and holds a root on one after the other; claims 1, 65, 129 and 193 are on resource 1. Each root has as much
+ * left as a reading of version 1 gives it. */
+static void fill_register(uint64_t version) {
+    guvrendik_begin(&state, version);
     for (uint32_t i = 1; i <= GUVRENDIK_ACTORS; i++) {
         guvrendik_put_actor(&state, i, GUVRENDIK_HUMAN, 0);
     }
@@ -62,11 +59,22 @@ static void fill(void) {
         guvrendik_put_resource(&state, i, 0, 1, path, (size_t)length);
     }
     for (uint32_t i = 1; i <= CLAIMS; i++) {
-        guvrendik_claim c = {i, 0, 1, 1, 1 + (i - 1) % GUVRENDIK_RESOURCES, GUVRENDIK_WORTH(GUVRENDIK_READ), 1, 0};
+        guvrendik_claim c = {.id = i, .grantor = 1, .holder = 1, .resource = 1 + (i - 1) % GUVRENDIK_RESOURCES, .weight = 1};
+        c.rights = GUVRENDIK_WORTH(GUVRENDIK_READ);
+        c.left = GUVRENDIK_LEFT_MAX;
         guvrendik_put_claim(&state, c);
     }
     claim = state.claims.list[0];
     claim.id = GUVRENDIK_CLAIMS;
+}
+
+static void put_plan(const char *lines) {
+    memcpy(plan_text + plan_length, lines, strlen(lines));
+    plan_length += strlen(lines);
+}
+
+/* An action of 32 uses, a plan of 16 of them, and a plan's text of 64 over eight levels. */
+static void fill_actions(void) {
     action.actor = 1;
     action.now = 1;
     action.used = GUVRENDIK_USES;
@@ -126,8 +134,9 @@ static void in_small_thread(void *(*call)(void *)) {
     munmap(start, BELOW + THREAD_STACK);
 }
 
-int main(void) {
-    fill();
+/* Every call on a register of this version. */
+static void call_all(uint64_t version) {
+    fill_register(version);
     in_small_thread(call_sound);
     expect(soundness.sound == 1, "the register is sound");
     in_small_thread(call_grant);
@@ -155,6 +164,12 @@ int main(void) {
     expect(action_read.accepted == 1 && memcmp(&action_read.action, &action, sizeof action) == 0, "the action is read");
     in_small_thread(call_verdict_text);
     expect(printed.accepted == 1 && memcmp(verdict_text, "verdict=permitted\n", 18) == 0, "the verdict is printed");
+}
+
+int main(void) {
+    fill_actions();
+    call_all(GUVRENDIK_REGISTER_1);
+    call_all(GUVRENDIK_REGISTER_2);
     printf("%u passed, %u failed\n", passed, failed);
     return failed != 0;
 }

@@ -23,7 +23,7 @@ static inline guvrendik_actor machine(uint32_t id, uint32_t owner) {
 
 /* A resource with a path of up to 64 bytes. */
 static inline guvrendik_resource resource_at(uint32_t id, uint32_t is_public, uint32_t keeper, const char *path) {
-    guvrendik_resource o = {.id = id, .is_public = is_public, .keeper = keeper, .len = strlen(path)};
+    guvrendik_resource o = {.id = id, .is_public = is_public, .keeper = keeper, .len = (uint32_t)strlen(path)};
     memcpy(o.path, path, o.len);
     return o;
 }
@@ -78,8 +78,11 @@ static inline Register with_counts(Register r, size_t actors, size_t resources, 
     return r;
 }
 
+/* The empty register of version 1. */
 static inline Register empty(void) {
-    return (Register){0};
+    Register r;
+    guvrendik_begin(&r, GUVRENDIK_REGISTER_1);
+    return r;
 }
 
 /* Humans 1 and 3, their machines 2 and 5, a machine 4 without an owner; reports 10 of 1 and 11 of 3, which is public; 1 grants itself a root
@@ -186,5 +189,6 @@ void gate_lines(void);
 void plan_lines(void);
 void plan_text_lines(void);
 void word_lines(void);
+void version_lines(void);
 
 #endif

@@ -9,5 +9,6 @@ int main(void) {
     plan_lines();
     plan_text_lines();
     word_lines();
+    version_lines();
     return 0;
 }

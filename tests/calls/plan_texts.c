@@ -53,12 +53,12 @@ static void print_verdicts(const guvrendik_plan_text_verdict *v) {
     for (size_t i = 0; i < v->count;) {
         size_t end = i + 1;
         while (end < v->count && v->list[end].decision == v->list[i].decision && v->list[end].violations == v->list[i].violations) end++;
-        printf(" %u/%zu", (unsigned)v->list[i].decision, v->list[i].violations);
+        printf(" %u/%u", (unsigned)v->list[i].decision, (unsigned)v->list[i].violations);
         if (end - i > 1) printf(" x%zu", end - i);
         i = end;
     }
     for (size_t i = v->count; i < GUVRENDIK_TEXT_ACTIONS; i++) {
-        if (v->list[i].decision != 0 || v->list[i].violations != 0) printf(" past the count %u/%zu", (unsigned)v->list[i].decision, v->list[i].violations);
+        if (v->list[i].decision != 0 || v->list[i].violations != 0) printf(" past the count %u/%u", (unsigned)v->list[i].decision, (unsigned)v->list[i].violations);
     }
 }
 

@@ -10,7 +10,7 @@
 static void ask(const char *label, Register r, Plan p) {
     guvrendik_plan_verdict v = guvrendik_judge_plan(r, p);
     printf("%s: %u position=%zu verdicts", label, (unsigned)v.refusal, v.position);
-    for (size_t i = 0; i < v.count; i++) printf(" %u/%zu", (unsigned)v.list[i].decision, v.list[i].violations);
+    for (size_t i = 0; i < v.count; i++) printf(" %u/%u", (unsigned)v.list[i].decision, (unsigned)v.list[i].violations);
     printf("\n");
 }
 

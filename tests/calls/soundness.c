@@ -20,7 +20,7 @@ static Register garbage(void) {
 }
 
 /* The base with a third resource, whose path has the given length and the given byte at its sixth place. */
-static Register path_of(size_t len, uint8_t byte) {
+static Register path_of(uint32_t len, uint8_t byte) {
     guvrendik_resource o = resource(12, 0, 1);
     o.path[5] = byte;
     o.len = len;

@@ -1,7 +1,8 @@
 /* Words for numbers, and the header's functions that build a register: a line to a call.
  *
  * What is expected of the words comes from 01's table of refusals and list of violations, 02's T-01 for 22 and 23, T-04 for 24 and 25, T-03 for
- * 11 and T-09 for 18, and from the names of T-04's form. A line `from a to b` stands for every number of the range: its words are the same. */
+ * 11, T-07 for 15 and T-09 for 18, and from the names of T-04's form. A line `from a to b` stands for every number of the range: its words are
+ * the same. */
 #include "calls.h"
 
 typedef guvrendik_written (*Words)(uint32_t number, uint8_t *buffer, size_t buffer_len);
@@ -65,7 +66,7 @@ static void built_lines(void) {
     printf("case R: sound=%u same=%d\n", (unsigned)guvrendik_sound(r).sound, same_text(r, case_r()));
     r.resources.list[1].path[1] = 'q';
     built("no path", guvrendik_put_resource(&r, 11, 1, 1, NULL, 0), r);
-    printf("no path: len=%zu then %u\n", r.resources.list[1].len, (unsigned)r.resources.list[1].path[1]);
+    printf("no path: len=%u then %u\n", (unsigned)r.resources.list[1].len, (unsigned)r.resources.list[1].path[1]);
     built("path of 64", guvrendik_put_resource(&r, 12, 0, 1, path, GUVRENDIK_PATH), r);
     memcpy(&same, &r, sizeof r);
     built("path of 65", guvrendik_put_resource(&r, 13, 0, 1, path, GUVRENDIK_PATH + 1), r);

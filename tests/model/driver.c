@@ -2,7 +2,7 @@
  * whole answers to standard output. src/driver.rs has the other end.
  *
  * A request is an operation's number, the number of bytes that follow, and those bytes; an answer is a word of marks, 0 where
- * nothing was noticed, and the answer's own bytes. Structs cross as they lie in memory, with zeros between their fields.
+ * nothing was noticed, and the answer's own bytes. Structs cross as they lie in memory: no byte of them is outside a field.
  *
  * Each slice that a call is lent ends at a page that cannot be touched; then the call is made again with each slice beginning
  * at such a page, an empty one as NULL, and both answers must be the same. */
@@ -219,42 +219,6 @@ static arena arena_one, arena_two, arena_three;
 
 /* ---- Answers ---- */
 
-/* Puts zeros between the fields, where a copy may leave anything. */
-static void settle(guvrendik_register *r) {
-    for (size_t i = 0; i < GUVRENDIK_RESOURCES; i++) {
-        uint8_t *resource = (uint8_t *)&r->resources.list[i];
-        size_t gap = offsetof(guvrendik_resource, keeper) + sizeof(uint32_t);
-        memset(resource + gap, 0, offsetof(guvrendik_resource, len) - gap);
-    }
-    for (size_t i = 0; i < GUVRENDIK_CLAIMS; i++) {
-        uint8_t *claim = (uint8_t *)&r->claims.list[i];
-        size_t gap = offsetof(guvrendik_claim, weight) + sizeof(uint32_t);
-        memset(claim + gap, 0, offsetof(guvrendik_claim, expiry) - gap);
-    }
-}
-
-static void settle_judgements(guvrendik_judgement *list, size_t count) {
-    for (size_t i = 0; i < count; i++) {
-        uint8_t *judgement = (uint8_t *)&list[i];
-        size_t gap = offsetof(guvrendik_judgement, decision) + sizeof(uint32_t);
-        memset(judgement + gap, 0, offsetof(guvrendik_judgement, violations) - gap);
-    }
-}
-
-static void settle_plan(guvrendik_plan_verdict *v) { settle_judgements(v->list, GUVRENDIK_ACTIONS); }
-
-static void settle_plan_text(guvrendik_plan_text_verdict *v) { settle_judgements(v->list, GUVRENDIK_TEXT_ACTIONS); }
-
-static void settle_containment(guvrendik_containment *c) {
-    size_t gap = offsetof(guvrendik_containment, contained) + sizeof(uint32_t);
-    memset((uint8_t *)c + gap, 0, offsetof(guvrendik_containment, length) - gap);
-}
-
-static void settle_json(guvrendik_json_read *read) {
-    size_t gap = offsetof(guvrendik_json_read, kind) + sizeof(uint32_t);
-    memset((uint8_t *)read + gap, 0, offsetof(guvrendik_json_read, id_len) - gap);
-}
-
 static void answer_marked(uint32_t marks, const void *bytes, size_t size) {
     answer(&marks, sizeof marks);
     answer(bytes, size);
@@ -280,7 +244,6 @@ static void do_grant(payload *p) {
     take(p, &claim, sizeof claim);
     uint64_t now = take64(p);
     guvrendik_granted got = guvrendik_grant(current, claim, now);
-    settle(&got.state);
     answer_marked(errno_mark(), &got, sizeof got);
     if (keep) {
         current = got.state;
@@ -289,7 +252,6 @@ static void do_grant(payload *p) {
 
 /* Answers what a withdrawal came to, and keeps the register where it is asked to. */
 static void answer_withdrawn(bool keep, guvrendik_revoked got) {
-    settle(&got.state);
     answer_marked(errno_mark(), &got, sizeof got);
     if (keep) {
         current = got.state;
@@ -325,7 +287,6 @@ static void do_plan(payload *p) {
     guvrendik_plan plan;
     take(p, &plan, sizeof plan);
     guvrendik_plan_verdict got = guvrendik_judge_plan(current, plan);
-    settle_plan(&got);
     answer_marked(errno_mark(), &got, sizeof got);
 }
 
@@ -337,7 +298,6 @@ static void do_plan_text(payload *p) {
     for (placement where = AT_END; where <= AT_START; where++) {
         const uint8_t *lent = lend(arena_one, text, size, where);
         got[where] = guvrendik_judge_plan_text(current, lent, size);
-        settle_plan_text(&got[where]);
         marks |= input_mark(lent, text, size);
     }
     marks |= memcmp(&got[0], &got[1], sizeof *got) == 0 ? 0 : PLACES_DIFFER;
@@ -353,7 +313,6 @@ static void do_contains(payload *p) {
         const uint8_t *lent_outer = lend(arena_one, outer, outer_len, where);
         const uint8_t *lent_inner = lend(arena_two, inner, inner_len, where);
         got[where] = guvrendik_contains(lent_outer, outer_len, lent_inner, inner_len);
-        settle_containment(&got[where]);
         marks |= input_mark(lent_outer, outer, outer_len) | input_mark(lent_inner, inner, inner_len);
     }
     marks |= memcmp(&got[0], &got[1], sizeof *got) == 0 ? 0 : PLACES_DIFFER;
@@ -368,7 +327,6 @@ static void do_read_register(payload *p) {
     for (placement where = AT_END; where <= AT_START; where++) {
         const uint8_t *lent = lend(arena_one, text, size, where);
         got[where] = guvrendik_read_register(lent, size);
-        settle(&got[where].state);
         marks |= input_mark(lent, text, size);
     }
     marks |= memcmp(&got[0], &got[1], sizeof *got) == 0 ? 0 : PLACES_DIFFER;
@@ -398,7 +356,6 @@ static void do_read_json(payload *p) {
     for (placement where = AT_END; where <= AT_START; where++) {
         const uint8_t *lent = lend(arena_one, text, size, where);
         got[where] = guvrendik_read_json(lent, size, now);
-        settle_json(&got[where]);
         marks |= input_mark(lent, text, size);
     }
     marks |= memcmp(&got[0], &got[1], sizeof *got) == 0 ? 0 : PLACES_DIFFER;
@@ -531,7 +488,7 @@ static void visit_register(visitor *v, guvrendik_register *r) {
         visit32(v, &resource->id);
         visit32(v, &resource->is_public);
         visit32(v, &resource->keeper);
-        visit_size(v, &resource->len);
+        visit32(v, &resource->len);
         for (size_t j = 0; j < GUVRENDIK_PATH; j++) {
             uint8_t byte = (uint8_t)(++v->next % 251); /* a prime: no pattern of the sizes */
             if (v->writes) {
@@ -551,9 +508,11 @@ static void visit_register(visitor *v, guvrendik_register *r) {
         visit32(v, &claim->resource);
         visit32(v, &claim->rights);
         visit32(v, &claim->weight);
+        visit32(v, &claim->left);
         visit64(v, &claim->expiry);
     }
     visit_size(v, &r->claims.count);
+    visit64(v, &r->version);
 }
 
 /* A register with a number of its own in every field is not sound, and comes back from a refused change as it went. */
@@ -562,7 +521,7 @@ static void pass_registers(void) {
         visitor writing = {true, first << 20, 0};
         guvrendik_register r;
         visit_register(&writing, &r);
-        guvrendik_claim claim = {1, 0, 1, 1, 1, 1, 1, 0};
+        guvrendik_claim claim = {.id = 1, .grantor = 1, .holder = 1, .resource = 1, .rights = 1, .weight = 1};
         guvrendik_granted granted = guvrendik_grant(r, claim, 0);
         visitor reading = {false, first << 20, 0};
         visit_register(&reading, &granted.state);
@@ -606,7 +565,7 @@ static uint64_t next_number(const char **at) {
 
 /* How many fields of the register are not what the text says. */
 static unsigned register_wrong(const guvrendik_register *r, const char *text) {
-    unsigned wrong = next_number(&text) != 1;
+    unsigned wrong = r->version != next_number(&text);
     size_t length;
     wrong += r->actors.count != next_number(&text);
     for (size_t i = 0; i < r->actors.count; i++) {
@@ -634,6 +593,7 @@ static unsigned register_wrong(const guvrendik_register *r, const char *text) {
         wrong += claim->resource != next_number(&text);
         wrong += claim->rights != next_number(&text);
         wrong += claim->weight != next_number(&text);
+        wrong += r->version == GUVRENDIK_REGISTER_2 && claim->left != next_number(&text);
         wrong += claim->expiry != next_number(&text);
     }
     return wrong;
@@ -672,7 +632,7 @@ static void pass_texts(const char *register_text, const char *action_text) {
 
 static guvrendik_register small_register(void) {
     guvrendik_register r;
-    memset(&r, 0, sizeof r);
+    guvrendik_begin(&r, GUVRENDIK_REGISTER_1);
     r.actors.list[0] = (guvrendik_actor){1, GUVRENDIK_HUMAN, 0};
     r.actors.count = 1;
     r.resources.list[0].id = 10;
@@ -1030,25 +990,20 @@ static void make_call(size_t call, const input *in, const answers *known, answer
     case 0: out->sound = guvrendik_sound(in->r); break;
     case 1:
         out->contained = guvrendik_contains(one->path, one->len, two->path, two->len);
-        settle_containment(&out->contained);
         break;
     case 2:
         out->granted = guvrendik_grant(in->r, in->c, in->now);
-        settle(&out->granted.state);
         break;
     case 3:
         out->revoked = guvrendik_revoke(in->r, in->revoker, in->claim);
-        settle(&out->revoked.state);
         break;
     case 4: out->verdict = guvrendik_gate(in->r, in->a); break;
     case 5:
         out->judged = guvrendik_judge_plan(in->r, in->p);
-        settle_plan(&out->judged);
         break;
     case 6: out->written = guvrendik_write_register(in->r, out->text, sizeof out->text); break;
     case 7:
         out->read = guvrendik_read_register(known->text, known->written.length);
-        settle(&out->read.state);
         break;
     case 8: out->action = guvrendik_read_action(action_text, in->action_len); break;
     case 9:
@@ -1057,7 +1012,6 @@ static void make_call(size_t call, const input *in, const answers *known, answer
         break;
     case 10:
         out->json = guvrendik_read_json(in->json_text, in->json_len, JSON_NOW);
-        settle_json(&out->json);
         break;
     case 11:
         out->json_written = guvrendik_write_json(known->json.action, known->json.id, known->json.id_len, known->json.kind,
@@ -1065,15 +1019,12 @@ static void make_call(size_t call, const input *in, const answers *known, answer
         break;
     case 12:
         out->cleared = guvrendik_clear_resource(in->r, in->keeper, in->resource);
-        settle(&out->cleared.state);
         break;
     case 13:
         out->renewed = guvrendik_clear_expired(in->r, in->caller, in->moment);
-        settle(&out->renewed.state);
         break;
     case 14:
         out->plan_judged = guvrendik_judge_plan_text(in->r, in->plan_text, in->plan_len);
-        settle_plan_text(&out->plan_judged);
         break;
     }
 }

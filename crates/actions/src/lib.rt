@@ -93,7 +93,7 @@ pub enum Judgement {
     // 1: no violations.
     Permitted,
     // 2: with its number of violations.
-    Refused(usize),
+    Refused(u32),
     // 3: it stands after the first action with a flag set.
     Cancelled,
 }
@@ -148,7 +148,7 @@ pub fn judgement_number(j: Judgement) -> u32
 }
 
 // The number of violations that a verdict of a plan names, 0 where it names none.
-pub fn judgement_value(j: Judgement) -> usize
+pub fn judgement_value(j: Judgement) -> u32
     ensures { λ r. ⌜ r ≡ judgementValue j ⌝ }
 {
     match j {

@@ -28,6 +28,7 @@ module _ (r : Register) (c : Claim) (o : Outcome) {a n : ℕ} (accepted : a ≡ 
         resources = r .resources;
         list = set (r .claims .list) (r .claims .count) c;
         count = r .claims .count + 1;
+        version = r .version;
         accepted = a;
         refusal = n;
       }) (grantedAnswer r c o)
@@ -39,6 +40,7 @@ module _ (r : Register) (c : Claim) (o : Outcome) {a n : ℕ} (accepted : a ≡ 
         resources = r .resources;
         list = r .claims .list;
         count = r .claims .count;
+        version = r .version;
         accepted = a;
         refusal = n;
       }) (grantedAnswer r c o)

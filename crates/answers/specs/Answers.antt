@@ -67,6 +67,7 @@ grantAnswer g = record {
   resources = g .register .resources;
   list = g .register .claims .list;
   count = g .register .claims .count;
+  version = g .register .version;
   accepted = acceptedNumber (g .outcome);
   refusal = refusalNumber (g .outcome);
 }
@@ -188,4 +189,4 @@ jsonAnswer r = record {
 
 -- the version of the calls, as the header has it
 abbrev pub versionNumbers : VersionNumbers
-versionNumbers = record { major = 1; minor = 1; patch = 0 }
+versionNumbers = record { major = 2; minor = 0; patch = 0 }

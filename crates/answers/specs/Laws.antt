@@ -15,6 +15,7 @@ use Rattle.refusals.specs.Laws.{outcome-cases, outcome-first}
 use Rattle.refusals.specs.declared.Outcome.{Outcome}
 use Rattle.refusals.specs.declared.Outcome.the-variants.{Accepted}
 use Rattle.change_rules.specs.Changes.{worldTests, grantTests, appended, granted, Withdrawal, withdrawTests, withdrawn}
+use Rattle.granting.specs.Settled.{grantOutcome}
 use Rattle.withdrawing.specs.Struck.{struckOf}
 use Rattle.withdrawing.specs.declared.Struck.{Struck}
 use Rattle.actions.specs.declared.Verdict.{Verdict}
@@ -57,9 +58,10 @@ accepted-room r c moment q =
     let behind-fresh = outcome-first _ _ behind-names .1 in
     outcome-first _ _ behind-fresh .0
 
--- with the outcome of a grant's tests it is what the grant answers
-pub granted-natural : (r : Register) (c : Claim) (moment : ℕ) → grantedAnswer r c (outcomeOf (grantTests r c moment)) ≡ grantAnswer (granted r c moment)
-unfolding granted
+-- with the outcome of a grant and the claim beside it, it is what the grant answers
+pub granted-natural : (r : Register) (c : Claim) (moment : ℕ)
+    → grantedAnswer r (grantOutcome r c moment .claim) (grantOutcome r c moment .outcome) ≡ grantAnswer (granted r c moment)
+unfolding granted grantOutcome
 granted-natural r c moment = outcome-cases (outcomeOf (grantTests r c moment))
     (λ accepted. rw (accepted, accepted-room r c moment accepted))
     (λ why refused. rw refused)
@@ -67,7 +69,7 @@ granted-natural r c moment = outcome-cases (outcomeOf (grantTests r c moment))
 -- a withdrawal that left some claims, beside its outcome and how many went
 abbrev pub withdrawnAnswer : Register → Struck → RevokeAnswer
 withdrawnAnswer r k = record {
-  state = record { actors = r .actors; resources = r .resources; claims = k .claims };
+  state = record { actors = r .actors; resources = r .resources; claims = k .claims; version = r .version };
   accepted = acceptedNumber (k .outcome);
   refusal = refusalNumber (k .outcome);
   removed = k .removed;

@@ -1,6 +1,6 @@
 // The answers that cross to the portal, as structs of numbers.
-// Here is what gives the numbers of an inner answer. No call asks anything of its caller, and no
-// answer whose numbers are all zero is a yes.
+// They have no bytes between or behind their fields. Here is what gives the numbers of an inner
+// answer. No call asks anything of its caller, and no answer whose numbers are all zero is a yes.
 ghost use mathlib.Core.Path.{_≡_};
 ghost use Rattle.answers.specs.Answers.{yesNumber, acceptedNumber, refusalNumber, decisionNumber, stopNumber, violationNumbers, violationList, judgementNumbers, judgementList, textJudgementList, writtenAnswer, versionNumbers};
 ghost use Rattle.answers.specs.Laws.{containmentOf, grantedAnswer, withdrawnAnswer};
@@ -27,7 +27,7 @@ use withdrawing::Struck;
 // The answer of a containment: 1 for a yes, with the length of the trimmed outer path, which may be 0. Else zeros.
 #[repr(C)]
 pub struct Containment {
-    pub contained: u32,
+    pub contained: u64,
     pub length: usize,
 }
 
@@ -45,6 +45,7 @@ pub struct GrantAnswer {
     pub resources: Resources,
     pub list: [Claim; Register::CLAIMS],
     pub count: usize,
+    pub version: u64,
     pub accepted: u32,
     pub refusal: u32,
 }
@@ -80,7 +81,7 @@ pub struct GateAnswer {
 #[repr(C)]
 pub struct JudgementNumbers {
     pub decision: u32,
-    pub violations: usize,
+    pub violations: u32,
 }
 
 // The answer for a plan: accepted is 1, with a verdict to each action. Else it is 0, with 01's number and the position of the action that
@@ -134,7 +135,7 @@ pub struct JsonAnswer {
     pub accepted: u32,
     pub refusal: u32,
     pub kind: u32,
-    pub len: usize,
+    pub len: u32,
     pub id: [u8; ID_BYTES],
 }
 
@@ -159,8 +160,8 @@ pub fn version() -> VersionNumbers
     ensures { λ y. ⌜ y ≡ versionNumbers ⌝ }
 {
     VersionNumbers {
-        major: 1,
-        minor: 1,
+        major: 2,
+        minor: 0,
         patch: 0,
     }
 }
@@ -178,11 +179,11 @@ pub fn contained(w: Reach) -> Containment
 {
     match w {
         Reach::Outside => Containment {
-            contained: yes(false),
+            contained: yes(false) as u64,
             length: 0,
         },
         Reach::Inside(n) => Containment {
-            contained: yes(true),
+            contained: yes(true) as u64,
             length: n,
         },
     }
@@ -318,8 +319,8 @@ pub fn written(w: Written) -> WrittenAnswer
     }
 }
 
-// A grant of a claim with this outcome: accepted, and where there is room, the claim goes to the end of the list; else the register is as it
-// came. Each part is put in place once.
+// A grant with this outcome of the claim as it is stored: accepted, and where there is room, the claim goes to the end of the list; else the
+// register is as it came. Each part is put in place once.
 pub fn granted(r: Register, c: Claim, outcome: Outcome) -> GrantAnswer
     ensures { λ y. ⌜ y ≡ grantedAnswer r c outcome ⌝ }
 {
@@ -334,6 +335,7 @@ pub fn granted(r: Register, c: Claim, outcome: Outcome) -> GrantAnswer
         resources,
         list,
         count: at,
+        version: r.version,
         accepted,
         refusal: refusal(outcome),
     };
@@ -372,6 +374,7 @@ pub fn withdrawn(r: Register, struck: Struck) -> RevokeAnswer
             actors,
             resources,
             claims,
+            version: r.version,
         },
         accepted: accepted(outcome),
         refusal: refusal(outcome),

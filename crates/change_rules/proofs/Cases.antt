@@ -6,7 +6,7 @@ use Prim.Native.Nat.{ℕ}
 use lib.ListN.{replicate}
 use Rattle.lists.specs.Lists.{dropping, distinct}
 use Rattle.rights.specs.Rights.{hasRight, hasRights, barsMachine}
-use Rattle.register.specs.Register.{claimsOf, noActor, noResource, noClaim}
+use Rattle.register.specs.Register.{claimsOf, withLeft, noActor, noResource, noClaim}
 use Rattle.register.specs.Chain.{chain, rootGranted, circling}
 use Rattle.register.specs.declared.Claim.{Claim}
 use Rattle.register.specs.declared.Register.{Register}
@@ -18,7 +18,7 @@ use Rattle.refusals.specs.declared.Outcome.the-variants.{Accepted, Refused}
 
 abbrev pub claim : ℕ → ℕ → ℕ → ℕ → ℕ → ℕ → ℕ → ℕ → Claim
 claim id parent grantor holder resource rights weight expiry =
-    record { id = id; parent = parent; grantor = grantor; holder = holder; resource = resource; rights = rights; weight = weight; expiry = expiry }
+    record { id = id; parent = parent; grantor = grantor; holder = holder; resource = resource; rights = rights; weight = weight; left = 0; expiry = expiry }
 
 -- Two humans, each with a resource to keep; a machine with an owner, and one without. Claim 7 is a root with READ, WRITE and DELEGATE until the
 -- moment 2,000; 8 is drawn from it for the machine, without WRITE; 9 is drawn from 8, with READ alone.
@@ -38,6 +38,7 @@ desk = record {
     list = claim 7 0 1 1 10 19 600 2000 ∷ claim 8 7 1 2 10 17 500 0 ∷ claim 9 8 2 3 10 1 500 0 ∷ replicate 253 noClaim;
     count = 3;
   };
+  version = 1;
 }
 
 -- a claim before its parent
@@ -46,6 +47,19 @@ spoilt = record {
   actors = desk .actors;
   resources = desk .resources;
   claims = record { list = claim 8 7 1 2 10 17 500 0 ∷ claim 7 0 1 1 10 19 600 2000 ∷ replicate 254 noClaim; count = 2 };
+  version = 1;
+}
+
+-- the same desk in version 2: 7 may pass through 5 more hands, 8 through 3, 9 through none
+unfoldable pub deskTwo : Register
+deskTwo = record {
+  actors = desk .actors;
+  resources = desk .resources;
+  claims = record {
+    list = withLeft 5 (claim 7 0 1 1 10 19 600 2000) ∷ withLeft 3 (claim 8 7 1 2 10 17 500 0) ∷ claim 9 8 2 3 10 1 500 0 ∷ replicate 253 noClaim;
+    count = 3;
+  };
+  version = 2;
 }
 
 -- 0 for accepted, else the refusal's number
@@ -99,6 +113,33 @@ grants-told : map (λ a. told (granted desk (a .asks) (a .moment) .outcome)) gra
     ≡ 0 ∷ 0 ∷ 2 ∷ 2 ∷ 2 ∷ 3 ∷ 3 ∷ 3 ∷ 4 ∷ 6 ∷ 7 ∷ 8 ∷ 9 ∷ 10 ∷ 10 ∷ 11 ∷ 11 ∷ 12 ∷ 13 ∷ 14 ∷ 16 ∷ 16 ∷ []
 unfolding desk grants granted grantTests worldTests parentTests sourceLive outcomeOf sound withinLimits soundActors soundResources soundClaims acceptable alone over fresh drawn overChain machineMay drawnFrom rootKept namesStand claimFits resourceFits actorFits distinct chain circling rootGranted hasRight hasRights barsMachine
 grants-told = refl
+
+-- In version 2 left is below the parent's, else it is 15, by one or by more; a root has any up to 16; above 16 it is 2. In version 1 it is not asked.
+left-told : map (λ r. map (λ c. told (granted r c 0 .outcome)) (
+    withLeft 2 (claim 20 8 2 3 10 1 500 0)
+    ∷ withLeft 0 (claim 20 8 2 3 10 1 500 0)
+    ∷ withLeft 16 (claim 20 0 1 3 10 1 500 0)
+    ∷ withLeft 3 (claim 20 8 2 3 10 1 500 0)
+    ∷ withLeft 16 (claim 20 8 2 3 10 1 500 0)
+    ∷ withLeft 17 (claim 20 8 2 3 10 1 500 0)
+    ∷ withLeft 4294967295 (claim 20 0 1 3 10 1 500 0)
+    ∷ [])) (deskTwo ∷ desk ∷ [])
+    ≡ (0 ∷ 0 ∷ 0 ∷ 15 ∷ 15 ∷ 2 ∷ 2 ∷ []) ∷ replicate 7 0 ∷ []
+unfolding desk deskTwo granted grantTests worldTests parentTests sourceLive outcomeOf sound withinLimits soundActors soundResources soundClaims acceptable alone over fresh drawn overChain machineMay drawnFrom rootKept namesStand claimFits resourceFits actorFits distinct chain circling rootGranted hasRight hasRights barsMachine
+left-told = refl
+
+-- what an accepted grant stores: in version 2 the left that was asked for, in version 1 16 less the hops
+stored-told : map (λ r. map (λ c. c .left) (claimsOf (granted r (withLeft 1 (claim 20 8 2 3 10 1 500 0)) 0 .register .claims))) (deskTwo ∷ desk ∷ [])
+    ≡ (5 ∷ 3 ∷ 0 ∷ 1 ∷ []) ∷ (0 ∷ 0 ∷ 0 ∷ 14 ∷ []) ∷ []
+unfolding desk deskTwo granted grantTests worldTests parentTests sourceLive outcomeOf sound withinLimits soundActors soundResources soundClaims acceptable alone over fresh drawn overChain machineMay drawnFrom rootKept namesStand claimFits resourceFits actorFits distinct chain circling rootGranted hasRight hasRights barsMachine
+stored-told = refl
+
+-- a grant and a revocation keep the version, accepted and refused
+versions-told : map (λ r. granted r (withLeft 1 (claim 20 8 2 3 10 1 500 0)) 0 .register .version ∷ granted r (withLeft 1 (claim 9 8 2 3 10 1 500 0)) 0 .register .version
+    ∷ withdrawn r (revoke 1 8) .register .version ∷ withdrawn r (revoke 2 8) .register .version ∷ []) (deskTwo ∷ desk ∷ [])
+    ≡ replicate 4 2 ∷ replicate 4 1 ∷ []
+unfolding desk deskTwo granted grantTests worldTests parentTests sourceLive withdrawn revokeTests dropping outcomeOf sound withinLimits soundActors soundResources soundClaims acceptable alone over fresh drawn overChain machineMay drawnFrom rootKept namesStand claimFits resourceFits actorFits distinct chain circling rootGranted hasRight hasRights barsMachine
+versions-told = refl
 
 spoilt-told : told (granted spoilt (claim 20 0 1 3 10 1 500 0) 0 .outcome) ≡ 1
 unfolding desk spoilt granted grantTests outcomeOf sound withinLimits soundActors soundResources soundClaims acceptable alone over fresh drawn overChain machineMay drawnFrom rootKept namesStand claimFits resourceFits actorFits distinct chain circling rootGranted hasRight hasRights barsMachine

@@ -6,13 +6,14 @@ use Prim.Native.Nat.{ℕ, _+_, _-_}
 use lib.ListN.{replicate}
 use Rattle.lists.specs.Lists.{counted, distinct}
 use Rattle.rights.specs.Rights.{hasRight, hasRights, barsMachine}
+use Rattle.register.specs.Register.{withLeft}
 use Rattle.register.specs.Chain.{chain, rootGranted, circling}
 use Rattle.register.specs.declared.Claim.{Claim}
 use Rattle.register.specs.declared.Register.{Register}
 use Rattle.soundness_rules.specs.Sound.{actorFits, resourceFits, claimFits, namesStand, rootKept, drawnFrom, machineMay, overChain, drawn, fresh, alone, over, acceptable, soundClaims, soundActors, soundResources, withinLimits, sound}
 use Rattle.refusals.specs.Refusals.{outcomeOf}
 use Rattle.change_rules.specs.Changes.{sourceLive, parentTests, worldTests, grantTests, granted, revokeTests, clearResourceTests, clearExpiredTests, Withdrawal, revoke, clearResource, clearExpired, withdrawn}
-use Rattle.change_rules.proofs.Cases.{claim, desk, spoilt, told, Asked, asked}
+use Rattle.change_rules.proofs.Cases.{claim, desk, deskTwo, spoilt, told, Asked, asked}
 
 -- what a grant of each claim is told
 abbrev grants : Register → List Asked → List ℕ
@@ -54,6 +55,7 @@ claiming claims count = record {
   actors = desk .actors;
   resources = desk .resources;
   claims = record { list = claims; count = count };
+  version = 1;
 }
 
 -- 256 roots: 5; 4 before 5, and 5 before 6
@@ -77,6 +79,7 @@ line n = record {
   actors = record { list = map (λ i. record { id = i; kind = 1; owner = 0 }) (counted 1 20); count = 20 };
   resources = desk .resources;
   claims = record { list = map (λ i. claim i (i - 1) i (i + 1) 10 16 600 0) (counted 1 n); count = n };
+  version = 1;
 }
 
 -- 16 hops are accepted, with 17 it is 15; 14 before 15, 15 before 16
@@ -89,6 +92,16 @@ hops-told : (grants (line 16) (asked (claim 20 16 17 18 10 16 600 0) 0 ∷ []) �
     ≡ 15 ∷ 14 ∷ 15 ∷ [])
 unfolding desk granted grantTests worldTests parentTests sourceLive outcomeOf sound withinLimits soundActors soundResources soundClaims acceptable alone over fresh drawn overChain machineMay drawnFrom rootKept namesStand claimFits resourceFits actorFits distinct chain circling rootGranted hasRight hasRights barsMachine
 hops-told = (refl, refl)
+
+-- the same in version 2, where left is not below the parent's: 2 before 15, 14 before 15, 15 before 16
+left-told : grants deskTwo (
+    asked (withLeft 17 (claim 20 8 2 3 10 1 500 0)) 0
+    ∷ asked (withLeft 3 (claim 20 8 2 3 10 1 501 0)) 0
+    ∷ asked (withLeft 3 (claim 20 8 2 1 10 1 500 0)) 0
+    ∷ [])
+    ≡ 2 ∷ 14 ∷ 15 ∷ []
+unfolding desk deskTwo granted grantTests worldTests parentTests sourceLive outcomeOf sound withinLimits soundActors soundResources soundClaims acceptable alone over fresh drawn overChain machineMay drawnFrom rootKept namesStand claimFits resourceFits actorFits distinct chain circling rootGranted hasRight hasRights barsMachine
+left-told = refl
 
 -- what a withdrawal is told
 abbrev withdrawals : Register → List Withdrawal → List ℕ

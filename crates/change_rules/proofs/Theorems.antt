@@ -1,11 +1,12 @@
 -- What is proved of a grant's answer `granted` and a withdrawal's `withdrawn`. What any calls of them come to is in the crate `history`.
 -- Assumes nothing.
 use mathlib.Core.Path.{_≡_}
-use mathlib.Core.Bool.{true}
+use mathlib.Core.Bool.{true, false}
 use mathlib.Core.List.{List, _∷_, _++_}
 use Prim.Native.Nat.{ℕ}
 use lib.ListN.{length}
-use Rattle.register.specs.Register.{Same}
+use Rattle.register.specs.Limits.{tellsLeft}
+use Rattle.register.specs.Register.{Same, withLeft}
 use Rattle.register.specs.Chain.{above, live}
 use Rattle.register.specs.declared.Claim.{Claim}
 use Rattle.register.specs.declared.Register.{Register}
@@ -13,6 +14,7 @@ use Rattle.soundness_rules.specs.Sound.{sound}
 use Rattle.change_rules.specs.Changes.{standing, sourceLive, granted, Withdrawal, withdrawn}
 use Rattle.change_rules.proofs.Sameness as sameness
 use Rattle.change_rules.proofs.Sources as sources
+use Rattle.change_rules.proofs.Versions as versions
 
 -- 1a. Registers that are the same get the same outcome of a grant and the same registers back. Their arrays of claims have as many places as each
 -- other, as those of all registers of the program have by their type.
@@ -30,3 +32,15 @@ withdrawn-same = sameness.withdrawn-same
 pub source-natural : (r : Register) → sound r ≡ true → (later : List Claim) (p : Claim) (earlier : List Claim) → standing r ≡ later ++ p ∷ earlier
     → (c : Claim) → c .parent ≡ p .id → (moment : ℕ) → sourceLive moment (above (standing r) c) ≡ live moment (standing r) p
 source-natural = sources.source-natural
+
+-- 2a. A grant keeps the version of any register, accepted or refused.
+pub granted-version : (r : Register) (c : Claim) (moment : ℕ) → granted r c moment .register .version ≡ r .version
+granted-version = versions.granted-version
+
+-- 2b. So does a withdrawal.
+pub withdrawn-version : (r : Register) (w : Withdrawal) → withdrawn r w .register .version ≡ r .version
+withdrawn-version = versions.withdrawn-version
+
+-- 2c. Outside version 2 the whole answer of a grant is the same whatever the claim holds as left.
+pub grant-left-unasked : (r : Register) → tellsLeft (r .version) ≡ false → (n : ℕ) (c : Claim) (moment : ℕ) → granted r (withLeft n c) moment ≡ granted r c moment
+grant-left-unasked = versions.grant-left-unasked

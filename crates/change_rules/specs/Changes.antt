@@ -7,11 +7,11 @@ use lib.ListN.{length, set, replicate}
 use Rattle.lists.specs.Lists.{any, every}
 use Rattle.rights.specs.Rights.{delegating, hasRight, hasRights, barsMachine}
 use Rattle.register.specs.Limits.{claimLimit, momentEnd}
-use Rattle.register.specs.Register.{actorsOf, resourcesOf, claimsOf, noClaim}
+use Rattle.register.specs.Register.{actorsOf, resourcesOf, claimsOf, noClaim, withClaims}
 use Rattle.register.specs.Chain.{latest, chain, above, circling, current, expired}
 use Rattle.register.specs.declared.Claim.{Claim}
 use Rattle.register.specs.declared.Register.{Register}
-use Rattle.soundness_rules.specs.Sound.{World, worldOf, sound, claimFits, namesStand, rootKept, withinHops, fresh, human}
+use Rattle.soundness_rules.specs.Sound.{World, worldOf, sound, claimFits, namesStand, rootKept, fewerLeft, fresh, stored, human}
 use Rattle.refusals.specs.Refusals.{Test, outcomeOf, isAccepted}
 use Rattle.change_rules.specs.declared.Granted.{Granted}
 use Rattle.change_rules.specs.declared.Revoked.{Revoked}
@@ -20,7 +20,7 @@ use Rattle.soundness_rules.specs.Struck.{strike}
 
 -- the world of a register, and its claims latest first
 abbrev pub worldIn : Register → World
-worldIn r = worldOf (actorsOf (r .actors)) (resourcesOf (r .resources))
+worldIn r = worldOf (r .version) (actorsOf (r .actors)) (resourcesOf (r .resources))
 
 abbrev pub standing : Register → List Claim
 standing r = latest (claimsOf (r .claims))
@@ -32,15 +32,15 @@ sourceLive moment [] = false
 sourceLive moment (p ∷ higher) = every (current moment) (p ∷ higher)
 
 -- the tests of a grant with a parent, over the chain above the claim: 9 to 16
-unfoldable pub parentTests : ℕ → List Claim → Claim → List Test
-parentTests moment [] c = record { passed = false; refusal = NoParent } ∷ []
-parentTests moment (p ∷ higher) c =
+unfoldable pub parentTests : ℕ → ℕ → List Claim → Claim → List Test
+parentTests version moment [] c = record { passed = false; refusal = NoParent } ∷ []
+parentTests version moment (p ∷ higher) c =
     record { passed = eqb (p .holder) (c .grantor) && eqb (p .resource) (c .resource); refusal = NotHeld }
     ∷ record { passed = sourceLive moment (p ∷ higher); refusal = NotLive }
     ∷ record { passed = hasRight (p .rights) delegating; refusal = NoDelegate }
     ∷ record { passed = hasRights (p .rights) (c .rights); refusal = RightLacking }
     ∷ record { passed = leb (c .weight) (p .weight); refusal = WeightAbove }
-    ∷ record { passed = withinHops (p ∷ higher); refusal = TooManyHops }
+    ∷ record { passed = fewerLeft version p higher c; refusal = TooManyHops }
     ∷ record { passed = not (circling (λ d. d .grantor) (λ d. d .holder) (p ∷ higher) (c .holder)); refusal = Circle }
     ∷ []
 
@@ -59,22 +59,18 @@ worldTests w earlier n c =
 unfoldable pub grantTests : Register → Claim → ℕ → List Test
 grantTests r c moment =
     record { passed = sound r; refusal = Unsound }
-    ∷ record { passed = claimFits c && ltb moment momentEnd; refusal = Range }
+    ∷ record { passed = claimFits (r .version) c && ltb moment momentEnd; refusal = Range }
     ∷ (worldTests (worldIn r) (standing r) (r .claims .count) c
-    ++ cond (eqb (c .parent) 0) [] (parentTests moment (above (standing r) c) c))
+    ++ cond (eqb (c .parent) 0) [] (parentTests (r .version) moment (above (standing r) c) c))
 
 -- the register with a claim at the end of its list
 abbrev pub appended : Register → Claim → Register
-appended r c = record {
-  actors = r .actors;
-  resources = r .resources;
-  claims = record { list = set (r .claims .list) (r .claims .count) c; count = r .claims .count + 1 };
-}
+appended r c = withClaims r (record { list = set (r .claims .list) (r .claims .count) c; count = r .claims .count + 1 })
 
--- the answer of a grant: accepted, the claim goes to the end of the list; refused, the register is as it came
+-- the answer of a grant: accepted, the claim as it is stored goes to the end of the list; refused, the register is as it came
 unfoldable pub granted : Register → Claim → ℕ → Granted
 granted r c moment = record {
-  register = cond (isAccepted (outcomeOf (grantTests r c moment))) (appended r c) r;
+  register = cond (isAccepted (outcomeOf (grantTests r c moment))) (appended r (stored (r .version) (standing r) c)) r;
   outcome = outcomeOf (grantTests r c moment);
 }
 
@@ -129,11 +125,7 @@ unstruck P r = latest (strike (λ c. c .id) (λ c. c .parent) P (standing r))
 
 -- the register with just these claims: every place behind them holds the zero claim
 abbrev pub holding : Register → List Claim → Register
-holding r cs = record {
-  actors = r .actors;
-  resources = r .resources;
-  claims = record { list = cs ++ replicate (claimLimit - length cs) noClaim; count = length cs };
-}
+holding r cs = withClaims r (record { list = cs ++ replicate (claimLimit - length cs) noClaim; count = length cs })
 
 -- the answer of a withdrawal: accepted, what it names and every claim with such a one on its chain go; refused, the register is as it came
 unfoldable pub withdrawn : Register → Withdrawal → Revoked

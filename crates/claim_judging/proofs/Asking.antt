@@ -2,11 +2,12 @@
 use mathlib.Core.Path.{_≡_, sym, _∙_}
 use mathlib.Core.Bool.{Bool, true, not, _&&_, _||_, and-true, and-assoc}
 use mathlib.Core.List.{List, [], _∷_}
+use Prim.Native.Nat.{ℕ}
 use lib.Dec.{eqb, leb, ltb}
 use borrow.Author.Tests.{eq-eqb, ne-eqb}
 use Rattle.lists.specs.Lists.{ands}
 use Rattle.rights.specs.Rights.{isRights, barsMachine}
-use Rattle.register.specs.Limits.{claimLimit, idLimit, weightLimit, momentEnd, machineKind, isId}
+use Rattle.register.specs.Limits.{claimLimit, idLimit, weightLimit, leftLimit, tellsLeft, momentEnd, machineKind, isId}
 use Rattle.register.specs.declared.Claim.{Claim}
 use Rattle.soundness_rules.specs.Sound.{World, claimFits, namesStand, rootKept}
 use Rattle.claim_judging.specs.Alone.{Found, aloneAt}
@@ -21,15 +22,16 @@ joined-ands : (a : Bool) (l : List Bool) → joined a l ≡ ands (a ∷ l)
 joined-ands a [] = sym (and-true a)
 joined-ands a (b ∷ l) = joined-ands (a && b) l ∙ and-assoc a b (ands l)
 
-module _ (c : Claim) where
+module _ (version : ℕ) (c : Claim) where
   pub claim-asked : {own grantor holder resource rights : Bool}
       → own ≡ isId (c .id)
       → grantor ≡ isId (c .grantor)
       → holder ≡ isId (c .holder)
       → resource ≡ isId (c .resource)
       → rights ≡ isRights (c .rights)
-      → own && leb (c .parent) idLimit && grantor && holder && resource && rights && leb (c .weight) weightLimit && ltb (c .expiry) momentEnd
-      ≡ claimFits c
+      → own && leb (c .parent) idLimit && grantor && holder && resource && rights && leb (c .weight) weightLimit
+      && (not (tellsLeft version) || leb (c .left) leftLimit) && ltb (c .expiry) momentEnd
+      ≡ claimFits version c
   unfolding claimFits
   claim-asked o g h s r =
       rw (o, g, h, s, r)
@@ -41,6 +43,7 @@ module _ (c : Claim) where
       ∷ isId (c .resource)
       ∷ isRights (c .rights)
       ∷ leb (c .weight) weightLimit
+      ∷ (not (tellsLeft version) || leb (c .left) leftLimit)
       ∷ ltb (c .expiry) momentEnd
       ∷ []))
 
@@ -65,9 +68,9 @@ module _ (w : World) (c : Claim) where
   root-asked h q = rw (eq-eqb (c .parent) 0 h) q
 
 -- a claim by what was looked up of it
-module _ (c : Claim) (f : Found) where
+module _ (version : ℕ) (c : Claim) (f : Found) where
   pub alone-asked : {fit barred : Bool}
-      → fit ≡ claimFits c
+      → fit ≡ claimFits version c
       → barred ≡ barsMachine (c .rights)
       → fit
       && ltb (f .grantor) claimLimit
@@ -75,12 +78,12 @@ module _ (c : Claim) (f : Found) where
       && ltb (f .report) claimLimit
       && (not (eqb (c .parent) 0) || eqb (c .grantor) (f .keeper))
       && (not (eqb machineKind (f .kind)) || (not (eqb 0 (f .owner)) && not barred))
-      ≡ aloneAt c f
+      ≡ aloneAt version c f
   unfolding aloneAt
   alone-asked t b =
       rw (t, b)
       (joined-ands
-      (claimFits c)
+      (claimFits version c)
       (ltb (f .grantor) claimLimit
       ∷ ltb (f .holder) claimLimit
       ∷ ltb (f .report) claimLimit

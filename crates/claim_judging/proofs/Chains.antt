@@ -4,13 +4,14 @@ use mathlib.Core.Bool.{Bool, true, false, not, _&&_, _||_, and-true}
 use mathlib.Core.List.{List}
 use Prim.Native.Nat.{ℕ, zero, suc, _-_, _≤_, _<_}
 use native.Mathlib.Omega.{arith}
-use borrow.Author.Tests.{eq-eqb, ne-eqb, lt-ltb, le-ltb}
-use lib.Dec.{eqb}
+use borrow.Author.Tests.{eq-eqb, ne-eqb, lt-ltb, le-ltb, ltb-true, ltb-false}
+use lib.Dec.{eqb, ltb}
 use lib.ListN.{getD}
-use Rattle.register.specs.Limits.{hopLimit}
+use Rattle.register.specs.Limits.{leftLimit}
 use Rattle.register.specs.declared.Claim.{Claim}
+use Rattle.lists.specs.Tests.{cases}
 use Rattle.soundness_rules.specs.Sound.{drawnFrom}
-use Rattle.claim_judging.specs.Over.{circlesUp, overAt}
+use Rattle.claim_judging.specs.Over.{handsAt, circlesUp, overAt}
 
 -- a test that passes leaves the answer to those behind it, and one that fails decides
 pub passes : {a b : Bool} → a ≡ true → a && b ≡ b
@@ -37,18 +38,36 @@ module _ (ups grantors holders : List ℕ) (j h : ℕ) where
   circle-last zero none = refl
   circle-last (suc steps) none = absurd (omega arith)
 
+-- 16 less one hop more is less, up to 16 hops
+less-left : (steps : ℕ) → ltb steps leftLimit ≡ ltb (leftLimit - suc steps) (leftLimit - steps)
+less-left steps =
+    cases (ltb steps leftLimit)
+    (λ e. e ∙ sym (lt-ltb (leftLimit - suc steps) (leftLimit - steps) (omega (arith, ltb-true steps leftLimit e))))
+    (λ e. e ∙ sym (le-ltb (leftLimit - suc steps) (leftLimit - steps) (omega (arith, ltb-false steps leftLimit e))))
+
+-- how many hands are left, by the version
+module _ (version : ℕ) (untold : version ≡ 2 → ⊥) where
+  pub left-none : (hops : ℕ) (c : Claim) → leftLimit ≤ hops → 0 ≡ handsAt version hops c
+  left-none hops c h = let none : leftLimit - hops ≡ 0 = omega arith in rw (ne-eqb version 2 untold, none)
+
+  pub left-counted : (hops : ℕ) (c : Claim) → leftLimit - hops ≡ handsAt version hops c
+  left-counted hops c = rw (ne-eqb version 2 untold)
+
+  pub fewer-counted : (steps : ℕ) (p c : Claim) → ltb steps leftLimit ≡ ltb (handsAt version (suc steps) c) (handsAt version steps p)
+  fewer-counted steps p c = rw (ne-eqb version 2 untold) (less-left steps)
+
 -- what a claim is asked over its parent, test by test
-module _ (ups grantors holders : List ℕ) (j steps : ℕ) (p c : Claim) where
-  pub not-drawn : drawnFrom p c ≡ false → overAt ups grantors holders j steps p c ≡ false
+module _ (version : ℕ) (ups grantors holders : List ℕ) (j steps : ℕ) (p c : Claim) where
+  pub not-drawn : drawnFrom p c ≡ false → overAt version ups grantors holders j steps p c ≡ false
   unfolding overAt
   not-drawn d = fails _ d
 
   module _ (d : drawnFrom p c ≡ true) where
-    pub too-far : hopLimit ≤ steps → overAt ups grantors holders j steps p c ≡ false
+    pub not-fewer : ltb (handsAt version (suc steps) c) (handsAt version steps p) ≡ false → overAt version ups grantors holders j steps p c ≡ false
     unfolding overAt
-    too-far h = passes d ∙ fails _ (le-ltb steps hopLimit h)
+    not-fewer h = passes d ∙ fails _ h
 
-    pub circle-decides : steps < hopLimit → {b : Bool} → b ≡ circlesUp ups grantors holders j steps (c .holder)
-        → not b ≡ overAt ups grantors holders j steps p c
+    pub circle-decides : ltb (handsAt version (suc steps) c) (handsAt version steps p) ≡ true → {b : Bool} → b ≡ circlesUp ups grantors holders j steps (c .holder)
+        → not b ≡ overAt version ups grantors holders j steps p c
     unfolding overAt
-    circle-decides h e = sym (passes d ∙ passes (lt-ltb steps hopLimit h) ∙ and-true _ ∙ ap not (sym e))
+    circle-decides h e = sym (passes d ∙ passes h ∙ and-true _ ∙ ap not (sym e))

@@ -15,14 +15,15 @@ use Rattle.columns.specs.Columns.{actorId, actorKind, actorOwner, resourceId, k
 use Rattle.lookup.specs.Finding.{placeNumber}
 use Rattle.soundness_rules.specs.Sound.{World, claimFits}
 
--- the world by the first n of the columns of the actors, and the first m of those of the resources
-abbrev pub worldBy : List ℕ → List ℕ → List ℕ → ℕ → List ℕ → List ℕ → ℕ → World
-worldBy names kinds owners n reports keepers m = record {
+-- the world of a version by the first n of the columns of the actors, and the first m of those of the resources
+abbrev pub worldBy : ℕ → List ℕ → List ℕ → List ℕ → ℕ → List ℕ → List ℕ → ℕ → World
+worldBy version names kinds owners n reports keepers m = record {
   known = λ x. any (eqb x) (take n names);
   machine = λ x. beside (take n names) (take n kinds) x machineKind;
   ownerless = λ x. beside (take n names) (take n owners) x 0;
   listed = λ x. any (eqb x) (take m reports);
   keeps = λ g x. beside (take m reports) (take m keepers) x g;
+  version = version;
 }
 
 -- what was looked up of a claim: the places of its grantor, holder and resource, the grantor's kind and owner, the resource's keeper
@@ -50,9 +51,9 @@ foundIn actors n resources m c = record {
 }
 
 -- what a claim is asked by itself, by what was looked up of it: a place that is not below the claims' limit is none
-unfoldable pub aloneAt : Claim → Found → Bool
-aloneAt c f = ands (
-    claimFits c
+unfoldable pub aloneAt : ℕ → Claim → Found → Bool
+aloneAt version c f = ands (
+    claimFits version c
     ∷ ltb (f .grantor) claimLimit
     ∷ ltb (f .holder) claimLimit
     ∷ ltb (f .report) claimLimit

@@ -61,21 +61,21 @@ tests-same fits true false report root machine root′ machine′ h k = refl
 tests-same fits true true false root machine root′ machine′ h k = refl
 tests-same fits true true true root machine root′ machine′ h k = rw (h refl, k refl)
 
-pub alone-natural : (actors : List Actor) (n : ℕ) (resources : List Resource) (m : ℕ) (c : Claim)
+pub alone-natural : (version : ℕ) (actors : List Actor) (n : ℕ) (resources : List Resource) (m : ℕ) (c : Claim)
     → n ≤ claimLimit → distinct (map actorId (take n actors)) ≡ true
     → m ≤ claimLimit → distinct (map resourceId (take m resources)) ≡ true
-    → aloneAt c (foundIn actors n resources m c) ≡ alone (worldOf (take n actors) (take m resources)) c
+    → aloneAt version c (foundIn actors n resources m c) ≡ alone (worldOf version (take n actors) (take m resources)) c
 unfolding aloneAt alone namesStand rootKept machineMay
-alone-natural actors n resources m c few apart short distant =
+alone-natural version actors n resources m c few apart short distant =
     let f = foundIn actors n resources m c in
-    let w = worldOf (take n actors) (take m resources) in
+    let w = worldOf version (take n actors) (take m resources) in
     rw (
       ← place-known actorId actors n (c .grantor) few,
       ← place-known actorId actors n (c .holder) few,
       ← place-known resourceId resources m (c .resource) short,
     )
     (tests-same
-    (claimFits c)
+    (claimFits version c)
     (ltb (f .grantor) claimLimit)
     (ltb (f .holder) claimLimit)
     (ltb (f .report) claimLimit)
@@ -90,9 +90,9 @@ alone-natural actors n resources m c few apart short distant =
     (λ placed. rw (← field-asked resourceId resources m (c .resource) short distant noResource refl keeperOf refl (c .grantor) placed)))
 
 -- the world by the columns of lists is that of those lists
-world-columns : (l : List Actor) (n : ℕ) (k : List Resource) (m : ℕ)
-    → worldBy (map actorId l) (map actorKind l) (map actorOwner l) n (map resourceId k) (map keeperOf k) m ≡ worldOf (take n l) (take m k)
-world-columns l n k m =
+world-columns : (version : ℕ) (l : List Actor) (n : ℕ) (k : List Resource) (m : ℕ)
+    → worldBy version (map actorId l) (map actorKind l) (map actorOwner l) n (map resourceId k) (map keeperOf k) m ≡ worldOf version (take n l) (take m k)
+world-columns version l n k m =
     let known : _≡_ {A = ℕ → Bool} (λ x. any (eqb x) (take n (map actorId l))) (λ x. any (λ a. eqb x (a .id)) (take n l)) =
     fun-ext (λ x. among-natural actorId x n l) in
     let machine : _≡_ {A = ℕ → Bool} (λ x. beside (take n (map actorId l)) (take n (map actorKind l)) x machineKind) (isMachine (take n l)) =
@@ -106,10 +106,10 @@ world-columns l n k m =
     rw (known, machine, ownerless, listed, keeps)
 
 -- and that by the columns of the actors and resources that stand is theirs
-pub world-natural : (a : Actors) (o : Resources) {people : ActorColumns} {things : ResourceColumns}
+pub world-natural : (version : ℕ) (a : Actors) (o : Resources) {people : ActorColumns} {things : ResourceColumns}
     → people ≡ actorColumns (actorsTo a .list) → things ≡ resourceColumns (resourcesTo o .list)
-    → worldBy (people .names) (people .kinds) (people .owners) (a .count) (things .reports) (things .keepers) (o .count) ≡ worldOf (actorsOf a) (resourcesOf o)
-world-natural a o of-people of-things =
+    → worldBy version (people .names) (people .kinds) (people .owners) (a .count) (things .reports) (things .keepers) (o .count) ≡ worldOf version (actorsOf a) (resourcesOf o)
+world-natural version a o of-people of-things =
     rw (of-people, of-things)
-    (world-columns (actorsTo a .list) (a .count) (resourcesTo o .list) (o .count)
+    (world-columns version (actorsTo a .list) (a .count) (resourcesTo o .list) (o .count)
     ∙ rw (up-to-first noActor (a .count) (a .list), up-to-first noResource (o .count) (o .list)))

@@ -6,18 +6,17 @@ use mathlib.Core.List.{List, [], _∷_, map}
 use Prim.Native.Nat.{ℕ, zero, suc, _<_}
 use native.Mathlib.Omega.{arith}
 use borrow.Author.Tests.{eq-eqb, ne-eqb, ltb-true, ltb-false}
-use lib.Dec.{eqb, leb, ltb}
+use lib.Dec.{eqb, ltb}
 use lib.ListN.{length, getD, take, length-map, List·getD-eq-default}
 use Rattle.lists.specs.Lists.{any, ands}
-use Rattle.lists.specs.Each.{list-cases, ands-out, any-reverse}
-use Rattle.register.specs.Limits.{hopLimit}
+use Rattle.lists.specs.Each.{list-cases, any-reverse}
 use Rattle.register.specs.Register.{noClaim}
 use Rattle.register.specs.Chain.{latest, above, circling, rootGranted}
 use Rattle.register.specs.declared.Claim.{Claim}
 use Rattle.columns.specs.Columns.{claimId, parentOf, grantorOf, holderOf, latestPlace, chainPlaces, placesUp}
 use Rattle.columns.specs.Laws.{place-cases, place-found, nowhere-none, place-among, among-natural, chain-places-at, chain-places-nowhere, chain-places-zero, chain-natural, circling-natural, chain-found, chain-nowhere, getD-inside, places-up-at, places-up-none}
 use Rattle.columns.specs.declared.Place.the-variants.{At, Nowhere}
-use Rattle.soundness_rules.specs.Sound.{drawnFrom, overChain, drawn, fresh, over}
+use Rattle.soundness_rules.specs.Sound.{drawnFrom, fewerLeft, overChain, drawn, fresh, over}
 use Rattle.claim_judging.specs.Over.{circlesUp, overAt, standOver}
 use Rattle.lists.specs.Tests.{cases}
 
@@ -94,47 +93,40 @@ module _ (ids parents : List ℕ) where
       ∙ sym (circling-cons (λ i. getD grantors i 0) (λ i. getD holders i 0) j up (higher up) h)
       ∙ ap (λ l. circling (λ i. getD grantors i 0) (λ i. getD holders i 0) (j ∷ l) h) (sym (begun .1))
 
--- a chain that has a first is asked of it, of its length and along it
-over-first : (l : List Claim) (p : Claim) (more : List Claim) (c : Claim) → l ≡ p ∷ more
-    → overChain l c ≡ ands (drawnFrom p c ∷ leb (length l) hopLimit ∷ not (circling grantorOf holderOf l (c .holder)) ∷ [])
+-- a chain that has a first is asked of it, of those behind it and along it
+over-first : (version : ℕ) (l : List Claim) (p : Claim) (more : List Claim) (c : Claim) → l ≡ p ∷ more
+    → overChain version l c ≡ ands (drawnFrom p c ∷ fewerLeft version p more c ∷ not (circling grantorOf holderOf l (c .holder)) ∷ [])
 unfolding overChain
-over-first l p more c e = rw e
-
--- what is drawn from a parent has one hop more than that, and at most 16
-pub over-within : (ups grantors holders : List ℕ) (k steps : ℕ) (p c : Claim) → overAt ups grantors holders k steps p c ≡ true → steps < hopLimit
-unfolding overAt
-over-within ups grantors holders k steps p c h =
-    ltb-true steps hopLimit
-    (ands-out (drawnFrom p c ∷ ltb steps hopLimit ∷ not (circlesUp ups grantors holders k steps (c .holder)) ∷ []) h .1 .0)
+over-first version l p more c e = rw e
 
 -- a claim over the first n of a list of claims, by the columns of the list
-module _ (cs : List Claim) (n : ℕ) (c : Claim) where
+module _ (version : ℕ) (cs : List Claim) (n : ℕ) (c : Claim) where
   fresh-natural : fresh (latest (take n cs)) c ≡ not (any (eqb (c .id)) (take n (map claimId cs)))
   unfolding fresh
   fresh-natural = ap not (any-reverse (λ d. eqb (c .id) (d .id)) (take n cs) ∙ sym (among-natural claimId (c .id) n cs))
 
   -- its id stands before it
-  pub doubled : (k : ℕ) → latestPlace (map claimId cs) n (c .id) ≡ At k → over (latest (take n cs)) c ≡ false
+  pub doubled : (k : ℕ) → latestPlace (map claimId cs) n (c .id) ≡ At k → over version (latest (take n cs)) c ≡ false
   unfolding over
   doubled k q = rw (fresh-natural, place-among (map claimId cs) (c .id) n k q)
 
   module _ (apart : latestPlace (map claimId cs) n (c .id) ≡ Nowhere) where
-    over-drawn : over (latest (take n cs)) c ≡ drawn (latest (take n cs)) c
+    over-drawn : over version (latest (take n cs)) c ≡ drawn version (latest (take n cs)) c
     unfolding over
     over-drawn = rw (fresh-natural, nowhere-none (map claimId cs) (c .id) n apart)
 
-    pub root-stands : c .parent ≡ 0 → over (latest (take n cs)) c ≡ true
+    pub root-stands : c .parent ≡ 0 → over version (latest (take n cs)) c ≡ true
     unfolding drawn
     root-stands e = over-drawn ∙ rw (eq-eqb (c .parent) 0 e)
 
     module _ (o : c .parent ≡ 0 → ⊥) where
-      over-chain : over (latest (take n cs)) c ≡ overChain (above (latest (take n cs)) c) c
+      over-chain : over version (latest (take n cs)) c ≡ overChain version (above (latest (take n cs)) c) c
       unfolding drawn
       over-chain = over-drawn ∙ rw (ne-eqb (c .parent) 0 o)
 
-      pub parent-nowhere : latestPlace (map claimId cs) n (c .parent) ≡ Nowhere → over (latest (take n cs)) c ≡ false
+      pub parent-nowhere : latestPlace (map claimId cs) n (c .parent) ≡ Nowhere → over version (latest (take n cs)) c ≡ false
       unfolding overChain
-      parent-nowhere q = over-chain ∙ ap (λ l. overChain l c) (chain-nowhere cs n (c .parent) q)
+      parent-nowhere q = over-chain ∙ ap (λ l. overChain version l c) (chain-nowhere cs n (c .parent) q)
 
       -- its parent stands at place k
       module _ (k : ℕ) (q : latestPlace (map claimId cs) n (c .parent) ≡ At k) where
@@ -143,7 +135,7 @@ module _ (cs : List Claim) (n : ℕ) (c : Claim) where
         one-hop-more = ap length (chain-places-at (map claimId cs) (map parentOf cs) n (c .parent) k o q)
 
         pub over-natural : (ups : List ℕ) (steps : ℕ) → KeptPlaces (map claimId cs) (map parentOf cs) ups n → steps ≡ length (higher (map claimId cs) (map parentOf cs) k)
-            → overAt ups (map grantorOf cs) (map holderOf cs) k steps (getD cs k noClaim) c ≡ over (latest (take n cs)) c
+            → overAt version ups (map grantorOf cs) (map holderOf cs) k steps (getD cs k noClaim) c ≡ over version (latest (take n cs)) c
         unfolding overAt
         over-natural ups steps kept e =
             let inside : k < n = place-found (map claimId cs) (c .parent) n k q .0 in
@@ -152,6 +144,8 @@ module _ (cs : List Claim) (n : ℕ) (c : Claim) where
             ∙ length-map (chainPlaces (map claimId cs) (map parentOf cs) n (c .parent)) (λ j. getD cs j noClaim)
             ∙ one-hop-more
             ∙ ap suc (sym e) in
+            let next : length (above (latest (take k cs)) (getD cs k noClaim)) ≡ steps =
+            omega (arith, long, ap length (chain-found cs n (c .parent) k o q)) in
             let circles : circlesUp ups (map grantorOf cs) (map holderOf cs) k steps (c .holder)
             ≡ circling grantorOf holderOf (above (latest (take n cs)) c) (c .holder) =
             circles-natural (map claimId cs) (map parentOf cs) ups (map grantorOf cs) (map holderOf cs) n kept (c .holder) steps k inside (sym e)
@@ -160,14 +154,14 @@ module _ (cs : List Claim) (n : ℕ) (c : Claim) where
             ∙ circling-natural cs n (c .parent) (c .holder) in
             sym
             (over-chain
-            ∙ over-first (above (latest (take n cs)) c) (getD cs k noClaim) (above (latest (take k cs)) (getD cs k noClaim)) c (chain-found cs n (c .parent) k o q)
-            ∙ rw (long, ← circles))
+            ∙ over-first version (above (latest (take n cs)) c) (getD cs k noClaim) (above (latest (take k cs)) (getD cs k noClaim)) c (chain-found cs n (c .parent) k o q)
+            ∙ rw (next, ← circles))
 
 -- no claim, and one more, over the earlier ones
-pub stand-nil : standOver [] ≡ true
+pub stand-nil : (version : ℕ) → standOver version [] ≡ true
 unfolding standOver
-stand-nil = refl
+stand-nil version = refl
 
-pub stand-cons : (c : Claim) (L : List Claim) → standOver (c ∷ L) ≡ over L c && standOver L
+pub stand-cons : (version : ℕ) (c : Claim) (L : List Claim) → standOver version (c ∷ L) ≡ over version L c && standOver version L
 unfolding standOver
-stand-cons c L = refl
+stand-cons version c L = refl

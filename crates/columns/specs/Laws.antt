@@ -4,7 +4,7 @@ use mathlib.Core.Bool.{Bool, true, false, _&&_, _||_, or-false}
 use mathlib.Core.List.{List, [], _∷_, _++_, map, append-nil, reverse-append}
 use Prim.Native.Nat.{ℕ, zero, suc, _-_, _≤_, _<_, min}
 use native.Mathlib.Omega.{arith}
-use borrow.Author.Tests.{lt-ltb, le-ltb, eq-eqb, ne-eqb, le-leb, lt-leb, ltb-true, ltb-false, eqb-true, eqb-false, leb-true, leb-false}
+use borrow.Author.Tests.{lt-ltb, le-ltb, eq-eqb, ne-eqb, le-leb, ltb-true, ltb-false, eqb-true, eqb-false, leb-true, leb-false}
 use lib.Dec.{eqb, ltb, leb}
 use lib.ListN.{length, take, getD, replicate, length-map, length-append, length-take, length-replicate, List·getD-map, List·getD-eq-default}
 use lib.Seq.{take-suc, take-all, take-append-seam, getD-take}
@@ -16,7 +16,7 @@ use Rattle.register.specs.Register.{noClaim}
 use Rattle.register.specs.Chain.{latest, chain, numbered, circling, current, hopsOf}
 use Rattle.register.specs.Laws.{chain-nil, chain-hit, chain-miss, chain-zero, chain-map, circling-map, numbered-own, numbered-other}
 use Rattle.register.specs.declared.Claim.{Claim}
-use Rattle.columns.specs.declared.Hops.the-variants.{Up, Beyond}
+use Rattle.columns.specs.declared.Hops.the-variants.{Up}
 use Rattle.columns.specs.declared.Place.{Place}
 use Rattle.columns.specs.declared.Place.the-variants.{At, Nowhere}
 use Rattle.columns.specs.Columns.{claimId, parentOf, grantorOf, holderOf, weightOf, expiryOf, upTo, places, latestPlace, beside, chainPlaces, stepsUp, currentAt, placesUp}
@@ -236,23 +236,6 @@ module _ (ups : List ℕ) (at : ℕ) where
 module _ {A : Type 0} (l : List A) where
   pub steps-within : (k : ℕ) → length l ≡ k → k ≤ hopLimit → stepsUp l ≡ Up k
   steps-within k e h = rw (e, le-leb k hopLimit h)
-
-  pub steps-beyond : hopLimit < length l → stepsUp l ≡ Beyond
-  steps-beyond h = rw (lt-leb (length l) hopLimit h)
-
-  -- what the number of steps says of the chain: one of as many steps as the limit is told from a longer one
-  pub steps-up-within : (k : ℕ) → stepsUp l ≡ Up k → (length l ≡ k) × (k ≤ hopLimit)
-  steps-up-within k q =
-      cases (leb (length l) hopLimit)
-      (λ e. let within : length l ≤ hopLimit = leb-true (length l) hopLimit e in
-      let same : length l ≡ k = cc (steps-within (length l) refl within) in (same, omega arith))
-      (λ e. let never : _≡_ {A = ℕ} 0 1 = cc (steps-beyond (leb-false (length l) hopLimit e)) in absurd (omega arith))
-
-  pub steps-up-beyond : stepsUp l ≡ Beyond → hopLimit < length l
-  steps-up-beyond q =
-      cases (leb (length l) hopLimit)
-      (λ e. let never : _≡_ {A = ℕ} 0 1 = cc (steps-within (length l) refl (leb-true (length l) hopLimit e)) in absurd (omega arith))
-      (λ e. leb-false (length l) hopLimit e)
 
 -- the columns of any list
 module _ {A : Type 0} where

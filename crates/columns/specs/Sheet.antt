@@ -1,4 +1,4 @@
--- Working: A sheet of claims: nine columns one behind the other, each with a number for every place that a claim may stand at. It is shaped for the
+-- Working: A sheet of claims: ten columns one behind the other, each with a number for every place that a claim may stand at. It is shaped for the
 -- code; what it says of the claims is proved in SheetLaws (`column-natural`, `sheet-claims`).
 use mathlib.Core.Bool.{_&&_, cond}
 use mathlib.Core.List.{List, [], _∷_, map}
@@ -13,10 +13,10 @@ use Rattle.register.specs.declared.Claims.{Claims}
 
 -- how many numbers a sheet has, and its last column
 abbrev pub sheetLimit : ℕ
-sheetLimit = 2304
+sheetLimit = 2560
 
 abbrev pub lastColumn : ℕ
-lastColumn = 8
+lastColumn = 9
 
 -- the columns, by what each has of a claim; an expiry takes two, its low and its high 32 bits
 abbrev pub idColumn : ℕ
@@ -46,6 +46,9 @@ expiryColumn = 7
 abbrev pub lateColumn : ℕ
 lateColumn = 8
 
+abbrev pub leftColumn : ℕ
+leftColumn = 9
+
 -- a column of a sheet: nothing where the sheet is too short, or has no such column
 unfoldable pub columnOf : ℕ → List ℕ → List ℕ
 columnOf j s = cond (leb sheetLimit (length s) && leb j lastColumn) (take claimLimit (drop (j * claimLimit) s)) []
@@ -60,6 +63,7 @@ claimOf f = record {
   resource = f resourceColumn;
   rights = f rightsColumn;
   weight = f weightColumn;
+  left = f leftColumn;
   expiry = f expiryColumn + momentEnd * f lateColumn;
 }
 
@@ -75,6 +79,7 @@ numbersOf c =
     ∷ c .weight
     ∷ (c .expiry % momentEnd)
     ∷ (c .expiry / momentEnd)
+    ∷ c .left
     ∷ []
 
 -- the claim at a place of a sheet: all zeros past its end

@@ -16,8 +16,8 @@ use register::Claims;
 use register::Register;
 use register::Resources;
 
-// A sheet of claims: nine columns one behind the other, each with a number for every place that a claim may stand at.
-pub const SHEET: usize = 2304;
+// A sheet of claims: ten columns one behind the other, each with a number for every place that a claim may stand at.
+pub const SHEET: usize = 2560;
 
 // The columns of a sheet. An expiry is kept as what it is past the last whole run of moments, and how many such runs there are: none where it is in
 // range.
@@ -38,6 +38,8 @@ pub const WEIGHTS: usize = 6;
 pub const EXPIRIES: usize = 7;
 
 pub const LATE: usize = 8;
+
+pub const LEFT: usize = 9;
 
 // Where a number stands in a column.
 pub enum Place {
@@ -119,6 +121,7 @@ fn put_claim(sheet: &mut [u32], i: usize, c: Claim)
     sheet[WEIGHTS * Register::CLAIMS + i] = c.weight;
     sheet[EXPIRIES * Register::CLAIMS + i] = (c.expiry % register::MOMENT_END) as u32;
     sheet[LATE * Register::CLAIMS + i] = (c.expiry / register::MOMENT_END) as u32;
+    sheet[LEFT * Register::CLAIMS + i] = c.left;
 }
 
 // Puts the claims that stand into a sheet, from its first place on. What is no sheet is left as it is.
@@ -143,7 +146,7 @@ pub fn column<'a>(sheet: &'a [u32], which: usize) -> &'a [u32]
     if sheet.len() < SHEET {
         return &sheet[..0];
     }
-    if LATE < which {
+    if LEFT < which {
         return &sheet[..0];
     }
     let start = which * Register::CLAIMS;
@@ -171,6 +174,7 @@ pub fn claim_at(sheet: &[u32], i: usize) -> Claim
         resource: sheet[CLAIMED * Register::CLAIMS + i],
         rights: sheet[RIGHTS * Register::CLAIMS + i],
         weight: sheet[WEIGHTS * Register::CLAIMS + i],
+        left: sheet[LEFT * Register::CLAIMS + i],
         expiry: low + register::MOMENT_END * late,
     }
 }

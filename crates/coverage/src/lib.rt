@@ -163,7 +163,7 @@ pub fn lay(bytes: &mut [u8], k: Resources) -> [usize; Register::RESOURCES]
     while i < top {
         let o = k.list[i];
         put_path(bytes, i * Register::PATH, o);
-        lens[i] = o.len;
+        lens[i] = o.len as usize;
         i += 1;
     }
     lens

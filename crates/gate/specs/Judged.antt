@@ -90,7 +90,7 @@ lentBy r s found =
 
 -- those of a register
 abbrev pub lentIn : Register → Lent
-lentIn r = lentBy r (sheetOf (r .claims)) (findingsBy (r .actors) (r .resources) (sheetOf (r .claims)) (r .claims .count))
+lentIn r = lentBy r (sheetOf (r .claims)) (findingsBy (r .version) (r .actors) (r .resources) (sheetOf (r .claims)) (r .claims .count))
 
 -- tests 2 and 3, over the ids of the first n actors
 abbrev pub lentTests : List ℕ → ℕ → Action → List Test
@@ -144,4 +144,4 @@ verdictBy r s found a =
 
 -- that is the gate's, where the sheet is that of the register's claims and the register was judged by it
 abbrev pub AsGated : Register → List ℕ → Findings → Action → Verdict → Type 0
-AsGated r s found a v = s ≡ sheetOf (r .claims) → found ≡ findingsBy (r .actors) (r .resources) s (r .claims .count) → v ≡ gated r a
+AsGated r s found a v = s ≡ sheetOf (r .claims) → found ≡ findingsBy (r .version) (r .actors) (r .resources) s (r .claims .count) → v ≡ gated r a

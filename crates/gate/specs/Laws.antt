@@ -2,7 +2,7 @@
 use mathlib.Core.Path.{_≡_, refl, sym, ap, _∙_}
 use mathlib.Core.Bool.{Bool, true, false, _&&_, cond}
 use mathlib.Core.List.{List, [], _∷_, _++_, map, append-assoc}
-use Prim.Native.Nat.{ℕ, suc}
+use Prim.Native.Nat.{ℕ, suc, _≤_}
 use native.Mathlib.Omega.{arith}
 use borrow.Author.Tests.{lt-ltb}
 use lib.Dec.{eqb, ltb}
@@ -19,14 +19,14 @@ use Rattle.columns.specs.SheetLaws.{column-natural, sheet-long}
 use Rattle.columns.specs.declared.Place.{Place}
 use Rattle.columns.specs.declared.Place.the-variants.{At, Nowhere}
 use Rattle.lookup.specs.Asked.{askedAt}
-use Rattle.actions.specs.Actions.{usesOf, actionFits}
+use Rattle.actions.specs.Actions.{violationLimit, usesOf, actionFits}
 use Rattle.actions.specs.declared.Action.{Action}
 use Rattle.actions.specs.declared.Usage.{Usage}
 use Rattle.gate_rules.specs.Gate.{isOwnerless, useViolations, hopsFor, hopCounts, violationsOf, listed, padded, actionTests}
 use Rattle.gate_rules.specs.Laws.{use-violations-nil, use-violations-cons, action-fits-out}
 use Rattle.gate_rules.specs.Bounds.{violations-most}
 use Rattle.violations.specs.Pushed.{besides, pushedAll}
-use Rattle.violations.specs.PushedLaws.{pushed-all-natural, pushed-all-append}
+use Rattle.violations.specs.PushedLaws.{pushed-all-natural, pushed-all-append, pushed-all-most}
 use Rattle.coverage.specs.Gathering.{coverPlaces, heldPlaces}
 use Rattle.coverage.specs.GatheringLaws.{held-none}
 use Rattle.coverage.specs.Laid.{laid}
@@ -37,7 +37,7 @@ use Rattle.uses.specs.Sights.{ownerAt, ownerNumber, ownedIn, spotsOf, upsOf, en
 use Rattle.uses.specs.SightsLaws.{use-natural, asked-actor}
 use Rattle.uses.specs.Ends.{cover-natural}
 use Rattle.uses.specs.Uses.{useHops, faultsFrom, usesJudged}
-use Rattle.gate.specs.Judged.{actionJudged, countsOf, sheetEnds, lentOf, lentIn, lentTests, machineBy, sightBy, lentJudged}
+use Rattle.gate.specs.Judged.{Lent, actionJudged, countsOf, sheetEnds, lentOf, lentIn, lentTests, machineBy, ownerBy, sightBy, lentJudged}
 use Rattle.gate.specs.Sheets.{sheeted, sheeted-same, sheeted-laid, sheeted-shaped, column-natural-expiries}
 
 -- a machine without owner: by its place, since ids are distinct
@@ -104,6 +104,12 @@ theirs-natural : (r : Register) → Shaped r → sound r ≡ true → (moment : 
 theirs-natural r shaped h moment timely true x = cover-natural r shaped h moment timely x
 theirs-natural r shaped h moment timely false x = held-none (map holderOf (r .claims .list)) (endsIn r) x moment
 
+-- whatever is lent, no more violations are judged than there are places
+pub judged-most : (l : Lent) (a : Action) → lentJudged l a .violations .count ≤ violationLimit
+unfolding lentJudged usesJudged
+judged-most l a =
+    pushed-all-most _ _ (pushed-all-most (besides (machineBy l (a .actor)) (ownerBy l (a .actor)) a) (listed []) (omega arith))
+
 -- where the columns are those of a register
 module _ (r : Register) (shaped : Shaped r) (h : sound (sheeted r) ≡ true) where
   abbrev sheet : List ℕ
@@ -145,11 +151,11 @@ module _ (r : Register) (shaped : Shaped r) (h : sound (sheeted r) ≡ true) whe
 
 -- what was found of a register when its claims were put into a sheet
 module _ (r : Register) (places : length (r .claims .list) ≡ claimLimit) {sheet : List ℕ} (put : sheet ≡ sheetOf (r .claims)) {found : Findings}
-    (told : found ≡ findingsBy (r .actors) (r .resources) sheet (r .claims .count)) where
+    (told : found ≡ findingsBy (r .version) (r .actors) (r .resources) sheet (r .claims .count)) where
   pub found-sound : found .sound ≡ sound (sheeted r)
   found-sound = judged-sound r (record { put = put; told = told }) places ∙ sym (sound-same (sheeted r) r (sheeted-same r places))
 
   pub lent-told : {lens ends bytes : List ℕ} → lens ≡ laid (r .resources) .lens → ends ≡ sheetEnds sheet (found .ups) (r .claims .count)
       → bytes ≡ laid (r .resources) .bytes → lentOf (countsOf r) found lens ends sheet bytes ≡ lentIn r
   lent-told of-lens of-ends of-bytes =
-      rw (of-lens, of-ends, of-bytes, told ∙ ap (λ s. findingsBy (r .actors) (r .resources) s (r .claims .count)) put, put)
+      rw (of-lens, of-ends, of-bytes, told ∙ ap (λ s. findingsBy (r .version) (r .actors) (r .resources) s (r .claims .count)) put, put)

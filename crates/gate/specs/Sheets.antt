@@ -14,7 +14,7 @@ use Rattle.lists.specs.Lists.{All}
 use Rattle.lists.specs.Each.{all-append, all-take}
 use Rattle.lists.specs.Fills.{all-replicate}
 use Rattle.register.specs.Limits.{claimLimit, pathLimit, momentEnd}
-use Rattle.register.specs.Register.{claimsOf, resourceStanding, noActor, noResource, noClaim, Same, Shaped}
+use Rattle.register.specs.Register.{claimsOf, claimAs, resourceStanding, noActor, noResource, noClaim, Same, Shaped}
 use Rattle.register.specs.Chain.{latest}
 use Rattle.register.specs.declared.Claim.{Claim}
 use Rattle.register.specs.declared.Resources.{Resources}
@@ -33,7 +33,7 @@ use Rattle.coverage.specs.Laid.{lensOf, laid}
 
 -- a register with its claims read from their sheet, and zeros behind its actors and resources
 abbrev pub sheeted : Register → Register
-sheeted r = registerBy (actorsTo (r .actors)) (resourcesTo (r .resources)) (sheetOf (r .claims)) (r .claims .count)
+sheeted r = registerBy (r .version) (actorsTo (r .actors)) (resourcesTo (r .resources)) (sheetOf (r .claims)) (r .claims .count)
 
 -- a column of a sheet of zeros has zeros
 column-none : (zeros : List ℕ) → length zeros ≡ sheetLimit → ((i : ℕ) → getD zeros i 0 ≡ 0) → (j : ℕ) → j ≤ lastColumn → (i : ℕ) → getD (columnOf j zeros) i 0 ≡ 0
@@ -69,7 +69,8 @@ sheeted-same r long = record {
   resourceCount = refl;
   resources = ap (map resourceStanding) (up-to-first noResource (r .resources .count) (r .resources .list));
   claimCount = refl;
-  claims = sheet-claims (r .claims) long;
+  claims = ap (map (claimAs (r .version))) (sheet-claims (r .claims) long);
+  version = refl;
 }
 
 -- its paths are laid alike
@@ -105,7 +106,7 @@ module _ (r : Register) (shaped : Shaped r) where
         let c : Claim = getD (claimsIn sheet) j noClaim in
         let before = latest (take j (claimsIn sheet)) in
         let w = around (sheeted r) sheeted-shaped h in
-        let fits = claim-fits-out c (acceptable-out w before c
+        let fits = claim-fits-out (r .version) c (acceptable-out w before c
         (latest-acceptable w c before (prefix-sound w (latest (at .after)) _ (sound-at (sheeted r) sheeted-shaped h j inside))) .byItself .fits) in
         rw (claims-in-at sheet j) at (fits .expiryBelow)
 
@@ -117,7 +118,7 @@ module _ (r : Register) (shaped : Shaped r) where
         cases (ltb j (length (claimsOf (r .claims))))
         (λ e. let inside : j < length (claimsOf (sheeted r .claims)) = omega (arith, ltb-true j (length (claimsOf (r .claims))) e, same) in
         omega (arith, timely j inside))
-        (λ e. past-none (replicate sheetLimit 0) (length-replicate {A = ℕ} sheetLimit 0) (zero-at sheetLimit) lastColumn (claimsOf (r .claims)) (omega arith) few j (ltb-false j (length (claimsOf (r .claims))) e))
+        (λ e. past-none (replicate sheetLimit 0) (length-replicate {A = ℕ} sheetLimit 0) (zero-at sheetLimit) lateColumn (claimsOf (r .claims)) (omega arith) few j (ltb-false j (length (claimsOf (r .claims))) e))
 
     -- and the column of what is past the last whole run of moments is that of the expiries
     pub column-natural-expiries : columnOf expiryColumn sheet ≡ map expiryOf (claimsIn sheet)

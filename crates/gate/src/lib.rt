@@ -164,6 +164,6 @@ pub fn gate(r: Register, a: Action) -> Verdict
     let o = r.resources;
     let k = r.claims;
     let mut sheet = [0u32; columns::SHEET];
-    let found = soundness::examine(&mut sheet, actors, o, k);
+    let found = soundness::examine(&mut sheet, r.version, actors, o, k);
     gate_by(r, &sheet, found, a)
 }

@@ -28,7 +28,7 @@ use Rattle.gate_rules.specs.Plans.{judgements, firstHalt, haltOf, planne
 
 abbrev claim : ℕ → ℕ → ℕ → ℕ → ℕ → ℕ → ℕ → Claim
 claim id parent grantor holder resource rights expiry =
-    record { id = id; parent = parent; grantor = grantor; holder = holder; resource = resource; rights = rights; weight = 600; expiry = expiry }
+    record { id = id; parent = parent; grantor = grantor; holder = holder; resource = resource; rights = rights; weight = 600; left = 0; expiry = expiry }
 
 -- A human who keeps `s`, `s/a` and a public `x`; a machine of hers, 2, and one without an owner, 4.
 -- Claim 7 is the machine's, READ and WRITE on `s` until 2,000; 8 is hers, READ and DELEGATE on `s/a`;
@@ -46,6 +46,7 @@ standing claims = record {
     count = 3;
   };
   claims = record { list = claims; count = length claims };
+  version = 1;
 }
 
 desk : Register
@@ -108,6 +109,7 @@ owning kind = record {
   actors = record { list = record { id = 1; kind = 1; owner = 0 } ∷ record { id = 3; kind = kind; owner = 1 } ∷ []; count = 2 };
   resources = desk .resources;
   claims = record { list = claim 7 0 1 3 10 3 2000 ∷ []; count = 1 };
+  version = 1;
 }
 
 owners-told : map (λ kind. ownerLacks (owning kind) 1999 3 (use-of 10 0)) (1 ∷ 2 ∷ []) ≡ false ∷ true ∷ []

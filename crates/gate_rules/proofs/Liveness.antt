@@ -38,5 +38,5 @@ pub source-lives : (r : Register) → sound r ≡ true → (moment : ℕ) (c : C
     → All (λ d. live moment (latest (claimsOf (r .claims))) d ≡ true) (higherThan r c)
 source-lives r h moment c lives =
     nested-lives moment (latest (claimsOf (r .claims))) (higherThan r c)
-    (chain-nested (worldOf (actorsOf (r .actors)) (resourcesOf (r .resources))) (latest (claimsOf (r .claims))) (c .parent) [] (sound-out r h .claims))
+    (chain-nested (worldOf (r .version) (actorsOf (r .actors)) (resourcesOf (r .resources))) (latest (claimsOf (r .claims))) (c .parent) [] (sound-out r h .claims))
     (and-right (current moment c) (every (current moment) (higherThan r c)) lives)

@@ -105,7 +105,7 @@ absent-as-not-held r moment x n u v absent lacks =
 
 -- the claims of a sound register are sound around each place
 pub sound-place : (r : Register) → sound r ≡ true → (c : Claim) (at : IsIn (claimsOf (r .claims)) c)
-    → soundClaims (worldOf (actorsOf (r .actors)) (resourcesOf (r .resources))) (latest (at .after) ++ c ∷ latest (at .before)) ≡ true
+    → soundClaims (worldOf (r .version) (actorsOf (r .actors)) (resourcesOf (r .resources))) (latest (at .after) ++ c ∷ latest (at .before)) ≡ true
 sound-place r h c at =
     rw (← latest-split (at .before) c (at .after)) (rw (at .split) at (sound-out r h .claims))
 
@@ -113,7 +113,7 @@ sound-place r h c at =
 pub parent-stands : (r : Register) → sound r ≡ true → (c : Claim) → IsIn (claimsOf (r .claims)) c → (c .parent ≡ 0 → ⊥)
     → (d : Claim) × IsIn (claimsOf (r .claims)) d × (d .id ≡ c .parent)
 parent-stands r h c at other =
-    let w : World = worldOf (actorsOf (r .actors)) (resourcesOf (r .resources)) in
+    let w : World = worldOf (r .version) (actorsOf (r .actors)) (resourcesOf (r .resources)) in
     let named : Claim → Bool = λ d. eqb (c .parent) (d .id) in
     let earlier = sym (any-reverse named (at .before)) ∙ place-parent w (latest (at .after)) c (latest (at .before)) (sound-place r h c at) other in
     let found = any-place named (claimsOf (r .claims)) (rw (at .split, any-append named (at .before) (c ∷ at .after), earlier)) in

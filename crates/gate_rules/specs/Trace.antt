@@ -84,7 +84,7 @@ module _ (w : World) where
   link : (c : Claim) (L : List Claim) → soundClaims w (c ∷ L) ≡ true → Linked (above L c) → Attenuates c (above L c)
   link c L h linked =
       cases (eqb (c .parent) 0) (λ e. rw (eqb-true (c .parent) 0 e, chain-zero (λ d. d .id) (λ d. d .parent) L) tt)
-      (λ e. let drawn = drawn-out L c (acceptable-out w L c (latest-acceptable w c L h) .overEarlier .chained) (eqb-false (c .parent) 0 e) in
+      (λ e. let drawn = drawn-out (w .version) L c (acceptable-out w L c (latest-acceptable w c L h) .overEarlier .chained) (eqb-false (c .parent) 0 e) in
       rw (drawn .chained) (drawn .overIt .drawnFromParent, rw (drawn .chained) at linked))
 
   chain-linked : (L : List Claim) (p : ℕ) → soundClaims w L ≡ true → Linked (chain (λ d. d .id) (λ d. d .parent) L p)
@@ -98,7 +98,7 @@ module _ (w : World) where
 -- a claim at its place in a sound register
 module _ (r : Register) (h : sound r ≡ true) (c : Claim) (at : IsIn (claimsOf (r .claims)) c) where
   abbrev surroundings : World
-  surroundings = worldOf (actorsOf (r .actors)) (resourcesOf (r .resources))
+  surroundings = worldOf (r .version) (actorsOf (r .actors)) (resourcesOf (r .resources))
 
   -- the chain above it is that among the earlier claims
   higher-earlier : higherThan r c ≡ above (latest (at .before)) c

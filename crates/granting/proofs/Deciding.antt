@@ -11,7 +11,7 @@ use Rattle.register.specs.Limits.{claimLimit, momentEnd}
 use Rattle.register.specs.Chain.{above, circling, current}
 use Rattle.register.specs.declared.Claim.{Claim}
 use Rattle.register.specs.declared.Register.{Register}
-use Rattle.soundness_rules.specs.Sound.{World, sound, claimFits, namesStand, rootKept, withinHops}
+use Rattle.soundness_rules.specs.Sound.{World, sound, claimFits, namesStand, rootKept, fewerLeft}
 use Rattle.refusals.specs.Refusals.{Test, outcomeOf}
 use Rattle.change_rules.specs.Changes.{worldIn, standing, parentTests, grantTests}
 use Rattle.refusals.specs.Laws.{outcome-cases, outcome-nil, outcome-pass, outcome-fail, outcome-append, outcome-append-refused}
@@ -97,17 +97,17 @@ module _ (lives : Bool) (p c : Claim) where
             drawn-well e = rw (held, same, living, delegates, contains, e)
 
 -- tests 15 and 16
-module _ {A : Type 0} (grantor holder : A → ℕ) (near : Bool) (l : List A) (h : ℕ) where
-  pub too-many-hops : near ≡ false → outcomeOf (chainTests grantor holder near l h) ≡ Refused TooManyHops
+module _ {A : Type 0} (grantor holder : A → ℕ) (fewer : Bool) (l : List A) (h : ℕ) where
+  pub too-many-hops : fewer ≡ false → outcomeOf (chainTests grantor holder fewer l h) ≡ Refused TooManyHops
   unfolding chainTests outcomeOf
   too-many-hops e = rw e
 
-  module _ (within : near ≡ true) where
-    pub circle : circling grantor holder l h ≡ true → outcomeOf (chainTests grantor holder near l h) ≡ Refused Circle
+  module _ (within : fewer ≡ true) where
+    pub circle : circling grantor holder l h ≡ true → outcomeOf (chainTests grantor holder fewer l h) ≡ Refused Circle
     unfolding chainTests outcomeOf
     circle e = rw (within, e)
 
-    pub no-circle : circling grantor holder l h ≡ false → outcomeOf (chainTests grantor holder near l h) ≡ Accepted
+    pub no-circle : circling grantor holder l h ≡ false → outcomeOf (chainTests grantor holder fewer l h) ≡ Accepted
     unfolding chainTests outcomeOf
     no-circle e = rw (within, e)
 
@@ -119,38 +119,38 @@ decided-then tests more {first} {next} e told =
     (λ why refused. ap (λ o. outcomeThen o next) refused ∙ sym (outcome-append-refused tests more why (sym e ∙ refused)))
 
 -- tests 9 to 16, over the chain above
-module _ (moment : ℕ) (l : List Claim) (c : Claim) where
-  pub parent-absent : l ≡ [] → outcomeOf (parentTests moment l c) ≡ Refused NoParent
+module _ (version moment : ℕ) (l : List Claim) (c : Claim) where
+  pub parent-absent : l ≡ [] → outcomeOf (parentTests version moment l c) ≡ Refused NoParent
   unfolding parentTests outcomeOf
   parent-absent e = rw e
 
   -- the parent p stands: its tests, and then those of the chain
   pub parent-present : {p : Claim} {higher : List Claim} → l ≡ p ∷ higher
-      → outcomeOf (parentTests moment l c) ≡ outcomeOf (drawnTests (every (current moment) l) p c
-      ++ chainTests (λ d. d .grantor) (λ d. d .holder) (withinHops l) l (c .holder))
-  parent-present {p} {higher} stands = rw stands (ap outcomeOf (parent-tests moment p higher c))
+      → outcomeOf (parentTests version moment l c) ≡ outcomeOf (drawnTests (every (current moment) l) p c
+      ++ chainTests (λ d. d .grantor) (λ d. d .holder) (fewerLeft version p higher c) l (c .holder))
+  parent-present {p} {higher} stands = rw stands (ap outcomeOf (parent-tests version moment p higher c))
 
 -- tests 1 and 2
-module _ (c : Claim) (moment : ℕ) {whole : Bool} where
-  pub unsound : whole ≡ false → outcomeOf (firstTests whole c moment) ≡ Refused Unsound
+module _ (version : ℕ) (c : Claim) (moment : ℕ) {whole : Bool} where
+  pub unsound : whole ≡ false → outcomeOf (firstTests whole version c moment) ≡ Refused Unsound
   unsound f = outcome-fail _ _ f
 
   module _ (judged : whole ≡ true) where
-    pub claim-unfit : claimFits c ≡ false → outcomeOf (firstTests whole c moment) ≡ Refused Range
+    pub claim-unfit : claimFits version c ≡ false → outcomeOf (firstTests whole version c moment) ≡ Refused Range
     claim-unfit f = outcome-pass _ _ judged ∙ outcome-fail _ _ (ap (λ b. b && ltb moment momentEnd) f)
 
-    module _ (fit : claimFits c ≡ true) where
-      pub moment-past : ltb moment momentEnd ≡ false → outcomeOf (firstTests whole c moment) ≡ Refused Range
+    module _ (fit : claimFits version c ≡ true) where
+      pub moment-past : ltb moment momentEnd ≡ false → outcomeOf (firstTests whole version c moment) ≡ Refused Range
       moment-past f = outcome-pass _ _ judged ∙ outcome-fail _ _ (ap (λ b. b && ltb moment momentEnd) fit ∙ f)
 
-      pub in-range : ltb moment momentEnd ≡ true → outcomeOf (firstTests whole c moment) ≡ Accepted
+      pub in-range : ltb moment momentEnd ≡ true → outcomeOf (firstTests whole version c moment) ≡ Accepted
       in-range t = outcome-pass _ _ judged ∙ outcome-pass _ _ (ap (λ b. b && ltb moment momentEnd) fit ∙ t) ∙ outcome-nil
 
 -- tests 1 to 16, told part by part: what comes behind the first counts only in a sound register
 pub grant-asked : (r : Register) (c : Claim) (moment : ℕ) {whole stands : Bool} {parent : List Test} → whole ≡ sound r
     → stands ≡ any (λ d. eqb (c .id) (d .id)) (standing r)
-    → (sound r ≡ true → parent ≡ cond (eqb (c .parent) 0) [] (parentTests moment (above (standing r) c) c))
-    → outcomeOf (firstTests whole c moment ++ (toldTests (worldIn r) stands (r .claims .count) c ++ parent)) ≡ outcomeOf (grantTests r c moment)
+    → (sound r ≡ true → parent ≡ cond (eqb (c .parent) 0) [] (parentTests (r .version) moment (above (standing r) c) c))
+    → outcomeOf (firstTests whole (r .version) c moment ++ (toldTests (worldIn r) stands (r .claims .count) c ++ parent)) ≡ outcomeOf (grantTests r c moment)
 unfolding grantTests
 grant-asked r c moment wholly stood drawn =
     cases (sound r)

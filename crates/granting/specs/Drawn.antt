@@ -11,14 +11,16 @@ use Rattle.rights.specs.Rights.{delegating, hasRight, hasRights, barsMachine}
 use Rattle.register.specs.Limits.{claimLimit, momentEnd}
 use Rattle.register.specs.Chain.{circling, current}
 use Rattle.register.specs.declared.Claim.{Claim}
-use Rattle.soundness_rules.specs.Sound.{World, namesStand, fresh, rootKept, withinHops, claimFits}
+use Rattle.register.specs.declared.Actor.{Actor}
+use Rattle.register.specs.declared.Resource.{Resource}
+use Rattle.soundness_rules.specs.Sound.{World, worldOf, namesStand, fresh, rootKept, fewerLeft, claimFits}
 use Rattle.refusals.specs.Refusals.{Test}
 use Rattle.change_rules.specs.Changes.{sourceLive, worldTests, parentTests}
 use Rattle.refusals.specs.declared.Refusal.the-variants.{Absent, Stands, Full, NotKeeper, Ownerless, NotByMachine, NotHeld, NotLive, NoDelegate, RightLacking, WeightAbove, TooManyHops, Circle, Unsound, Range}
 use Rattle.refusals.specs.declared.Outcome.{Outcome}
 use Rattle.refusals.specs.declared.Outcome.the-variants.{Accepted, Refused}
-use Rattle.columns.specs.Columns.{latestPlace}
-use Rattle.columns.specs.Sheet.{columnOf, claimAt, idColumn}
+use Rattle.columns.specs.Sheet.{claimAt}
+use Rattle.columns.specs.declared.Place.{Place}
 use Rattle.lookup.specs.Walks.{upFrom}
 
 -- tests 3 to 8 in a world, where it is told whether the id of the claim c stands, and that n claims do
@@ -42,10 +44,10 @@ drawnTests lives p c =
     ∷ record { passed = leb (c .weight) (p .weight); refusal = WeightAbove }
     ∷ []
 
--- tests 15 and 16, of the chain above a claim and its holder h, where it is told whether there are at most 16 hops
+-- tests 15 and 16, of the chain above a claim and its holder h, where it is told whether the claim has fewer hands left than its parent
 unfoldable pub chainTests : {A : Type 0} → (A → ℕ) → (A → ℕ) → Bool → List A → ℕ → List Test
-chainTests grantor holder near l h =
-    record { passed = near; refusal = TooManyHops }
+chainTests grantor holder fewer l h =
+    record { passed = fewer; refusal = TooManyHops }
     ∷ record { passed = not (circling grantor holder l h); refusal = Circle }
     ∷ []
 
@@ -55,29 +57,35 @@ outcomeThen (Refused why) next = Refused why
 outcomeThen Accepted next = next
 
 -- tests 1 and 2, where it is told whether the register is sound
-abbrev pub firstTests : Bool → Claim → ℕ → List Test
-firstTests whole c moment =
+abbrev pub firstTests : Bool → ℕ → Claim → ℕ → List Test
+firstTests whole version c moment =
     record { passed = whole; refusal = Unsound }
-    ∷ record { passed = claimFits c && ltb moment momentEnd; refusal = Range }
+    ∷ record { passed = claimFits version c && ltb moment momentEnd; refusal = Range }
     ∷ []
 
--- tests 9 to 16, over the chain above the claim c as the first n claims of a sheet and the places of the parents have it; of a root there are none
-abbrev pub parentAsked : List ℕ → List ℕ → ℕ → Claim → ℕ → List Test
-parentAsked s ups n c moment =
-    cond (eqb (c .parent) 0) [] (parentTests moment (map (claimAt s) (upFrom ups (latestPlace (columnOf idColumn s) n (c .parent)))) c)
+-- tests 9 to 16, over the chain above the claim c as the claims of a sheet and the places of the parents have it, where the parent of c stands at a place;
+-- of a root there are none
+abbrev pub parentAsked : ℕ → List ℕ → List ℕ → Place → Claim → ℕ → List Test
+parentAsked version s ups place c moment = cond (eqb (c .parent) 0) [] (parentTests version moment (map (claimAt s) (upFrom ups place)) c)
 
 pub world-tests : (w : World) (earlier : List Claim) (n : ℕ) (c : Claim)
     → worldTests w earlier n c ≡ toldTests w (any (λ d. eqb (c .id) (d .id)) earlier) n c
 unfolding worldTests toldTests fresh
 world-tests w earlier n c = refl
 
+-- none of them asks for the version
+pub told-version : (v w : ℕ) (actors : List Actor) (resources : List Resource) (stands : Bool) (n : ℕ) (c : Claim)
+    → toldTests (worldOf v actors resources) stands n c ≡ toldTests (worldOf w actors resources) stands n c
+unfolding toldTests namesStand rootKept
+told-version v w actors resources stands n c = refl
+
 -- the liveness that a grant asks for is that of every claim from the parent up
 pub source-live : (moment : ℕ) (p : Claim) (higher : List Claim) → sourceLive moment (p ∷ higher) ≡ every (current moment) (p ∷ higher)
 unfolding sourceLive
 source-live moment p higher = refl
 
-pub parent-tests : (moment : ℕ) (p : Claim) (higher : List Claim) (c : Claim)
-    → parentTests moment (p ∷ higher) c ≡ drawnTests (every (current moment) (p ∷ higher)) p c
-    ++ chainTests (λ d. d .grantor) (λ d. d .holder) (withinHops (p ∷ higher)) (p ∷ higher) (c .holder)
+pub parent-tests : (version moment : ℕ) (p : Claim) (higher : List Claim) (c : Claim)
+    → parentTests version moment (p ∷ higher) c ≡ drawnTests (every (current moment) (p ∷ higher)) p c
+    ++ chainTests (λ d. d .grantor) (λ d. d .holder) (fewerLeft version p higher c) (p ∷ higher) (c .holder)
 unfolding parentTests drawnTests chainTests
-parent-tests moment p higher c = rw (source-live moment p higher)
+parent-tests version moment p higher c = rw (source-live moment p higher)

@@ -8,7 +8,7 @@ use lib.ListN.{replicate, length}
 use Rattle.lists.specs.Fills.{all-replicate}
 use Rattle.lists.specs.Lists.{dropping, distinct}
 use Rattle.rights.specs.Rights.{hasRight, hasRights, barsMachine}
-use Rattle.register.specs.Register.{claimsOf, noActor, noResource, noClaim, Shaped}
+use Rattle.register.specs.Register.{claimsOf, withLeft, noActor, noResource, noClaim, Shaped}
 use Rattle.register.specs.Chain.{chain, rootGranted, circling}
 use Rattle.register.specs.declared.Claim.{Claim}
 use Rattle.register.specs.declared.Register.{Register}
@@ -23,7 +23,7 @@ use Rattle.history.proofs.Replay.{history}
 
 -- on the one resource, with READ, WRITE and DELEGATE, until the moment 2,000
 abbrev claim : ℕ → ℕ → ℕ → ℕ → Claim
-claim id parent grantor holder = record { id = id; parent = parent; grantor = grantor; holder = holder; resource = 10; rights = 19; weight = 600; expiry = 2000 }
+claim id parent grantor holder = record { id = id; parent = parent; grantor = grantor; holder = holder; resource = 10; rights = 19; weight = 600; left = 0; expiry = 2000 }
 
 -- a human who keeps the resource, their machine, and another human; claim 7, and 8 drawn from it
 desk : Register
@@ -34,6 +34,7 @@ desk = record {
   };
   resources = record { list = record { id = 10; public = 0; keeper = 1; len = 0; path = replicate 64 0 } ∷ replicate 63 noResource; count = 1 };
   claims = record { list = claim 7 0 1 1 ∷ claim 8 7 1 2 ∷ replicate 254 noClaim; count = 2 };
+  version = 1;
 }
 
 calls : List Change
@@ -63,7 +64,8 @@ desk-sound : sound desk ≡ true
 unfolding desk sound withinLimits soundActors soundResources soundClaims acceptable alone over fresh drawn overChain machineMay drawnFrom rootKept namesStand claimFits resourceFits actorFits distinct chain circling rootGranted hasRight hasRights barsMachine
 desk-sound = refl
 
-calls-end : claimsOf (registerAfter desk calls .claims) ≡ claim 7 0 1 1 ∷ claim 1 0 1 3 ∷ claim 2 1 3 2 ∷ []
+-- what was granted holds 16 less its hops as left
+calls-end : claimsOf (registerAfter desk calls .claims) ≡ claim 7 0 1 1 ∷ withLeft 16 (claim 1 0 1 3) ∷ withLeft 15 (claim 2 1 3 2) ∷ []
 unfolding desk calls registerAfter granted withdrawn grantTests worldTests parentTests revokeTests sourceLive outcomeOf dropping sound withinLimits soundActors soundResources soundClaims acceptable alone over fresh drawn overChain machineMay drawnFrom rootKept namesStand claimFits resourceFits actorFits distinct chain circling rootGranted hasRight hasRights barsMachine
 calls-end = refl
 
@@ -85,7 +87,7 @@ calls-olds : olds (survivors desk calls) ≡ claim 7 0 1 1 ∷ []
 unfolding desk calls registerAfter started kept granted withdrawn grantTests worldTests parentTests revokeTests sourceLive outcomeOf dropping sound withinLimits soundActors soundResources soundClaims acceptable alone over fresh drawn overChain machineMay drawnFrom rootKept namesStand claimFits resourceFits actorFits distinct chain circling rootGranted hasRight hasRights barsMachine
 calls-olds = refl
 
-calls-grants : grants (survivors desk calls) ≡ grant (claim 1 0 1 3) 5 ∷ grant (claim 2 1 3 2) 4 ∷ []
+calls-grants : grants (survivors desk calls) ≡ grant (withLeft 16 (claim 1 0 1 3)) 5 ∷ grant (withLeft 15 (claim 2 1 3 2)) 4 ∷ []
 unfolding desk calls registerAfter started kept granted withdrawn grantTests worldTests parentTests revokeTests sourceLive outcomeOf dropping sound withinLimits soundActors soundResources soundClaims acceptable alone over fresh drawn overChain machineMay drawnFrom rootKept namesStand claimFits resourceFits actorFits distinct chain circling rootGranted hasRight hasRights barsMachine
 calls-grants = refl
 
@@ -95,9 +97,34 @@ unfolding desk calls registerAfter accepts started kept granted withdrawn grantT
 calls-again = refl
 
 calls-same : claimsOf (registerAfter (holding desk (olds (survivors desk calls))) (grants (survivors desk calls)) .claims)
-    ≡ claim 7 0 1 1 ∷ claim 1 0 1 3 ∷ claim 2 1 3 2 ∷ []
+    ≡ claim 7 0 1 1 ∷ withLeft 16 (claim 1 0 1 3) ∷ withLeft 15 (claim 2 1 3 2) ∷ []
 unfolding desk calls registerAfter started kept granted withdrawn grantTests worldTests parentTests revokeTests sourceLive outcomeOf dropping sound withinLimits soundActors soundResources soundClaims acceptable alone over fresh drawn overChain machineMay drawnFrom rootKept namesStand claimFits resourceFits actorFits distinct chain circling rootGranted hasRight hasRights barsMachine
 calls-same = refl
+
+-- the same desk in version 2
+deskTwo : Register
+deskTwo = record {
+  actors = desk .actors;
+  resources = desk .resources;
+  claims = record { list = withLeft 3 (claim 7 0 1 1) ∷ withLeft 2 (claim 8 7 1 2) ∷ replicate 254 noClaim; count = 2 };
+  version = 2;
+}
+
+callsTwo : List Change
+callsTwo =
+    grant (withLeft 9 (claim 1 0 1 3)) 5
+    -- refused: as many hands left as its parent
+    ∷ grant (withLeft 9 (claim 2 1 3 2)) 4
+    ∷ grant (withLeft 4 (claim 2 1 3 2)) 4
+    ∷ withdraw (revoke 1 8)
+    ∷ []
+
+-- the version stays, and claims hold the left that was asked for; so do the grants that are left
+calls-two : (registerAfter deskTwo callsTwo .version ≡ 2)
+    × (claimsOf (registerAfter deskTwo callsTwo .claims) ≡ withLeft 3 (claim 7 0 1 1) ∷ withLeft 9 (claim 1 0 1 3) ∷ withLeft 4 (claim 2 1 3 2) ∷ [])
+    × (grants (survivors deskTwo callsTwo) ≡ grant (withLeft 9 (claim 1 0 1 3)) 5 ∷ grant (withLeft 4 (claim 2 1 3 2)) 4 ∷ [])
+unfolding deskTwo callsTwo desk registerAfter started kept granted withdrawn grantTests worldTests parentTests revokeTests sourceLive outcomeOf dropping sound withinLimits soundActors soundResources soundClaims acceptable alone over fresh drawn overChain machineMay drawnFrom rootKept namesStand claimFits resourceFits actorFits distinct chain circling rootGranted hasRight hasRights barsMachine
+calls-two = (refl, refl, refl)
 
 -- as the theorem says of every list of calls
 calls-history : History desk calls
@@ -112,6 +139,7 @@ shelf = record {
     list = claim 7 0 1 1 ∷ claim 8 7 1 3 ∷ claim 9 8 3 2 ∷ claim 10 7 1 2 ∷ claim 9 8 3 2 ∷ claim 5 5 5 5 ∷ replicate 250 noClaim;
     count = 4;
   };
+  version = 1;
 }
 
 -- claim 8 twice
@@ -120,6 +148,7 @@ spoilt = record {
   actors = desk .actors;
   resources = desk .resources;
   claims = record { list = claim 7 0 1 1 ∷ claim 8 7 1 3 ∷ claim 8 7 1 2 ∷ replicate 253 noClaim; count = 3 };
+  version = 1;
 }
 
 -- one withdrawal and another
@@ -232,6 +261,7 @@ dated id parent grantor holder resource weight expiry = record {
   resource = resource;
   rights = 19;
   weight = weight;
+  left = 0;
   expiry = expiry;
 }
 
@@ -249,6 +279,7 @@ cabinet = record {
     list = dated 7 0 1 1 10 600 2000 ∷ dated 8 7 1 3 10 600 0 ∷ dated 9 0 3 3 20 0 0 ∷ dated 11 9 3 2 20 0 2001 ∷ replicate 252 noClaim;
     count = 4;
   };
+  version = 1;
 }
 
 clearings : List Withdrawal

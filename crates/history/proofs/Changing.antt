@@ -14,7 +14,7 @@ use Rattle.register.specs.Register.{actorsOf}
 use Rattle.register.specs.Chain.{chain, above, circling}
 use Rattle.register.specs.declared.Claim.{Claim}
 use Rattle.register.specs.declared.Register.{Register}
-use Rattle.soundness_rules.specs.Sound.{sound, claimFits, namesStand, rootKept, machineMay, drawnFrom, withinHops, overChain, drawn, fresh, acceptable, human}
+use Rattle.soundness_rules.specs.Sound.{sound, claimFits, namesStand, rootKept, machineMay, drawnFrom, fewerLeft, overChain, drawn, fresh, acceptable, stored, human}
 use Rattle.soundness_rules.specs.Laws.{acceptable-out, acceptable-in}
 use Rattle.refusals.specs.Refusals.{Test, outcomeOf, isAccepted}
 use Rattle.change_rules.specs.Changes.{worldIn, standing, sourceLive, parentTests, worldTests, grantTests, appended, granted, revokeTests, unstruck, holding, Withdrawal, revoke, clearResource, clearExpired, names, clearResourceTests, clearExpiredTests, withdrawn}
@@ -51,26 +51,27 @@ set-apart true true true delegates contains weighs hops uncircled = go delegates
     go true true true false uncircled = refl
     go true true true true uncircled = sym (and-true (uncircled && true))
 
-parent-tests : (moment : ℕ) (H : List Claim) (c : Claim) → every (λ t. t .passed) (parentTests moment H c) ≡ overChain H c && sourceLive moment H
+parent-tests : (version moment : ℕ) (H : List Claim) (c : Claim)
+    → every (λ t. t .passed) (parentTests version moment H c) ≡ overChain version H c && sourceLive moment H
 unfolding parentTests overChain drawnFrom
-parent-tests moment [] c = refl
-parent-tests moment (p ∷ higher) c =
+parent-tests version moment [] c = refl
+parent-tests version moment (p ∷ higher) c =
     set-apart (eqb (p .holder) (c .grantor)) (eqb (p .resource) (c .resource)) (sourceLive moment (p ∷ higher)) (hasRight (p .rights) delegating)
-    (hasRights (p .rights) (c .rights)) (leb (c .weight) (p .weight)) (withinHops (p ∷ higher))
+    (hasRights (p .rights) (c .rights)) (leb (c .weight) (p .weight)) (fewerLeft version p higher c)
     (not (circling (λ d. d .grantor) (λ d. d .holder) (p ∷ higher) (c .holder)))
 
 -- what tests 1 to 16 of a grant ask; whether a source lives is not looked into
 abbrev pub grantAsks : Register → Claim → ℕ → List Bool
 grantAsks r c moment =
     sound r
-    ∷ claimFits c
+    ∷ claimFits (r .version) c
     ∷ ltb moment momentEnd
     ∷ namesStand (worldIn r) c
     ∷ fresh (standing r) c
     ∷ ltb (r .claims .count) claimLimit
     ∷ rootKept (worldIn r) c
     ∷ machineMay (worldIn r) c
-    ∷ drawn (standing r) c
+    ∷ drawn (r .version) (standing r) c
     ∷ (eqb (c .parent) 0 || sourceLive moment (above (standing r) c))
     ∷ []
 
@@ -90,14 +91,14 @@ one-by-one judged fits timely stands free room kept owned unbarred machine rest 
 pub grant-accepted : (r : Register) (c : Claim) (moment : ℕ) → isAccepted (granted r c moment .outcome) ≡ ands (grantAsks r c moment)
 unfolding granted grantTests worldTests drawn machineMay
 grant-accepted r c moment =
-    let rest = root-tests (eqb (c .parent) 0) (parentTests moment (above (standing r) c) c) (overChain (above (standing r) c) c)
-    (sourceLive moment (above (standing r) c)) (parent-tests moment (above (standing r) c) c) in
-    let drawnLive : Bool = (eqb (c .parent) 0 || overChain (above (standing r) c) c) && ((eqb (c .parent) 0 || sourceLive moment (above (standing r) c)) && true) in
+    let rest = root-tests (eqb (c .parent) 0) (parentTests (r .version) moment (above (standing r) c) c) (overChain (r .version) (above (standing r) c) c)
+    (sourceLive moment (above (standing r) c)) (parent-tests (r .version) moment (above (standing r) c) c) in
+    let drawnLive : Bool = (eqb (c .parent) 0 || overChain (r .version) (above (standing r) c) c) && ((eqb (c .parent) 0 || sourceLive moment (above (standing r) c)) && true) in
     every-passed (grantTests r c moment)
-    ∙ ap (λ b. sound r && ((claimFits c && ltb moment momentEnd) && (namesStand (worldIn r) c && (fresh (standing r) c && (ltb (r .claims .count) claimLimit
+    ∙ ap (λ b. sound r && ((claimFits (r .version) c && ltb moment momentEnd) && (namesStand (worldIn r) c && (fresh (standing r) c && (ltb (r .claims .count) claimLimit
     && (rootKept (worldIn r) c && (not (worldIn r .machine (c .grantor) && worldIn r .ownerless (c .grantor))
     && (not (worldIn r .machine (c .grantor) && barsMachine (c .rights)) && b)))))))) rest
-    ∙ one-by-one (sound r) (claimFits c) (ltb moment momentEnd) (namesStand (worldIn r) c) (fresh (standing r) c) (ltb (r .claims .count) claimLimit)
+    ∙ one-by-one (sound r) (claimFits (r .version) c) (ltb moment momentEnd) (namesStand (worldIn r) c) (fresh (standing r) c) (ltb (r .claims .count) claimLimit)
     (rootKept (worldIn r) c) (not (worldIn r .machine (c .grantor) && worldIn r .ownerless (c .grantor)))
     (not (worldIn r .machine (c .grantor) && barsMachine (c .rights))) (machineMay (worldIn r) c) drawnLive
     (machine-tests (worldIn r .machine (c .grantor)) (worldIn r .ownerless (c .grantor)) (barsMachine (c .rights)) drawnLive)
@@ -170,9 +171,10 @@ took-sound r (clearResource who o) e = ands-out (clearResourceAsks r who o) (sym
 took-sound r (clearExpired who moment) e = ands-out (clearExpiredAsks r who moment) (sym (clear-expired-accepted r who moment) ∙ e) .0
 
 -- the register that a call hands back
-pub granted-register : (r : Register) (c : Claim) (moment : ℕ) → took r (grant c moment) ≡ true → changed r (grant c moment) ≡ appended r c
+pub granted-register : (r : Register) (c : Claim) (moment : ℕ) → took r (grant c moment) ≡ true
+    → changed r (grant c moment) ≡ appended r (stored (r .version) (standing r) c)
 unfolding granted
-granted-register r c moment e = ap (λ b. cond b (appended r c) r) e
+granted-register r c moment e = ap (λ b. cond b (appended r (stored (r .version) (standing r) c)) r) e
 
 pub withdrawn-register : (r : Register) (w : Withdrawal) → took r (withdraw w) ≡ true → changed r (withdraw w) ≡ holding r (unstruck (names w) r)
 unfolding withdrawn
@@ -186,7 +188,7 @@ withdrawn-removed r w e = ap (λ b. cond b (length (standing r) - length (unstru
 -- refused, it is the register as it came
 pub refused-register : (r : Register) (k : Change) → took r k ≡ false → changed r k ≡ r
 unfolding granted withdrawn
-refused-register r (grant c moment) e = ap (λ b. cond b (appended r c) r) e
+refused-register r (grant c moment) e = ap (λ b. cond b (appended r (stored (r .version) (standing r) c)) r) e
 refused-register r (withdraw w) e = ap (λ b. cond b (holding r (unstruck (names w) r)) r) e
 
 pub refused-removed : (r : Register) (w : Withdrawal) → took r (withdraw w) ≡ false → withdrawn r w .removed ≡ 0

@@ -19,7 +19,7 @@ use Rattle.register.specs.Chain.{chain, above, latest}
 use Rattle.register.specs.Laws.{chain-zero, chain-ind}
 use Rattle.register.specs.declared.Claim.{Claim}
 use Rattle.register.specs.declared.Register.{Register}
-use Rattle.soundness_rules.specs.Sound.{World, soundClaims, sound, fresh, drawn}
+use Rattle.soundness_rules.specs.Sound.{World, soundClaims, sound, fresh, drawn, stored}
 use Rattle.soundness_rules.specs.Laws.{acceptable-out, drawn-out}
 use Rattle.soundness_rules.specs.Registers.{sound-out}
 use Rattle.soundness_rules.specs.Places.{latest-acceptable, earlier-sound}
@@ -37,7 +37,7 @@ grantFits r c moment = sound r && (ltb moment momentEnd && (sound (appended r c)
 fits-in : (r : Register) (c : Claim) (moment : ℕ) → GrantPassed r c moment → grantFits r c moment ≡ true
 fits-in r c moment h =
     and-both (sound r) _ (h .judged) (and-both (ltb moment momentEnd) _ (h .timely)
-    (and-both (sound (appended r c)) _ (appended-sound r c moment h) (h .lives)))
+    (and-both (sound (appended r c)) _ (appended-sound r c (h .judged) (h .room) (h .fitting)) (h .lives)))
 
 -- the claims of the appended register, latest first
 appended-standing : (r : Register) (c : Claim) → Shaped r → sound r ≡ true → r .claims .count < claimLimit → standing (appended r c) ≡ c ∷ standing r
@@ -70,13 +70,13 @@ pub grant-exact : (r : Register) (c : Claim) (moment : ℕ) → Shaped r → isA
 grant-exact r c moment shaped = iff-same (isAccepted (granted r c moment .outcome)) (grantFits r c moment)
     (λ h. fits-in r c moment (grant-out r c moment h)) (λ h. grant-in r c moment (fits-out r c moment shaped h))
 
--- an accepted grant puts the claim behind the others
+-- an accepted grant puts the claim, as it is stored, behind the others
 pub granted-claims : (r : Register) (c : Claim) (moment : ℕ) → Shaped r → took r (grant c moment) ≡ true
-    → claimsOf (changed r (grant c moment) .claims) ≡ claimsOf (r .claims) ++ (c ∷ [])
+    → claimsOf (changed r (grant c moment) .claims) ≡ claimsOf (r .claims) ++ (stored (r .version) (standing r) c ∷ [])
 granted-claims r c moment shaped e =
     let told = grant-out r c moment e in
     let below : r .claims .count < length (r .claims .list) = omega (arith, shaped .claims, ltb-true (r .claims .count) claimLimit (told .room)) in
-    ap (λ s. claimsOf (s .claims)) (granted-register r c moment e) ∙ rw (add-one, take-suc-set (r .claims .list) (r .claims .count) c below)
+    ap (λ s. claimsOf (s .claims)) (granted-register r c moment e) ∙ rw (add-one, take-suc-set (r .claims .list) (r .claims .count) (stored (r .version) (standing r) c) below)
 
 world-tests-same : (w v : World) (L K : List Claim) (n m : ℕ) (c : Claim) → w ≡ v → fresh L c ≡ fresh K c → ltb n claimLimit ≡ ltb m claimLimit
     → worldTests w L n c ≡ worldTests v K m c
@@ -92,6 +92,7 @@ grant-looks r s c moment judged world chained free room = rw (
   judged,
   chained,
   world-tests-same (worldIn r) (worldIn s) (standing r) (standing s) (r .claims .count) (s .claims .count) c world free room,
+  ap (λ w. w .version) world,
 )
 
 -- on a chain of sound claims all are on the resource of the first
@@ -100,11 +101,11 @@ OnOne [] = Unit {0}
 OnOne (d ∷ H) = All (λ c. c .resource ≡ d .resource) H
 
 -- what is drawn is on the resource of all that is above it
-drawn-on-one : (L : List Claim) (c : Claim) → drawn L c ≡ true → OnOne (above L c) → All (λ d. d .resource ≡ c .resource) (above L c)
-drawn-on-one L c h one =
+drawn-on-one : (version : ℕ) (L : List Claim) (c : Claim) → drawn version L c ≡ true → OnOne (above L c) → All (λ d. d .resource ≡ c .resource) (above L c)
+drawn-on-one version L c h one =
     cases (eqb (c .parent) 0)
     (λ e. rw (eqb-true (c .parent) 0 e, chain-zero (λ d. d .id) (λ d. d .parent) L) tt)
-    (λ e. let d = drawn-out L c h (eqb-false (c .parent) 0 e) in
+    (λ e. let d = drawn-out version L c h (eqb-false (c .parent) 0 e) in
     let same = d .overIt .drawnFromParent .onSame in
     let higher : All (λ a. a .resource ≡ d .parent .resource) (d .higher) = rw (d .chained) at one in
     rw (d .chained) (same, all-imp _ (λ a. a .resource ≡ c .resource) (λ a q. q ∙ same) (d .higher) higher))
@@ -112,7 +113,7 @@ drawn-on-one L c h one =
 chain-on-one : (w : World) (L : List Claim) (p : ℕ) → soundClaims w L ≡ true → OnOne (chain (λ d. d .id) (λ d. d .parent) L p)
 chain-on-one w = chain-ind (λ d. d .id) (λ d. d .parent) (λ L p H. soundClaims w L ≡ true → OnOne H)
     (λ p h. tt)
-    (λ c L p e ih h. drawn-on-one L c (acceptable-out w L c (latest-acceptable w c L h) .overEarlier .chained) (ih (earlier-sound w c L h)))
+    (λ c L p e ih h. drawn-on-one (w .version) L c (acceptable-out w L c (latest-acceptable w c L h) .overEarlier .chained) (ih (earlier-sound w c L h)))
     (λ c L p e ih h. ih (earlier-sound w c L h))
 
 -- so what is struck with a resource is what is on it
@@ -121,7 +122,7 @@ struck-resource : (w : World) (o : ℕ) (L : List Claim) → soundClaims w L ≡
 struck-resource w o [] h = tt
 struck-resource w o (c ∷ L) h =
     let sound-earlier = earlier-sound w c L h in
-    let same = drawn-on-one L c (acceptable-out w L c (latest-acceptable w c L h) .overEarlier .chained) (chain-on-one w L (c .parent) sound-earlier) in (
+    let same = drawn-on-one (w .version) L c (acceptable-out w L c (latest-acceptable w c L h) .overEarlier .chained) (chain-on-one w L (c .parent) sound-earlier) in (
       any-alike (eqb (c .resource) o) (λ d. eqb (d .resource) o) (above L c)
           (all-imp (λ d. d .resource ≡ c .resource) (λ d. eqb (d .resource) o ≡ eqb (c .resource) o) (λ d q. ap (λ n. eqb n o) q) (above L c) same),
       struck-resource w o L sound-earlier,

@@ -1,13 +1,13 @@
 -- What any calls come to: the register holds what remains in the annals, and making the remaining grants again ends in it. Assumes nothing.
-use mathlib.Core.Path.{_≡_, refl, ap, sym, _∙_}
+use mathlib.Core.Path.{_≡_, refl, ap, sym, subst, _∙_}
 use mathlib.Core.Bool.{true, false, not, _&&_, cond, and-true, and-assoc}
-use mathlib.Core.List.{List, [], _∷_, _++_, map, map-append, reverse-cons, reverse-reverse}
+use mathlib.Core.List.{List, [], _∷_, _++_, map, reverse-cons, reverse-reverse}
 use Prim.Native.Nat.{ℕ, _≤_, _<_}
 use native.Mathlib.Omega.{arith}
 use borrow.Author.Tests.{ltb-true, lt-ltb}
 use lib.ListN.{length, length-map}
 use Rattle.lists.specs.Tests.{cases, and-both}
-use Rattle.lists.specs.Each.{all-imp}
+use Rattle.lists.specs.Each.{all-imp, reverse-map}
 use Rattle.lists.specs.Filters.{dropping-none, dropping-length, filter-hit, filter-miss, filter-none, filter-reverse}
 use Rattle.lists.specs.Lists.{All, filter}
 use Rattle.register.specs.Limits.{claimLimit}
@@ -15,16 +15,18 @@ use Rattle.register.specs.Register.{claimsOf, Shaped}
 use Rattle.register.specs.Chain.{latest, chain}
 use Rattle.register.specs.declared.Claim.{Claim}
 use Rattle.register.specs.declared.Register.{Register}
-use Rattle.soundness_rules.specs.Sound.{soundClaims, sound}
+use Rattle.soundness_rules.specs.Sound.{soundClaims, sound, stored}
+use Rattle.soundness_rules.specs.Alike.{stored-stored}
 use Rattle.soundness_rules.specs.Registers.{SoundRegister, sound-out}
 use Rattle.soundness_rules.specs.Places.{latest-acceptable, earlier-sound}
 use Rattle.soundness_rules.specs.Striking.{strike-length}
 use Rattle.soundness_rules.specs.Struck.{strike}
-use Rattle.change_rules.specs.Changes.{worldIn, standing, holding, Withdrawal, names}
+use Rattle.change_rules.specs.Changes.{worldIn, standing, appended, holding, Withdrawal, names}
+use Rattle.change_rules.proofs.Theorems.{granted-version, withdrawn-version}
 use Rattle.history.specs.History.{Change, grant, changed, took, registerAfter, accepts, Note, Annals, claims, remains, started, wrote, kept, annals, olds, grants, History, withdraw}
 use Rattle.history.proofs.Changing.{grant-out, grant-in, granted-register, refused-register, withdrawn-register}
 use Rattle.history.proofs.Holds.{Holds, holds-self, holds-appended, holds-holding, holds-same, holds-sound, changed-sound, changed-shaped}
-use Rattle.history.proofs.Noting.{Fine, Kept, After, Timely, chain-claims, strike-claims, remains-grant, kept-grant, started-claims, remains-started, kept-started, remains-withdraw, kept-withdraw}
+use Rattle.history.proofs.Noting.{Fine, Kept, After, Timely, chain-claims, strike-claims, remains-noted, kept-noted, started-claims, remains-started, kept-started, remains-withdraw, kept-withdraw}
 
 after-nil : (r : Register) → registerAfter r [] ≡ r
 unfolding registerAfter
@@ -56,57 +58,77 @@ unfolding registerAfter
 after-shaped r [] h = h
 after-shaped r (k ∷ ks) h = after-shaped (changed r k) ks (changed-shaped r k h)
 
+-- and its version, of any register
+changed-version : (r : Register) (k : Change) → changed r k .version ≡ r .version
+changed-version r (grant c moment) = granted-version r c moment
+changed-version r (withdraw w) = withdrawn-version r w
+
+pub after-version : (r : Register) (ks : List Change) → registerAfter r ks .version ≡ r .version
+unfolding registerAfter
+after-version r [] = refl
+after-version r (k ∷ ks) = after-version (changed r k) ks ∙ changed-version r k
+
 -- in a run from r the register s holds what remains in the annals b
 record State (r s : Register) (b : Annals) : Type 0 where
   held : Holds r s (claims (remains b))
   judged : sound s ≡ true
-  known : Kept b
+  known : Kept (r .version) b
 
 held-room : (r s : Register) (b : Annals) → State r s b → length (claims (remains b)) ≤ claimLimit
 held-room r s b v = rw (← v .held .count) (sound-out s (v .judged) .limits .claimCount)
 
-state-grant : (r s : Register) (b : Annals) (c : Claim) (moment : ℕ) → State r s b → took s (grant c moment) ≡ true → State r (changed s (grant c moment)) (wrote b (grant c moment))
+-- a grant puts the claim as it is stored behind what remains
+granted-held : (r s : Register) (L : List Claim) (c : Claim) (moment : ℕ) → Holds r s L → took s (grant c moment) ≡ true
+    → changed s (grant c moment) ≡ appended s (stored (r .version) L c)
+granted-held r s L c moment held e =
+    granted-register s c moment e ∙ ap (λ v. appended s (stored v (standing s) c)) (held .version) ∙ ap (λ K. appended s (stored (r .version) K c)) (held .claims)
+
+state-grant : (r s : Register) (b : Annals) (c : Claim) (moment : ℕ) → State r s b → took s (grant c moment) ≡ true
+    → State r (changed s (grant c moment)) (wrote (r .version) b (grant c moment))
 state-grant r s b c moment v e =
     let told = grant-out s c moment e in
+    let d : Claim = stored (r .version) (claims (remains b)) c in
     let room : length (claims (remains b)) < claimLimit = rw (← v .held .count) (ltb-true (s .claims .count) claimLimit (told .room)) in
     record {
-      held = rw (granted-register s c moment e, remains-grant b c moment (v .known)) (holds-appended r s (claims (remains b)) c (v .held) room);
+      held = rw (granted-held r s (claims (remains b)) c moment (v .held) e, remains-noted (r .version) b d moment (v .known))
+          (holds-appended r s (claims (remains b)) d (v .held) room);
       judged = changed-sound s (grant c moment) (v .judged);
-      known = kept-grant b c moment (v .known) (told .timely) (rw (v .held .claims) at (told .lives));
+      known = kept-noted (r .version) b d moment (v .known) (told .timely) (rw (v .held .claims) at (told .lives))
+          (stored-stored (r .version) (claims (remains b)) c);
     }
 
 state-withdraw : (r s : Register) (b : Annals) (w : Withdrawal) → State r s b → took s (withdraw w) ≡ true
-    → State r (changed s (withdraw w)) (wrote b (withdraw w))
+    → State r (changed s (withdraw w)) (wrote (r .version) b (withdraw w))
 state-withdraw r s b w v e =
     let K = strike (λ c. c .id) (λ c. c .parent) (names w) (standing s) in
-    let same : claims (remains (wrote b (withdraw w))) ≡ K =
-    ap claims (remains-withdraw b w (v .known .fine)) ∙ sym (strike-claims (names w) (remains b))
+    let same : claims (remains (wrote (r .version) b (withdraw w))) ≡ K =
+    ap claims (remains-withdraw (r .version) b w (v .known .fine)) ∙ sym (strike-claims (names w) (remains b))
     ∙ ap (λ L. strike (λ c. c .id) (λ c. c .parent) (names w) L) (sym (v .held .claims)) in
     let fewer : length K ≤ length (standing s) = strike-length (λ c. c .id) (λ c. c .parent) (names w) (standing s) in
     let stood : length (standing s) ≤ claimLimit = rw (v .held .claims) (held-room r s b v) in
     record {
-      held = rw (withdrawn-register s w e, same) (holds-holding r s K (v .held .actors) (v .held .resources) (omega (arith, fewer, stood)));
+      held = rw (withdrawn-register s w e, same) (holds-holding r s K (v .held .actors) (v .held .resources) (v .held .version) (omega (arith, fewer, stood)));
       judged = changed-sound s (withdraw w) (v .judged);
-      known = kept-withdraw b w (v .known);
+      known = kept-withdraw (r .version) b w (v .known);
     }
 
-state-step : (r s : Register) (b : Annals) (k : Change) → State r s b → State r (changed s k) (cond (took s k) (wrote b k) b)
-state-step r s b k v = cases (took s k) (λ e. rw e (taken k e)) (λ e. rw (e, refused-register s k e) v)
+state-step : (r s : Register) (b : Annals) (k : Change) → State r s b → State r (changed s k) (cond (took s k) (wrote (s .version) b k) b)
+state-step r s b k v = cases (took s k) (λ e. rw e (subst (λ n. State r (changed s k) (wrote n b k)) (sym (v .held .version)) (taken k e))) (λ e. rw (e, refused-register s k e) v)
   where
-    taken : (k : Change) → took s k ≡ true → State r (changed s k) (wrote b k)
+    taken : (k : Change) → took s k ≡ true → State r (changed s k) (wrote (r .version) b k)
     taken (grant c moment) e = state-grant r s b c moment v e
     taken (withdraw w) e = state-withdraw r s b w v e
 
 state-run : (r s : Register) (b : Annals) (ks : List Change) → State r s b → State r (registerAfter s ks) (kept s b ks)
 unfolding registerAfter kept
 state-run r s b [] v = v
-state-run r s b (k ∷ ks) v = state-run r (changed s k) (cond (took s k) (wrote b k) b) ks (state-step r s b k v)
+state-run r s b (k ∷ ks) v = state-run r (changed s k) (cond (took s k) (wrote (s .version) b k) b) ks (state-step r s b k v)
 
 state-start : (r : Register) → Shaped r → sound r ≡ true → State r r (record { all = started (standing r); named = [] })
 state-start r shaped h = record {
   held = rw (remains-started (standing r), started-claims (standing r)) (holds-self r shaped h);
   judged = h;
-  known = kept-started (standing r);
+  known = kept-started (r .version) (standing r);
 }
 
 -- the remaining grants again, latest first
@@ -119,30 +141,29 @@ oldest L = filter (λ e. e .old) L
 abbrev newest : List Note → List Note
 newest L = filter (λ e. not (e .old)) L
 
-map-latest : {A B : Type 0} (f : A → B) (L : List A) → map f (latest L) ≡ latest (map f L)
-map-latest f [] = refl
-map-latest f (a ∷ L) = ap (map f) (reverse-cons a L) ∙ map-append f (latest L) (a ∷ []) ∙ ap (λ K. K ++ (f a ∷ [])) (map-latest f L) ∙ sym (reverse-cons (f a) (map f L))
-
 olds-latest : (L : List Note) → olds (latest L) ≡ latest (claims (oldest L))
-olds-latest L = ap claims (filter-reverse (λ e. e .old) L) ∙ map-latest (λ e. e .claim) (oldest L)
+olds-latest L = ap claims (filter-reverse (λ e. e .old) L) ∙ sym (reverse-map (λ e. e .claim) (oldest L))
 
 grants-latest : (L : List Note) → grants (latest L) ≡ latest (map again (newest L))
-grants-latest L = ap (map again) (filter-reverse (λ e. not (e .old)) L) ∙ map-latest again (newest L)
+grants-latest L = ap (map again) (filter-reverse (λ e. not (e .old)) L) ∙ sym (reverse-map again (newest L))
 
 -- the next of the remaining grants is accepted, where s holds those before it
 module _ (r s : Register) (sr : SoundRegister r) (e : Note) (L : List Note) (held : Holds r s (claims L)) where
-  next-accepted : length (claims L) < claimLimit → soundClaims (worldIn r) (claims (e ∷ L)) ≡ true → Timely e (chain (λ e. e .claim .id) (λ e. e .claim .parent) L (e .claim .parent))
+  next-accepted : length (claims L) < claimLimit → soundClaims (worldIn r) (claims (e ∷ L)) ≡ true → Timely (r .version) e (chain (λ e. e .claim .id) (λ e. e .claim .parent) L (e .claim .parent))
       → took s (again e) ≡ true
   next-accepted room k timely = grant-in s (e .claim) (e .clock) record {
     judged = holds-sound r s (claims L) sr held (omega (arith, room)) (earlier-sound (worldIn r) (e .claim) (claims L) k);
     timely = timely .0;
     room = lt-ltb (s .claims .count) claimLimit (rw (held .count) room);
-    fitting = rw (held .actors, held .resources, held .claims) (latest-acceptable (worldIn r) (e .claim) (claims L) k);
+    fitting = rw (held .actors, held .resources, held .version, held .claims) (latest-acceptable (worldIn r) (e .claim) (claims L) k);
     lives = rw (held .claims, chain-claims L (e .claim .parent)) (timely .1);
   }
 
-  next-held : length (claims L) < claimLimit → took s (again e) ≡ true → Holds r (changed s (again e)) (claims (e ∷ L))
-  next-held room accepted = rw (granted-register s (e .claim) (e .clock) accepted) (holds-appended r s (claims L) (e .claim) held room)
+  next-held : length (claims L) < claimLimit → Timely (r .version) e (chain (λ e. e .claim .id) (λ e. e .claim .parent) L (e .claim .parent))
+      → took s (again e) ≡ true → Holds r (changed s (again e)) (claims (e ∷ L))
+  next-held room timely accepted =
+      let asStored : stored (r .version) (claims L) (e .claim) ≡ e .claim = rw (chain-claims L (e .claim .parent)) (timely .2) in
+      rw (granted-held r s (claims L) (e .claim) (e .clock) held accepted, asStored) (holds-appended r s (claims L) (e .claim) held room)
 
 -- from a register that holds the remaining claims of the start, the calls are accepted and end in one that holds all that remains
 record Remade (r s : Register) (L : List Note) (calls : List Change) : Type 0 where
@@ -179,7 +200,7 @@ newest-next e L o = ap (λ K. latest (map again K)) (filter-hit (λ (d : Note). 
 remade-old : (r s : Register) (L : List Note) → All (λ (d : Note). d .old ≡ true) L → Holds r s (claims (oldest L)) → Remade r s L (latest (map again (newest L)))
 remade-old r s L olds from = rw (newest-none L olds) (remade-none r s L (rw (oldest-all L olds) at from))
 
-remade : (r s : Register) → SoundRegister r → (L : List Note) → Fine L → length (claims L) ≤ claimLimit → soundClaims (worldIn r) (claims L) ≡ true
+remade : (r s : Register) → SoundRegister r → (L : List Note) → Fine (r .version) L → length (claims L) ≤ claimLimit → soundClaims (worldIn r) (claims L) ≡ true
     → Holds r s (claims (oldest L)) → Remade r s L (latest (map again (newest L)))
 remade r s sr [] h room k from = remade-old r s [] tt from
 remade r s sr (e ∷ L) h room k from = cases (e .old) (λ o. remade-old r s (e ∷ L) (olds-only e L o (h .0 .0)) from) (λ o.
@@ -188,7 +209,7 @@ remade r s sr (e ∷ L) h room k from = cases (e .old) (λ o. remade-old r s (e 
     let before : Remade r s L calls =
     remade r s sr L (h .1) (omega (arith, room)) (earlier-sound (worldIn r) (e .claim) (claims L) k) (rw (oldest-past e L o) at from) in
     let accepted = next-accepted r (registerAfter s calls) sr e L (before .held) fewer k (h .0 .1 .0 o) in
-    rw (newest-next e L o) (remade-next r s e L calls (before .accepted) accepted (next-held r (registerAfter s calls) sr e L (before .held) fewer accepted)))
+    rw (newest-next e L o) (remade-next r s e L calls (before .accepted) accepted (next-held r (registerAfter s calls) sr e L (before .held) fewer (h .0 .1 .0 o) accepted)))
 
 -- the starting claims that remain are not more than fit
 oldest-room : (L : List Note) → length (claims L) ≤ claimLimit → length (claims (oldest L)) ≤ claimLimit
@@ -197,9 +218,9 @@ oldest-room L room = omega (arith, room, length-map L (λ e. e .claim), length-m
 again-holds : (r s : Register) → SoundRegister r → (b : Annals) → State r s b
     → Remade r (holding r (latest (claims (oldest (remains b))))) (remains b) (latest (map again (newest (remains b))))
 again-holds r s sr b v =
-    let good = rw (v .held .claims, v .held .actors, v .held .resources) at (sound-out s (v .judged) .claims) in
+    let good = rw (v .held .claims, v .held .actors, v .held .resources, v .held .version) at (sound-out s (v .judged) .claims) in
     remade r (holding r (latest (claims (oldest (remains b))))) sr (remains b) (v .known .fine) (held-room r s b v) good
-    (holds-holding r r (claims (oldest (remains b))) refl refl (oldest-room (remains b) (held-room r s b v)))
+    (holds-holding r r (claims (oldest (remains b))) refl refl refl (oldest-room (remains b) (held-room r s b v)))
 
 -- the theorem
 pub history : (r : Register) → Shaped r → sound r ≡ true → (ks : List Change) → History r ks
@@ -210,7 +231,8 @@ history r shaped h ks =
     record {
       actors = v .held .actors;
       resources = v .held .resources;
-      holds = sym (reverse-reverse (claimsOf (registerAfter r ks .claims))) ∙ ap latest (v .held .claims) ∙ sym (map-latest (λ e. e .claim) (remains b));
+      version = v .held .version;
+      holds = sym (reverse-reverse (claimsOf (registerAfter r ks .claims))) ∙ ap latest (v .held .claims) ∙ reverse-map (λ e. e .claim) (remains b);
       again = rw (olds-latest (remains b), grants-latest (remains b)) (made .accepted);
       same = rw (olds-latest (remains b), grants-latest (remains b)) (holds-same r _ (registerAfter r ks) (claims (remains b)) (made .held) (v .held));
     }

@@ -10,7 +10,7 @@ use Rattle.register.specs.Register.{claimsOf, Shaped}
 use Rattle.register.specs.Chain.{above}
 use Rattle.register.specs.declared.Claim.{Claim}
 use Rattle.register.specs.declared.Register.{Register}
-use Rattle.soundness_rules.specs.Sound.{sound, fresh}
+use Rattle.soundness_rules.specs.Sound.{sound, fresh, stored}
 use Rattle.change_rules.specs.Changes.{worldIn, standing, sourceLive, appended, granted, Withdrawal, withdrawn}
 use Rattle.history.specs.History.{Change, grant, changed, took, registerAfter, History, withdraw}
 use Rattle.history.proofs.Changing as calls
@@ -38,14 +38,18 @@ changed-shaped = holds.changed-shaped
 pub after-shaped : (r : Register) (ks : List Change) → Shaped r → Shaped (registerAfter r ks)
 after-shaped = replay.after-shaped
 
+-- 2e. Every run of calls from any register leaves it in its version.
+pub after-version : (r : Register) (ks : List Change) → registerAfter r ks .version ≡ r .version
+after-version = replay.after-version
+
 -- 3a. A grant is accepted exactly where the register is sound, the moment is in range, the register with the claim is sound, and the source of a claim that is no root lives.
 pub grant-exact : (r : Register) (c : Claim) (moment : ℕ) → Shaped r
     → took r (grant c moment) ≡ sound r && (ltb moment momentEnd && (sound (appended r c) && (eqb (c .parent) 0 || sourceLive moment (above (standing r) c))))
 grant-exact = laws.grant-exact
 
--- 3b. An accepted grant puts the claim at the end of the claims.
+-- 3b. An accepted grant puts the claim, as it is stored, at the end of the claims.
 pub granted-claims : (r : Register) (c : Claim) (moment : ℕ) → Shaped r → took r (grant c moment) ≡ true
-    → claimsOf (changed r (grant c moment) .claims) ≡ claimsOf (r .claims) ++ (c ∷ [])
+    → claimsOf (changed r (grant c moment) .claims) ≡ claimsOf (r .claims) ++ (stored (r .version) (standing r) c ∷ [])
 granted-claims = laws.granted-claims
 
 -- 3c. Of the other claims of two sound registers a grant's outcome depends on the chain above it, on whether its id stands and on whether there is room.

@@ -14,6 +14,7 @@ use Rattle.register.specs.Chain.{latest, chain}
 use Rattle.register.specs.declared.Claim.{Claim}
 use Rattle.register.specs.declared.Register.{Register}
 use Rattle.refusals.specs.Refusals.{isAccepted}
+use Rattle.soundness_rules.specs.Sound.{stored}
 use Rattle.change_rules.specs.Changes.{standing, granted, holding, Withdrawal, names, withdrawn}
 
 -- a call: the claim to grant and the clock reading; a withdrawal
@@ -85,15 +86,19 @@ unfoldable pub started : List Claim → List Note
 started [] = []
 started (c ∷ earlier) = let es = started earlier in entered true 0 es (length earlier) c ∷ es
 
--- what an accepted call writes: a grant a new note, a withdrawal the serial numbers of what it names among those that stand
-abbrev pub wrote : Annals → Change → Annals
-wrote b (grant c moment) = record { all = entered false moment (remains b) (length (b .all)) c ∷ b .all; named = b .named }
-wrote b (withdraw w) = record { all = b .all; named = serials (filter (λ e. names w (e .claim)) (remains b)) ++ b .named }
+-- what an accepted call writes in a version: a grant a new note, of the claim as it is stored, a withdrawal the serial numbers of what it names
+-- among those that stand
+abbrev pub wrote : ℕ → Annals → Change → Annals
+wrote version b (grant c moment) = record {
+  all = entered false moment (remains b) (length (b .all)) (stored version (claims (remains b)) c) ∷ b .all;
+  named = b .named;
+}
+wrote version b (withdraw w) = record { all = b .all; named = serials (filter (λ e. names w (e .claim)) (remains b)) ++ b .named }
 
 -- the annals b, kept on through calls from the register r
 unfoldable pub kept : Register → Annals → List Change → Annals
 kept r b [] = b
-kept r b (k ∷ ks) = kept (changed r k) (cond (took r k) (wrote b k) b) ks
+kept r b (k ∷ ks) = kept (changed r k) (cond (took r k) (wrote (r .version) b k) b) ks
 
 abbrev pub annals : Register → List Change → Annals
 annals r ks = kept r (record { all = started (standing r); named = [] }) ks
@@ -109,12 +114,13 @@ abbrev pub grants : List Note → List Change
 grants es = map (λ e. grant (e .claim) (e .clock)) (filter (λ e. not (e .old)) es)
 
 -- Make any calls from a register. Strike every claim that an accepted withdrawal named while it stood, with all drawn from it. The register
--- at the end holds exactly what is left, in the order in which it came, over the same actors and resources. From the claims of the start
--- that are left, the grants that are left, made again at their clock readings and without any other call, are each accepted; and that
--- ends in the same register.
+-- at the end holds exactly what is left, in the order in which it came, over the same actors and resources and in the same version. From the
+-- claims of the start that are left, the grants that are left, made again at their clock readings and without any other call, are each accepted;
+-- and that ends in the same register.
 pub record History (r : Register) (ks : List Change) : Type 0 where
   pub actors : registerAfter r ks .actors ≡ r .actors
   pub resources : registerAfter r ks .resources ≡ r .resources
+  pub version : registerAfter r ks .version ≡ r .version
   pub holds : claimsOf (registerAfter r ks .claims) ≡ claims (survivors r ks)
   pub again : accepts (holding r (olds (survivors r ks))) (grants (survivors r ks)) ≡ true
   pub same : Same (registerAfter (holding r (olds (survivors r ks))) (grants (survivors r ks))) (registerAfter r ks)

@@ -164,7 +164,7 @@ pub fn read_json(text: &[u8], moment: u64) -> JsonRead
         action,
         outcome: Outcome::Accepted,
         kind: draft.figures[KIND],
-        len,
+        len: len as u32,
         id,
     }
 }

@@ -22,7 +22,7 @@ pub struct JsonRead {
     pub action: Action,
     pub outcome: Outcome,
     pub kind: u32,
-    pub len: usize,
+    pub len: u32,
     pub id: [u8; ID_BYTES],
 }
 

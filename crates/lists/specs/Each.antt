@@ -1,7 +1,7 @@
 -- Laws: What some or every element of a list passing a test, or each of them having a property, says and follows from. Assumes nothing.
-use mathlib.Core.Path.{_≡_, refl, ap, _∙_}
+use mathlib.Core.Path.{_≡_, refl, ap, sym, _∙_}
 use mathlib.Core.Bool.{Bool, true, false, _||_, _&&_, and-comm, and-true, or-comm, or-false}
-use mathlib.Core.List.{List, [], _∷_, _++_, map, reverse, reverse-cons}
+use mathlib.Core.List.{List, [], _∷_, _++_, map, map-append, reverse, reverse-cons}
 use Prim.Native.Nat.{ℕ, zero, suc, _<_}
 use native.Mathlib.Omega.{arith}
 use lib.ListN.{length, take, getD}
@@ -144,3 +144,15 @@ module _ {E C : Type 0} (f : E → C) where
   pub all-map : (Q : C → Type 0) (L : List E) → All (λ e. Q (f e)) L → All Q (map f L)
   all-map Q [] h = tt
   all-map Q (e ∷ L) h = (h .0, all-map Q L (h .1))
+
+  -- the first n of a mapped list are those of the list, mapped
+  pub take-map : (n : ℕ) (L : List E) → take n (map f L) ≡ map f (take n L)
+  take-map zero L = refl
+  take-map (suc n) [] = refl
+  take-map (suc n) (e ∷ L) = rw (take-map n L)
+
+  -- and a mapped list is turned round as the list is
+  pub reverse-map : (L : List E) → reverse (map f L) ≡ map f (reverse L)
+  reverse-map [] = refl
+  reverse-map (e ∷ L) =
+      reverse-cons (f e) (map f L) ∙ ap (λ K. K ++ (f e ∷ [])) (reverse-map L) ∙ sym (map-append f (reverse L) (e ∷ [])) ∙ ap (map f) (sym (reverse-cons e L))

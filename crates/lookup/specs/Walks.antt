@@ -83,7 +83,7 @@ module _ (r : Register) (places : length (r .claims .list) ≡ claimLimit) (whol
   -- none has the number 0
   pub sheet-numbered : (j : ℕ) → j < claimTotal → claimAt sheet j .id ≡ 0 → ⊥
   sheet-numbered j h none =
-      claim-numbered (worldOf (actorsOf (r .actors)) (resourcesOf (r .resources))) claimTotal (r .claims .list) (sound-out r whole .claims) j h
+      claim-numbered (worldOf (r .version) (actorsOf (r .actors)) (resourcesOf (r .resources))) claimTotal (r .claims .list) (sound-out r whole .claims) j h
       (omega (arith, h, sheet-few, places))
       (ap (λ c. c .id) (sym (sheet-at j h)) ∙ none)
 

@@ -1,27 +1,23 @@
 -- The answer for a plan text, by where its reading ended, and by what is lent of a register. Assumes nothing.
 use mathlib.Core.Path.{_≡_, refl, sym, ap, _∙_}
-use mathlib.Core.Bool.{Bool, true, false, not, _||_}
-use mathlib.Core.List.{List, [], _∷_}
-use Prim.Native.Nat.{ℕ, suc, _≤_}
+use mathlib.Core.Bool.{true, false}
+use mathlib.Core.List.{List}
+use Prim.Native.Nat.{ℕ, _≤_}
 use native.Mathlib.Omega.{arith}
 use borrow.Author.Tests.{le-leb}
-use lib.Dec.{eqb}
 use lib.ListN.{length}
 use Rattle.register.specs.Limits.{claimLimit}
-use Rattle.register.specs.Register.{Same, Shaped}
+use Rattle.register.specs.Register.{Shaped}
 use Rattle.register.specs.declared.Register.{Register}
 use Rattle.soundness_rules.specs.Sound.{sound}
-use Rattle.soundness_rules.specs.Sameness.{sound-same}
-use Rattle.refusals.specs.Refusals.{outcomeOf}
+use Rattle.soundness_rules.specs.Sameness.{same-alike}
 use Rattle.refusals.specs.declared.Refusal.{Refusal}
 use Rattle.refusals.specs.declared.Refusal.the-variants.{Unsound}
 use Rattle.actions.specs.declared.Action.{Action}
 use Rattle.lines.specs.Reading.{going, failed}
 use Rattle.lines.specs.Answers.{stateOf}
-use Rattle.gate_rules.specs.Gate.{actionTests}
-use Rattle.gate_rules.specs.Plans.{judgements, Halt, runs, halts, haltOn, firstHalt}
+use Rattle.gate_rules.specs.Plans.{judgements, Halt, runs, halts, firstHalt}
 use Rattle.gate_rules.specs.Cancelling.{first-halt-runs}
-use Rattle.gate_rules.specs.Sameness.{violations-same}
 use Rattle.gate.specs.Judged.{Lent, lentIn}
 use Rattle.gate.specs.Sheets.{sheeted, sheeted-same}
 use Rattle.plans.specs.Stops.{haltBy}
@@ -29,6 +25,7 @@ use Rattle.plans.specs.Judgements.{judgementsBy}
 use Rattle.plans.specs.Laws.{halt-natural, judgements-natural}
 use Rattle.steps.specs.Steps.{textActionLimit}
 use Rattle.steps.specs.Nesting.{planOf}
+use Rattle.steps.specs.Sameness.{flat-alike}
 use Rattle.steps.specs.Judging.{stoppedPlan, haltUnder, textVerdict, flatJudged, planTextVerdict, planTextJudged}
 use Rattle.steps.specs.declared.PlanTextVerdict.{PlanTextVerdict}
 use Rattle.step_reading.specs.Finding.{TextFound, actionsAt}
@@ -54,32 +51,10 @@ module _ (r : Register) (s : List ℕ) (p : Places) (found : TextFound s p (plan
       let room = found .room in
       omega arith
 
--- registers that are the same get the same answer
-module _ (r s : Register) (same : Same r s) where
-  tests-as : (a : Action) → actionTests r a ≡ actionTests s a
-  unfolding actionTests
-  tests-as a = rw (same .actors)
-
-  halt-as : (n : ℕ) (actions : List Action) → firstHalt r n actions ≡ firstHalt s n actions
-  unfolding firstHalt
-  halt-as n [] = refl
-  halt-as n (a ∷ actions) =
-      ap (λ tests. haltOn (outcomeOf tests) n (firstHalt r (suc n) actions)) (tests-as a)
-      ∙ ap (λ more. haltOn (outcomeOf (actionTests s a)) n more) (halt-as (suc n) actions)
-
-  judgements-as : (cancelled : Bool) (actions : List Action) → judgements r cancelled actions ≡ judgements s cancelled actions
-  unfolding judgements
-  judgements-as cancelled [] = refl
-  judgements-as cancelled (a ∷ actions) = rw (violations-same r s same a, judgements-as (cancelled || not (eqb (a .flags) 0)) actions)
-
-  flat-as : (actions : List Action) → flatJudged textActionLimit r actions ≡ flatJudged textActionLimit s actions
-  unfolding flatJudged haltUnder
-  flat-as actions = rw (sound-same r s same, halt-as 0 actions, judgements-as false actions)
-
 -- the register whose claims are read from their sheet
 module _ (r : Register) (long : length (r .claims .list) ≡ claimLimit) (actions : List Action) where
   sheeted-judged : flatJudged textActionLimit (sheeted r) actions ≡ flatJudged textActionLimit r actions
-  sheeted-judged = flat-as (sheeted r) r (sheeted-same r long) actions
+  sheeted-judged = flat-alike (sheeted r) r (same-alike (sheeted r) r (sheeted-same r long)) textActionLimit actions
 
   flat-unsound : sound (sheeted r) ≡ false → stoppedPlan Unsound 0 0 ≡ flatJudged textActionLimit (sheeted r) actions
   unfolding flatJudged haltUnder

@@ -101,7 +101,7 @@ pub fn plan_text(r: Register, text: &[u8]) -> PlanTextVerdict
     let o = r.resources;
     let k = r.claims;
     let mut sheet = [0u32; columns::SHEET];
-    let found = soundness::examine(&mut sheet, actors, o, k);
+    let found = soundness::examine(&mut sheet, r.version, actors, o, k);
     if !found.sound {
         return stopped(Refusal::Unsound, 0, 0);
     }

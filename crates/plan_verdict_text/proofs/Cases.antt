@@ -6,7 +6,7 @@ use Rattle.lists.specs.Lists.{dropping, same, distinct}
 use Rattle.paths.specs.Containment.{components, climbing, trimmed, starting, contained}
 use Rattle.rights.specs.Rights.{hasRight, hasRights, barsMachine}
 use Rattle.register.specs.Chain.{chain, rootGranted, circling}
-use Rattle.soundness_rules.specs.Sound.{actorFits, resourceFits, claimFits, namesStand, rootKept, drawnFrom, machineMay, overChain, drawn, fresh, alone, over, acceptable, soundClaims, soundActors, soundResources, withinLimits, sound}
+use Rattle.soundness_rules.specs.Sound.{actorFits, resourceFits, claimFits, namesStand, rootKept, drawnFrom, machineMay, overChain, drawn, fresh, alone, over, acceptable, soundClaims, eachStored, soundActors, soundResources, withinLimits, sound}
 use Rattle.refusals.specs.Refusals.{outcomeOf}
 use Rattle.actions.specs.Actions.{actionFits}
 use Rattle.gate_rules.specs.Gate.{publicRead, contains, covering, covers, isOwnerless, ownerLacks, firstOf, flagsSet, governed, useViolation, useViolations, violationsOf, actionTests}
@@ -26,7 +26,7 @@ use Rattle.plan_verdict_text.specs.PlanPrinted.{verdictsText, planStoppe
 plan-printed-in-R : planPrinted caseText (
     lined "plan=2 step=plan plan=2 step=action now=1999 actor=2 flags=0 uses=1 use=10 right=0 governs=0 step=action now=1999 actor=2 flags=513 uses=0 governs=2 govern=7 govern=8 step=action now=1999 actor=2 flags=0 uses=0 governs=0")
     ≡ lined "plan=judged verdicts=3 verdict=permitted verdict=refused violations=4 verdict=cancelled"
-unfolding planPrinted planAnswerText verdictsText texts decimalLine digits digitsWith registerRead registerFrom readActors readResources readClaims readAction readUses readGoverns values passed many parseLimited atLeast begins ended parse canonical digitRun after value parseWord parseScope pathOn planTextJudged flatJudged haltUnder firstHalt judgements planOf readPlan readSteps opened stepFollowed actionsIn actionTests outcomeOf actionFits violationsOf flagsSet dropping isOwnerless governed useViolations useViolation covers covering publicRead contains ownerLacks firstOf contained climbing components same trimmed starting sound withinLimits soundActors soundResources soundClaims acceptable alone over fresh drawn overChain machineMay drawnFrom rootKept namesStand claimFits resourceFits actorFits distinct chain circling rootGranted hasRight hasRights barsMachine
+unfolding planPrinted planAnswerText verdictsText texts decimalLine digits digitsWith registerRead registerFrom readActors readResources readClaims eachStored readAction readUses readGoverns values passed many parseLimited atLeast begins ended parse canonical digitRun after value parseWord parseScope pathOn planTextJudged flatJudged haltUnder firstHalt judgements planOf readPlan readSteps opened stepFollowed actionsIn actionTests outcomeOf actionFits violationsOf flagsSet dropping isOwnerless governed useViolations useViolation covers covering publicRead contains ownerLacks firstOf contained climbing components same trimmed starting sound withinLimits soundActors soundResources soundClaims acceptable alone over fresh drawn overChain machineMay drawnFrom rootKept namesStand claimFits resourceFits actorFits distinct chain circling rootGranted hasRight hasRights barsMachine
 plan-printed-in-R = refl
 
 abbrev nobody : List ℕ
@@ -37,7 +37,7 @@ plan-printed-register :
     (planPrinted [] [] ≡ lined "plan=stopped refusal=19")
     × (planPrinted (lined "register=1 actors=65") [] ≡ lined "plan=stopped refusal=20")
     × (planPrinted (lined "register=1 actors=1 actor=1 kind=human owner=1 resources=0 claims=0") (lined "plan=65") ≡ lined "plan=stopped refusal=1")
-unfolding planPrinted planStoppedText decimalLine digits digitsWith registerRead registerFrom readActors readResources readClaims values passed many parseLimited atLeast begins ended parse canonical digitRun after value parseWord sound withinLimits soundActors actorFits distinct
+unfolding planPrinted planStoppedText decimalLine digits digitsWith registerRead registerFrom readActors readResources readClaims eachStored values passed many parseLimited atLeast begins ended parse canonical digitRun after value parseWord sound withinLimits soundActors actorFits distinct
 plan-printed-register = (refl, refl, refl)
 
 -- then the plan: no verdicts of no actions; 19, 20 and 22 at their lines; 3 at its position
@@ -48,5 +48,5 @@ plan-printed-stopped :
     × (planPrinted nobody (lined "plan=1 step=plan plan=1 step=plan plan=1 step=plan plan=1 step=plan plan=1 step=plan plan=1 step=plan plan=1 step=plan plan=1 step=plan plan=0")
     ≡ lined "plan=stopped refusal=22 line=16")
     × (planPrinted nobody (lined "plan=1 step=action now=0 actor=2 flags=0 uses=0 governs=0") ≡ lined "plan=stopped refusal=3 position=0")
-unfolding planPrinted planAnswerText verdictsText planStoppedText placeText texts decimalLine digits digitsWith registerRead registerFrom readActors readResources readClaims readAction readUses readGoverns values passed many parseLimited atLeast begins ended parse canonical digitRun after value parseWord planTextJudged flatJudged haltUnder firstHalt judgements planOf readPlan readSteps opened stepFollowed actionsIn actionTests outcomeOf actionFits sound withinLimits soundActors soundResources soundClaims distinct hasRight
+unfolding planPrinted planAnswerText verdictsText planStoppedText placeText texts decimalLine digits digitsWith registerRead registerFrom readActors readResources readClaims eachStored readAction readUses readGoverns values passed many parseLimited atLeast begins ended parse canonical digitRun after value parseWord planTextJudged flatJudged haltUnder firstHalt judgements planOf readPlan readSteps opened stepFollowed actionsIn actionTests outcomeOf actionFits sound withinLimits soundActors soundResources soundClaims distinct hasRight
 plan-printed-stopped = (refl, refl, refl, refl, refl)

@@ -7,6 +7,8 @@
 // is taken out of it, once for the whole plan; it is lent to each action.
 ghost use mathlib.Core.Path.{_≡_};
 ghost use mathlib.Core.Bool.{false, cond};
+ghost use Prim.Native.Nat.{_≤_};
+ghost use Rattle.actions.specs.Actions.{violationLimit};
 ghost use Rattle.gate_rules.specs.Plans.{actionsOf, held, stopped, planned};
 ghost use Rattle.gate.specs.Judged.{lentOf, lentJudged};
 ghost use Rattle.plans.specs.Stops.{stopOf, haltBy};
@@ -73,12 +75,13 @@ fn stopped(why: Refusal, position: usize) -> PlanVerdict
 
 // The verdict on an action that is judged, by its number of violations.
 fn verdict_by(count: usize) -> Judgement
+    requires { ⌜ count ≤ violationLimit ⌝ }
     ensures { λ y. ⌜ y ≡ judgedAs count ⌝ }
 {
     if count == 0 {
         return Judgement::Permitted;
     }
-    Judgement::Refused(count)
+    Judgement::Refused(count as u32)
 }
 
 // The verdict on an action, by what is lent.
@@ -152,7 +155,7 @@ pub fn plan(r: Register, p: Plan) -> PlanVerdict
     let o = r.resources;
     let k = r.claims;
     let mut sheet = [0u32; columns::SHEET];
-    let found = soundness::examine(&mut sheet, actors, o, k);
+    let found = soundness::examine(&mut sheet, r.version, actors, o, k);
     if !found.sound {
         return stopped(Refusal::Unsound, 0);
     }

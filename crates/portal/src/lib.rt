@@ -57,8 +57,10 @@ pub extern "C" fn guvrendik_sound(r: Register) -> Soundness
 pub extern "C" fn guvrendik_grant(r: Register, c: Claim, moment: u64) -> GrantAnswer
     ensures { λ y. ⌜ y ≡ grantAnswer (granted r c moment) ⌝ }
 {
-    let outcome = granting::grant_outcome(r, c, moment);
-    answers::granted(r, c, outcome)
+    let settled = granting::grant_outcome(r, c, moment);
+    let stored = settled.claim;
+    let outcome = settled.outcome;
+    answers::granted(r, stored, outcome)
 }
 
 // Revokes a claim with all that is drawn from it.

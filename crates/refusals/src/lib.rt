@@ -33,7 +33,7 @@ pub enum Refusal {
     RightLacking,
     // 14: the weight is above the parent's.
     WeightAbove,
-    // 15: more than 16 hops.
+    // 15: more than 16 hops, or left not below the parent's.
     TooManyHops,
     // 16: a circle along the chain.
     Circle,

@@ -5,12 +5,13 @@ use mathlib.Core.Bool.{true, false}
 use mathlib.Core.List.{List, [], _∷_, map}
 use Prim.Native.Nat.{ℕ}
 use Rattle.register.specs.Limits.{isId}
+use Rattle.register.specs.Register.{withLeft, claimAs}
 use Rattle.register.specs.Chain.{latest, chain, above, hopsOf, chainOf, rootGranted, circling, expired, current, live, weighing}
 use Rattle.register.specs.declared.Claim.{Claim}
 
 abbrev claim : ℕ → ℕ → ℕ → ℕ → ℕ → ℕ → Claim
 claim id parent grantor holder weight expiry =
-    record { id = id; parent = parent; grantor = grantor; holder = holder; resource = 10; rights = 1; weight = weight; expiry = expiry }
+    record { id = id; parent = parent; grantor = grantor; holder = holder; resource = 10; rights = 1; weight = weight; left = 0; expiry = expiry }
 
 -- 8 is drawn from 7, which lasts until 2,000, and 9 from 8; 6 is another root, of weight 0
 abbrev last : Claim
@@ -53,6 +54,10 @@ lives-told = refl
 expired-told : map (λ expiry. map (λ moment. expired moment (weighing 1 expiry)) (0 ∷ 1 ∷ 4294967295 ∷ [])) (0 ∷ 1 ∷ [])
     ≡ (false ∷ false ∷ false ∷ []) ∷ (false ∷ true ∷ true ∷ []) ∷ []
 expired-told = refl
+
+-- what a claim holds as left counts in version 2 alone
+left-told : map (λ version. claimAs version (withLeft 5 last) .left) (0 ∷ 1 ∷ 2 ∷ 3 ∷ []) ≡ 0 ∷ 0 ∷ 5 ∷ 0 ∷ []
+left-told = refl
 
 -- the least and the greatest id, and their neighbours
 ids-told : map isId (0 ∷ 1 ∷ 65535 ∷ 65536 ∷ []) ≡ false ∷ true ∷ true ∷ false ∷ []

@@ -63,6 +63,7 @@ weighing weight expiry = record {
   resource = 0;
   rights = 0;
   weight = weight;
+  left = 0;
   expiry = expiry;
 }
 

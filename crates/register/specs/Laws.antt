@@ -10,9 +10,11 @@ use Rattle.lists.specs.Tests.{cases, and-right}
 use Rattle.lists.specs.Each.{cons-clash, any-map}
 use Rattle.lists.specs.Fills.{all-replicate}
 use Rattle.lists.specs.Lists.{All}
-use Rattle.register.specs.Limits.{actorLimit, resourceLimit, claimLimit, pathLimit}
-use Rattle.register.specs.Register.{noActor, noResource, noClaim, emptyRegister, Shaped}
+use Rattle.register.specs.Limits.{actorLimit, resourceLimit, claimLimit, pathLimit, tellsLeft}
+use Rattle.register.specs.Register.{claimsOf, withLeft, claimAs, Same, noActor, noResource, noClaim, emptyRegister, Shaped}
 use Rattle.register.specs.Chain.{numbered, chain, rootGranted, circling}
+use Rattle.register.specs.declared.Claim.{Claim}
+use Rattle.register.specs.declared.Register.{Register}
 
 module _ {C : Type 0} (id up : C → ℕ) where
   pub chain-nil : (p : ℕ) → chain id up [] p ≡ []
@@ -82,6 +84,31 @@ module _ {E C : Type 0} (f : E → C) (grantor holder : C → ℕ) where
   pub circling-map : (L : List E) (h : ℕ) → circling grantor holder (map f L) h ≡ circling (λ e. grantor (f e)) (λ e. holder (f e)) L h
   unfolding circling
   circling-map L h = rw (root-granted-map L h, any-map f (λ c. eqb (holder c) h) L)
+
+-- claims with nothing left: all else that they hold
+abbrev pub bare : Claim → Claim
+bare c = withLeft 0 c
+
+pub bare-as : (version : ℕ) (L : List Claim) → map bare (map (claimAs version) L) ≡ map bare L
+bare-as version [] = refl
+bare-as version (c ∷ L) = ap (λ K. bare c ∷ K) (bare-as version L)
+
+pub as-as : (version : ℕ) (L : List Claim) → map (claimAs version) (map (claimAs version) L) ≡ map (claimAs version) L
+as-as version [] = refl
+as-as version (c ∷ L) = cases (tellsLeft version) (λ e. rw (as-as version L, e)) (λ e. rw (as-as version L, e))
+
+-- in version 2 claims count as they stand, in another without what they hold as left
+pub claims-told : (version : ℕ) → tellsLeft version ≡ true → (L : List Claim) → map (claimAs version) L ≡ L
+claims-told version tells [] = refl
+claims-told version tells (c ∷ L) = rw (tells, claims-told version tells L)
+
+pub claims-untold : (version : ℕ) → tellsLeft version ≡ false → (L : List Claim) → map (claimAs version) L ≡ map bare L
+claims-untold version untold [] = refl
+claims-untold version untold (c ∷ L) = rw (untold, claims-untold version untold L)
+
+-- registers that are the same hold the same but for what claims hold as left
+pub same-bare : (r s : Register) → Same r s → map bare (claimsOf (r .claims)) ≡ map bare (claimsOf (s .claims))
+same-bare r s same = sym (bare-as (r .version) (claimsOf (r .claims))) ∙ ap (map bare) (same .claims) ∙ bare-as (s .version) (claimsOf (s .claims))
 
 pub empty-shaped : Shaped emptyRegister
 unfolding emptyRegister

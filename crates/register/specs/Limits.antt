@@ -1,7 +1,7 @@
 -- Believed: The numbers of 01, each once, and what it is to be in range. The code reads them by name from the crate `register`.
 use mathlib.Core.Bool.{Bool, _&&_}
 use Prim.Native.Nat.{ℕ, _^_}
-use lib.Dec.{leb}
+use lib.Dec.{eqb, leb}
 
 -- how many actors, resources and claims stand at most, how many hops a chain has at most, how many bytes a path has at most
 abbrev pub actorLimit : ℕ
@@ -26,6 +26,21 @@ idLimit = 65535
 -- the greatest weight
 abbrev pub weightLimit : ℕ
 weightLimit = 1000
+
+-- the greatest number of hands that a claim may still pass through
+abbrev pub leftLimit : ℕ
+leftLimit = 16
+
+-- the versions of a register
+abbrev pub versionOne : ℕ
+versionOne = 1
+
+abbrev pub versionTwo : ℕ
+versionTwo = 2
+
+-- whether claims of this version tell how many more hands they may pass through
+abbrev pub tellsLeft : ℕ → Bool
+tellsLeft version = eqb version versionTwo
 
 -- moments and expiries are below this
 abbrev pub momentEnd : ℕ

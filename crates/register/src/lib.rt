@@ -2,7 +2,7 @@
 // Each list is an array with a count, of which only what stands below the count is looked at. Every
 // number has a type that can say one out of range, and kinds are numbers: what is out of range
 // makes a register unsound, and is never cut down to something else. The structs cross to C as they
-// are.
+// are, and have no bytes between or behind their fields.
 ghost use mathlib.Core.Path.{_≡_};
 ghost use Rattle.register.specs.Register.{noClaim, emptyRegister};
 ghost use Rattle.register.specs.Chain.{current};
@@ -13,6 +13,9 @@ pub const ID_LIMIT: u32 = 65535;
 
 // The greatest weight.
 pub const WEIGHT_LIMIT: u32 = 1000;
+
+// The greatest number of hands that a claim may still pass through.
+pub const LEFT_LIMIT: u32 = 16;
 
 // Moments and expiries are below this.
 pub const MOMENT_END: u64 = 4294967296;
@@ -40,7 +43,7 @@ pub struct Resource {
     pub id: u32,
     pub public: u32,
     pub keeper: u32,
-    pub len: usize,
+    pub len: u32,
     pub path: [u8; Register::PATH],
 }
 
@@ -53,6 +56,7 @@ pub struct Claim {
     pub resource: u32,
     pub rights: u32,
     pub weight: u32,
+    pub left: u32,
     pub expiry: u64,
 }
 
@@ -79,9 +83,16 @@ pub struct Register {
     pub actors: Actors,
     pub resources: Resources,
     pub claims: Claims,
+    pub version: u64,
 }
 
 impl Register {
+    // The versions of a register. Claims of the second tell how many more hands they may pass through; in the first that is 16 less
+    // the hop count, and what they hold there is ignored.
+    pub const VERSION_ONE: u64 = 1;
+
+    pub const VERSION_TWO: u64 = 2;
+
     pub const ACTORS: usize = 64;
 
     pub const RESOURCES: usize = 64;
@@ -92,7 +103,7 @@ impl Register {
 
     pub const PATH: usize = 64;
 
-    // The register without actors, resources and claims: every place holds zeros.
+    // The register of version 1 without actors, resources and claims: every place holds zeros.
     pub fn empty() -> Register
         ensures { λ r. ⌜ r ≡ emptyRegister ⌝ }
     {
@@ -128,6 +139,7 @@ impl Register {
             actors,
             resources,
             claims,
+            version: Register::VERSION_ONE,
         }
     }
 }
@@ -145,6 +157,7 @@ impl Claim {
             resource: 0,
             rights: 0,
             weight: 0,
+            left: 0,
             expiry: 0,
         }
     }

@@ -1,3 +1,4 @@
 pub mod Reads
+pub mod Lefts
 pub mod Runs
 pub mod Filling

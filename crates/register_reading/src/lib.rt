@@ -1,12 +1,24 @@
 // A register read from a lent text of any length and content.
-// In one pass: the first failing line decides, soundness comes last.
+// In one pass: the first failing line decides, soundness comes last. The claims that are read tell
+// the hands that they have left, also in version 1, where the text does not.
 ghost use mathlib.Core.Path.{_≡_};
+ghost use Prim.Native.Nat.{_≤_};
+ghost use lib.ListN.{length, take};
+ghost use Rattle.register.specs.Limits.{claimLimit};
 ghost use Rattle.register.specs.Register.{emptyRegister};
+ghost use Rattle.register.specs.Chain.{latest};
+ghost use Rattle.columns.specs.Sheet.{sheetLimit, claimsIn};
+ghost use Rattle.soundness_rules.specs.Sound.{eachStored};
+ghost use Rattle.lines.specs.Answers.{FieldSays};
+ghost use Rattle.text_rules.specs.Keys.{claimsKey};
+ghost use Rattle.text_rules.specs.Records.{section};
 ghost use Rattle.lines.specs.Answers.{stateOf};
 ghost use Rattle.text_rules.specs.Registers.{readActor, readResource, readClaim, readActors, readResources, readClaims, heldActors, heldResources, heldClaims, registerRead};
 ghost use Rattle.text_rules.specs.Registers.{registerEnding, registerFrom};
 ghost use Rattle.register_reading.specs.Reads.{Reads};
+ghost use Rattle.register_reading.specs.Lefts.{readLeft, hopsBy};
 use lines::Cursor;
+use lines::Field;
 use refusals::Outcome;
 use refusals::Refusal;
 use register::Actor;
@@ -14,6 +26,7 @@ use register::Actors;
 use register::Claim;
 use register::Claims;
 use register::ID_LIMIT;
+use register::LEFT_LIMIT;
 use register::MOMENT_END;
 use register::Register;
 use register::Resource;
@@ -90,16 +103,29 @@ fn read_resource(s: &[u8], c: Cursor) -> ResourceRead
         id: id.value as u32,
         public: public.value as u32,
         keeper: keeper.value as u32,
-        len: scope.len,
+        len: scope.len as u32,
         path,
     };
     let cursor = scope.cursor;
     ResourceRead { resource, cursor }
 }
 
-// The lines `claim`, `parent`, `grantor`, `holder`, `resource`, `rights`, `weight`, `expiry`.
-fn read_claim(s: &[u8], c: Cursor) -> ClaimRead
-    ensures { λ r. ⌜ Reads (now (s .entry)) (r .claim) (r .cursor) (readClaim (stateOf (now (s .entry)) c)) ⌝ }
+// In version 2 the line `left`. Otherwise there is none, and 0 stands for it.
+fn read_left(version: u64, s: &[u8], c: Cursor) -> Field
+    ensures { λ r. ⌜ FieldSays (now (s .entry)) r (readLeft version (stateOf (now (s .entry)) c)) ⌝ }
+{
+    if version == Register::VERSION_TWO {
+        return lines::read_number(s, c, b"left=", 0, LEFT_LIMIT as u64);
+    }
+    Field {
+        value: 0,
+        cursor: c,
+    }
+}
+
+// The lines `claim`, `parent`, `grantor`, `holder`, `resource`, `rights`, `weight`, in version 2 `left`, `expiry`.
+fn read_claim(version: u64, s: &[u8], c: Cursor) -> ClaimRead
+    ensures { λ r. ⌜ Reads (now (s .entry)) (r .claim) (r .cursor) (readClaim version (stateOf (now (s .entry)) c)) ⌝ }
 {
     let id = lines::read_number(s, c, b"claim=", 1, ID_LIMIT as u64);
     let parent = lines::read_number(s, id.cursor, b"parent=", 0, ID_LIMIT as u64);
@@ -108,7 +134,8 @@ fn read_claim(s: &[u8], c: Cursor) -> ClaimRead
     let resource = lines::read_number(s, holder.cursor, b"resource=", 1, ID_LIMIT as u64);
     let rights = lines::read_number(s, resource.cursor, b"rights=", 1, RIGHTS_LIMIT);
     let weight = lines::read_number(s, rights.cursor, b"weight=", 0, WEIGHT_LIMIT as u64);
-    let expiry = lines::read_number(s, weight.cursor, b"expiry=", 0, MOMENT_END - 1);
+    let left = read_left(version, s, weight.cursor);
+    let expiry = lines::read_number(s, left.cursor, b"expiry=", 0, MOMENT_END - 1);
     let claim = Claim {
         id: id.value as u32,
         parent: parent.value as u32,
@@ -117,6 +144,7 @@ fn read_claim(s: &[u8], c: Cursor) -> ClaimRead
         resource: resource.value as u32,
         rights: rights.value as u32,
         weight: weight.value as u32,
+        left: left.value as u32,
         expiry: expiry.value,
     };
     let cursor = expiry.cursor;
@@ -179,10 +207,11 @@ fn read_resources(s: &[u8], c: Cursor) -> ResourcesRead
     ResourcesRead { resources, cursor }
 }
 
-// The line `claims` and that many claims.
-fn read_claims(s: &[u8], c: Cursor) -> ClaimsRead
-    ensures claims { λ r. ⌜ r .claims ≡ heldClaims (readClaims (stateOf (now (s .entry)) c) .value) ⌝ }
-    ensures state { λ r. ⌜ stateOf (now (s .entry)) (r .cursor) ≡ readClaims (stateOf (now (s .entry)) c) .state ⌝ }
+// The line `claims` and that many claims, as their lines say them.
+fn read_listed(version: u64, s: &[u8], c: Cursor) -> ClaimsRead
+    ensures few { λ r. ⌜ r .claims .count ≤ claimLimit ⌝ }
+    ensures claims { λ r. ⌜ r .claims ≡ heldClaims (section claimsKey claimLimit (readClaim version) (stateOf (now (s .entry)) c) .value) ⌝ }
+    ensures state { λ r. ⌜ stateOf (now (s .entry)) (r .cursor) ≡ section claimsKey claimLimit (readClaim version) (stateOf (now (s .entry)) c) .state ⌝ }
 {
     let counted = lines::read_count(s, c, b"claims=", Register::CLAIMS as u64);
     let count = counted.value as usize;
@@ -191,7 +220,7 @@ fn read_claims(s: &[u8], c: Cursor) -> ClaimsRead
     let mut cursor = counted.cursor;
     let mut i: usize = 0;
     while i < count {
-        let one = read_claim(s, cursor);
+        let one = read_claim(version, s, cursor);
         let claim = one.claim;
         let next = one.cursor;
         list[i] = claim;
@@ -199,6 +228,57 @@ fn read_claims(s: &[u8], c: Cursor) -> ClaimsRead
         i += 1;
     }
     let claims = Claims { list, count };
+    ClaimsRead { claims, cursor }
+}
+
+// How many hops a claim has, by its parent's number, the parent's place and the hops of the claims before it: none where it is a root, and
+// where its parent does not stand.
+fn hops_by(hops: &[u8], parent: u32, up: usize) -> usize
+    requires { ⌜ length (now hops) ≡ claimLimit ⌝ }
+    ensures { λ r. ⌜ r ≡ hopsBy (now (hops .entry)) parent up ⌝ }
+{
+    if parent == 0 {
+        return 0;
+    }
+    if Register::CLAIMS <= up {
+        return 0;
+    }
+    hops[up] as usize + 1
+}
+
+// The first `n` claims of a sheet as a register holds them, each with the hands that it has left, and the zero claim in every place behind
+// them. The hops of the claims that were passed are kept.
+fn stored_claims(version: u64, sheet: &[u32], n: usize) -> Claims
+    requires { ⌜ (n ≤ claimLimit) × (length (now sheet) ≡ sheetLimit) ⌝ }
+    ensures { λ r. ⌜ r ≡ heldClaims (latest (eachStored version (latest (take n (claimsIn (now (sheet .entry))))))) ⌝ }
+{
+    let ids = columns::column(sheet, columns::IDS);
+    let parents = columns::column(sheet, columns::PARENTS);
+    let earlier = lookup::earlier_places(ids, parents, n);
+    let none = Claim::none();
+    let mut list = [none; Register::CLAIMS];
+    let mut hops = [0u8; Register::CLAIMS];
+    let mut i: usize = 0;
+    while i < n {
+        let c = columns::claim_at(sheet, i);
+        let steps = hops_by(&hops, c.parent, earlier.places[i] as usize);
+        list[i] = claim_judging::stored(version, steps, c);
+        hops[i] = steps as u8;
+        i += 1;
+    }
+    Claims { list, count: n }
+}
+
+// The line `claims` and that many claims, each with the hands that it has left.
+fn read_claims(version: u64, s: &[u8], c: Cursor) -> ClaimsRead
+    ensures claims { λ r. ⌜ r .claims ≡ heldClaims (readClaims version (stateOf (now (s .entry)) c) .value) ⌝ }
+    ensures state { λ r. ⌜ stateOf (now (s .entry)) (r .cursor) ≡ readClaims version (stateOf (now (s .entry)) c) .state ⌝ }
+{
+    let listed = read_listed(version, s, c);
+    let cursor = listed.cursor;
+    let mut sheet = [0u32; columns::SHEET];
+    columns::put_claims(&mut sheet, listed.claims);
+    let claims = stored_claims(version, &sheet, listed.claims.count);
     ClaimsRead { claims, cursor }
 }
 
@@ -237,10 +317,16 @@ pub fn read_form(text: &[u8]) -> RegisterForm
     ensures register { λ r. ⌜ r .register ≡ registerFrom (now (text .entry)) .value ⌝ }
     ensures state { λ r. ⌜ stateOf (now (text .entry)) (r .cursor) ≡ registerFrom (now (text .entry)) .state ⌝ }
 {
-    let version = lines::read_number(text, lines::start(), b"register=", 1, 1);
+    let version = lines::read_number(
+        text,
+        lines::start(),
+        b"register=",
+        Register::VERSION_ONE,
+        Register::VERSION_TWO,
+    );
     let first = read_actors(text, version.cursor);
     let second = read_resources(text, first.cursor);
-    let third = read_claims(text, second.cursor);
+    let third = read_claims(version.value, text, second.cursor);
     let cursor = lines::finish(text, third.cursor);
     let actors = first.actors;
     let resources = second.resources;
@@ -249,6 +335,7 @@ pub fn read_form(text: &[u8]) -> RegisterForm
         actors,
         resources,
         claims,
+        version: version.value,
     };
     RegisterForm { register, cursor }
 }

@@ -31,7 +31,7 @@ empty-kept = refl
 
 -- 65 actors
 abbrev crowded : Register
-crowded = record { actors = record { list = []; count = 65 }; resources = record { list = []; count = 0 }; claims = record { list = []; count = 0 } }
+crowded = record { actors = record { list = []; count = 65 }; resources = record { list = []; count = 0 }; claims = record { list = []; count = 0 }; version = 1 }
 
 crowded-unsound : registerWritten crowded [] ≡ unwritten Unsound
 unfolding registerWritten sound withinLimits

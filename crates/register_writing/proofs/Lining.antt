@@ -1,10 +1,15 @@
 -- The text of numbers, a line for each, put line by line. Assumes nothing.
 use Prim.Native.Nat.{ℕ, _+_, _≤_}
-use mathlib.Core.Path.{_≡_}
+use mathlib.Core.Path.{_≡_, ap, _∙_}
+use mathlib.Core.Bool.{cond}
 use mathlib.Core.List.{List, [], _∷_}
 use lib.ListN.{length}
+use Rattle.lists.specs.Tests.{cases}
+use Rattle.register.specs.Limits.{leftLimit, tellsLeft}
+use Rattle.text_rules.specs.Keys.{leftKey}
 use Rattle.lists.specs.Lists.{splice}
-use Rattle.lines.specs.Reading.{LineForm, formLine}
+use Rattle.lines.specs.Lines.{decimalLine}
+use Rattle.lines.specs.Reading.{LineForm, number, formLine}
 use Rattle.text_rules.specs.Records.{linesText}
 use Rattle.buffers.specs.Buffers.{put}
 use Rattle.buffers.specs.Laws.{Writing, writing-start, writing-put, writing-done}
@@ -25,6 +30,19 @@ module _ {at : ℕ} {whole old : List ℕ} where
   unfolding linesText
   lining-next {f} {forms} {n} {numbers} room l place written =
       record { writing = writing-put (formLine f n) (linesText forms numbers) room (l .writing) place written }
+
+  -- a line of the hands left, where the version has one
+  pub lining-left : (version left : ℕ) {f : LineForm} {n : ℕ} {end next : ℕ} {new then : List ℕ} → at + length whole ≤ length old
+      → Lining at whole old (cond (tellsLeft version) (number leftKey 0 leftLimit ∷ f ∷ []) (f ∷ [])) (cond (tellsLeft version) (left ∷ n ∷ []) (n ∷ [])) end new
+      → next ≡ cond (tellsLeft version) (behind end (decimalLine leftKey left) new) end → then ≡ cond (tellsLeft version) (put end (decimalLine leftKey left) new) new
+      → Lining at whole old (f ∷ []) (n ∷ []) next then
+  lining-left version left {f} {n} {end} {next} {new} {then} room l place written =
+      cases (tellsLeft version)
+      (λ t. lining-next room (rw t at l) (place ∙ ap (λ b. cond b (behind end (decimalLine leftKey left) new) end) t)
+      (written ∙ ap (λ b. cond b (put end (decimalLine leftKey left) new) new) t))
+      (λ u. let same : next ≡ end = place ∙ ap (λ b. cond b (behind end (decimalLine leftKey left) new) end) u in
+      let kept : then ≡ new = written ∙ ap (λ b. cond b (put end (decimalLine leftKey left) new) new) u in
+      rw (same, kept) (rw u at l))
 
   -- behind the last line
   pub lining-done : {numbers : List ℕ} {end : ℕ} {new : List ℕ} → Lining at whole old [] numbers end new →

@@ -1,16 +1,20 @@
 // The text of a register, written into a lent buffer.
-// The text is made in one pass on an array that every sound register fits, and then delivered whole
-// or not at all.
+// The text is made in one pass, the claims from the sheet that they were judged on, in an array that
+// the text of every sound register fits, and then delivered whole or not at all.
 ghost use mathlib.Core.Path.{_≡_};
-ghost use mathlib.Core.Bool.{true};
+ghost use mathlib.Core.Bool.{true, cond};
 ghost use Prim.Native.Nat.{_+_, _≤_};
-ghost use lib.ListN.{length};
+ghost use lib.ListN.{length, take};
 ghost use Rattle.lists.specs.Lists.{splice};
-ghost use Rattle.register.specs.Limits.{actorLimit, resourceLimit, claimLimit, pathLimit};
-ghost use Rattle.register.specs.Register.{actorsOf, resourcesOf, claimsOf, pathOf};
+ghost use Rattle.register.specs.Limits.{actorLimit, resourceLimit, claimLimit, pathLimit, tellsLeft};
+ghost use Rattle.register.specs.Register.{actorsOf, resourcesOf, pathOf};
+ghost use Rattle.columns.specs.Sheet.{claimsIn};
 ghost use Rattle.soundness_rules.specs.Sound.{sound};
-ghost use Rattle.lines.specs.Lines.{scopeLine};
-ghost use Rattle.text_rules.specs.Keys.{actorsKey, resourcesKey, claimsKey};
+ghost use Rattle.soundness.specs.Judged.{registerBy};
+ghost use Rattle.lines.specs.Lines.{decimalLine, scopeLine};
+ghost use Rattle.buffers.specs.Buffers.{put};
+ghost use Rattle.buffers.specs.Positions.{behind};
+ghost use Rattle.text_rules.specs.Keys.{actorsKey, resourcesKey, claimsKey, leftKey};
 ghost use Rattle.text_rules.specs.Records.{sectionText};
 ghost use Rattle.text_rules.specs.Registers.{actorText, resourceText, claimText, registerText, textLimit};
 ghost use Rattle.register_writing.specs.Writing.{registerWritten, registerBuffer};
@@ -21,7 +25,6 @@ use refusals::Refusal;
 use register::Actor;
 use register::Actors;
 use register::Claim;
-use register::Claims;
 use register::Register;
 use register::Resource;
 use register::Resources;
@@ -33,7 +36,7 @@ fn put_scope(buf: &mut [u8], at: usize, o: Resource) -> usize
     ensures written { λ _. ⌜ now (buf .exit) ≡ splice at (scopeLine (pathOf o)) (now (buf .entry)) ⌝ }
 {
     let path_at = buffers::put_bytes(buf, at, b"scope=");
-    let len = o.len;
+    let len = o.len as usize;
     let path = o.path;
     let bytes: &[u8] = &path;
     let end_at = buffers::put_bytes(buf, path_at, &bytes[..len]);
@@ -63,11 +66,22 @@ fn put_resource(buf: &mut [u8], at: usize, o: Resource) -> usize
     put_scope(buf, scope_at, o)
 }
 
-// Puts a claim's lines into the buffer at `at`, and answers the position behind them.
-fn put_claim(buf: &mut [u8], at: usize, c: Claim) -> usize
-    requires { ⌜ at + length (claimText c) ≤ length (now buf) ⌝ }
-    ensures behind { λ r. ⌜ r ≡ at + length (claimText c) ⌝ }
-    ensures written { λ _. ⌜ now (buf .exit) ≡ splice at (claimText c) (now (buf .entry)) ⌝ }
+// In version 2 puts the line `left` into the buffer at `at`, where it fits, and answers the position behind it. Otherwise there is none.
+fn put_left(buf: &mut [u8], at: usize, version: u64, left: u32) -> usize
+    ensures behind { λ r. ⌜ r ≡ cond (tellsLeft version) (behind at (decimalLine leftKey left) (now (buf .entry))) at ⌝ }
+    ensures written { λ _. ⌜ now (buf .exit) ≡ cond (tellsLeft version) (put at (decimalLine leftKey left) (now (buf .entry))) (now (buf .entry)) ⌝ }
+{
+    if version == Register::VERSION_TWO {
+        return buffers::put_line(buf, at, b"left=", left as u64);
+    }
+    at
+}
+
+// Puts a claim's lines in a version into the buffer at `at`, and answers the position behind them.
+fn put_claim(buf: &mut [u8], at: usize, version: u64, c: Claim) -> usize
+    requires { ⌜ at + length (claimText version c) ≤ length (now buf) ⌝ }
+    ensures behind { λ r. ⌜ r ≡ at + length (claimText version c) ⌝ }
+    ensures written { λ _. ⌜ now (buf .exit) ≡ splice at (claimText version c) (now (buf .entry)) ⌝ }
 {
     let parent_at = buffers::put_line(buf, at, b"claim=", c.id as u64);
     let grantor_at = buffers::put_line(buf, parent_at, b"parent=", c.parent as u64);
@@ -75,7 +89,8 @@ fn put_claim(buf: &mut [u8], at: usize, c: Claim) -> usize
     let resource_at = buffers::put_line(buf, holder_at, b"holder=", c.holder as u64);
     let rights_at = buffers::put_line(buf, resource_at, b"resource=", c.resource as u64);
     let weight_at = buffers::put_line(buf, rights_at, b"rights=", c.rights as u64);
-    let expiry_at = buffers::put_line(buf, weight_at, b"weight=", c.weight as u64);
+    let left_at = buffers::put_line(buf, weight_at, b"weight=", c.weight as u64);
+    let expiry_at = put_left(buf, left_at, version, c.left);
     buffers::put_line(buf, expiry_at, b"expiry=", c.expiry)
 }
 
@@ -111,32 +126,32 @@ fn put_resources(buf: &mut [u8], at: usize, k: Resources) -> usize
     end
 }
 
-// Puts the count line and the claims into the buffer at `at`, and answers the position behind them.
-fn put_claims(buf: &mut [u8], at: usize, k: Claims) -> usize
-    requires { ⌜ (at + length (sectionText claimsKey claimLimit claimText (claimsOf k)) ≤ length (now buf)) × (k .count ≤ claimLimit) ⌝ }
-    ensures behind { λ r. ⌜ r ≡ at + length (sectionText claimsKey claimLimit claimText (claimsOf k)) ⌝ }
-    ensures written { λ _. ⌜ now (buf .exit) ≡ splice at (sectionText claimsKey claimLimit claimText (claimsOf k)) (now (buf .entry)) ⌝ }
+// Puts the count line and the first `n` claims of a sheet into the buffer at `at`, and answers the position behind them.
+fn put_claims(buf: &mut [u8], at: usize, version: u64, sheet: &[u32], n: usize) -> usize
+    requires { ⌜ (at + length (sectionText claimsKey claimLimit (claimText version) (take n (claimsIn (now sheet)))) ≤ length (now buf)) × (n ≤ claimLimit) ⌝ }
+    ensures behind { λ r. ⌜ r ≡ at + length (sectionText claimsKey claimLimit (claimText version) (take n (claimsIn (now (sheet .entry))))) ⌝ }
+    ensures written { λ _. ⌜ now (buf .exit) ≡ splice at (sectionText claimsKey claimLimit (claimText version) (take n (claimsIn (now (sheet .entry))))) (now (buf .entry)) ⌝ }
 {
-    let mut end = buffers::put_line(buf, at, b"claims=", k.count as u64);
+    let mut end = buffers::put_line(buf, at, b"claims=", n as u64);
     let mut i: usize = 0;
-    while i < k.count {
-        let c = k.list[i];
-        end = put_claim(buf, end, c);
+    while i < n {
+        let c = columns::claim_at(sheet, i);
+        end = put_claim(buf, end, version, c);
         i += 1;
     }
     end
 }
 
-// Writes the text of a sound register at the front of a buffer that every such text fits, and answers its length.
-fn compose(buf: &mut [u8], r: Register) -> usize
-    requires { ⌜ (sound r ≡ true) × (textLimit ≤ length (now buf)) ⌝ }
-    ensures length { λ y. ⌜ y ≡ length (registerText r) ⌝ }
-    ensures written { λ _. ⌜ now (buf .exit) ≡ splice 0 (registerText r) (now (buf .entry)) ⌝ }
+// Writes the text of the sound register of these parts at the front of a buffer that every such text fits, and answers its length.
+fn compose(buf: &mut [u8], version: u64, a: Actors, o: Resources, sheet: &[u32], n: usize) -> usize
+    requires { ⌜ (sound (registerBy version a o (now sheet) n) ≡ true) × (textLimit ≤ length (now buf)) ⌝ }
+    ensures length { λ y. ⌜ y ≡ length (registerText (registerBy version a o (now (sheet .entry)) n)) ⌝ }
+    ensures written { λ _. ⌜ now (buf .exit) ≡ splice 0 (registerText (registerBy version a o (now (sheet .entry)) n)) (now (buf .entry)) ⌝ }
 {
-    let actors_at = buffers::put_line(buf, 0, b"register=", 1);
-    let resources_at = put_actors(buf, actors_at, r.actors);
-    let claims_at = put_resources(buf, resources_at, r.resources);
-    put_claims(buf, claims_at, r.claims)
+    let actors_at = buffers::put_line(buf, 0, b"register=", version);
+    let resources_at = put_actors(buf, actors_at, a);
+    let claims_at = put_resources(buf, resources_at, o);
+    put_claims(buf, claims_at, version, sheet, n)
 }
 
 // Writes the text of a register at the front of the lent buffer, and answers its length. Refused, and the buffer is as it was: with 1 a
@@ -145,14 +160,19 @@ pub fn write(r: Register, buf: &mut [u8]) -> Written
     ensures answer { λ y. ⌜ y ≡ registerWritten r (now (buf .entry)) ⌝ }
     ensures buffer { λ _. ⌜ now (buf .exit) ≡ registerBuffer r (now (buf .entry)) ⌝ }
 {
-    if !soundness::is_sound(r) {
+    let a = r.actors;
+    let o = r.resources;
+    let k = r.claims;
+    let mut sheet = [0u32; columns::SHEET];
+    let found = soundness::examine(&mut sheet, r.version, a, o, k);
+    if !found.sound {
         return Written {
             outcome: Outcome::Refused(Refusal::Unsound),
             length: 0,
         };
     }
-    let mut sheet = [0u8; text_rules::REGISTER_TEXT];
-    let length = compose(&mut sheet, r);
-    let text: &[u8] = &sheet;
+    let mut made = [0u8; text_rules::REGISTER_TEXT];
+    let length = compose(&mut made, r.version, a, o, &sheet, k.count);
+    let text: &[u8] = &made;
     buffers::deliver(buf, &text[..length])
 }

@@ -14,7 +14,7 @@ use Rattle.lists.specs.Tests.{cases, clash, and-left, and-right}
 use Rattle.lists.specs.Lists.{any, distinct}
 use Rattle.lists.specs.Loops.{drop-at}
 use Rattle.lists.specs.Distinct.{distinct-nil, distinct-last, distinct-again}
-use Rattle.register.specs.Limits.{claimLimit, hopLimit}
+use Rattle.register.specs.Limits.{claimLimit}
 use Rattle.register.specs.Register.{noClaim}
 use Rattle.register.specs.Chain.{latest, hopsOf}
 use Rattle.register.specs.declared.Claim.{Claim}
@@ -29,7 +29,7 @@ use Rattle.lookup.specs.Finding.{placeNumber, asked, earlierPlaces}
 use Rattle.lookup.specs.Laws.{tabled-length, earlier-at}
 use Rattle.soundness_rules.specs.Sound.{over}
 use Rattle.claim_judging.specs.Over.{overAt, standOver}
-use Rattle.claim_judging.specs.OverLaws.{KeptPlaces, higher, doubled, root-stands, parent-nowhere, one-hop-more, over-within, over-natural, stand-nil, stand-cons}
+use Rattle.claim_judging.specs.OverLaws.{KeptPlaces, higher, doubled, root-stands, parent-nowhere, one-hop-more, over-natural, stand-nil, stand-cons}
 
 -- a place told by its number: below the limit it is that, and the limit is none
 number-at : (p : Place) (x : ℕ) → x ≡ placeNumber claimLimit p → x < claimLimit → p ≡ At x
@@ -41,41 +41,41 @@ number-none (At j) x e below h = absurd (omega (arith, below j refl))
 number-none Nowhere x e below h = refl
 
 -- one claim more, and a longer list
-module _ (cs : List Claim) where
+module _ (version : ℕ) (cs : List Claim) where
   stand-next : (i : ℕ) → i < length cs
-      → standOver (latest (take (i + 1) cs)) ≡ over (latest (take i cs)) (getD cs i noClaim) && standOver (latest (take i cs))
+      → standOver version (latest (take (i + 1) cs)) ≡ over version (latest (take i cs)) (getD cs i noClaim) && standOver version (latest (take i cs))
   stand-next i h =
-      rw (add-one, take-suc cs i noClaim h, reverse-append (take i cs) (getD cs i noClaim ∷ [])) (stand-cons (getD cs i noClaim) (latest (take i cs)))
+      rw (add-one, take-suc cs i noClaim h, reverse-append (take i cs) (getD cs i noClaim ∷ [])) (stand-cons version (getD cs i noClaim) (latest (take i cs)))
 
-  stand-behind : (L M : List Claim) → standOver M ≡ false → standOver (L ++ M) ≡ false
+  stand-behind : (L M : List Claim) → standOver version M ≡ false → standOver version (L ++ M) ≡ false
   stand-behind [] M h = h
-  stand-behind (c ∷ L) M h = stand-cons c (L ++ M) ∙ rw (stand-behind L M h) (and-false (over (L ++ M) c))
+  stand-behind (c ∷ L) M h = stand-cons version c (L ++ M) ∙ rw (stand-behind L M h) (and-false (over version (L ++ M) c))
 
-  pub stand-failed : (i n : ℕ) → i < length cs → i < n → over (latest (take i cs)) (getD cs i noClaim) ≡ false → standOver (latest (take n cs)) ≡ false
+  pub stand-failed : (i n : ℕ) → i < length cs → i < n → over version (latest (take i cs)) (getD cs i noClaim) ≡ false → standOver version (latest (take n cs)) ≡ false
   stand-failed i n h longer fails =
       let upTo : i + 1 ≤ n = omega arith in
       let first = take (i + 1) (take n cs) in
       let rest = drop (i + 1) (take n cs) in
-      let short : standOver (latest first) ≡ false = rw (take-take (i + 1) n cs upTo) (stand-next i h ∙ rw fails) in
-      ap (λ l. standOver (latest l)) (sym (take-append-drop (i + 1) (take n cs)))
-      ∙ ap standOver (reverse-append first rest)
+      let short : standOver version (latest first) ≡ false = rw (take-take (i + 1) n cs upTo) (stand-next i h ∙ rw fails) in
+      ap (λ l. standOver version (latest l)) (sym (take-append-drop (i + 1) (take n cs)))
+      ∙ ap (standOver version) (reverse-append first rest)
       ∙ stand-behind (latest rest) (latest first) short
 
   -- the ids of claims that are as they should be are distinct
-  pub stand-distinct : (n : ℕ) → n ≤ length cs → standOver (latest (take n cs)) ≡ true → distinct (take n (map claimId cs)) ≡ true
+  pub stand-distinct : (n : ℕ) → n ≤ length cs → standOver version (latest (take n cs)) ≡ true → distinct (take n (map claimId cs)) ≡ true
   stand-distinct zero short h = distinct-nil
   stand-distinct (suc n) short h =
       let c = getD cs n noClaim in
       let inside : n < length (map claimId cs) = omega (arith, short, length-map cs claimId) in
-      let told : over (latest (take n cs)) c && standOver (latest (take n cs)) ≡ true =
+      let told : over version (latest (take n cs)) c && standOver version (latest (take n cs)) ≡ true =
       sym (stand-next n (omega arith)) ∙ rw (add-one n) h in
       let single : any (eqb (c .id)) (take n (map claimId cs)) ≡ false =
       place-cases (latestPlace (map claimId cs) n (c .id))
-      (λ k q. clash (over (latest (take n cs)) c) (and-left (over (latest (take n cs)) c) (standOver (latest (take n cs))) told) (doubled cs n c k q))
+      (λ k q. clash (over version (latest (take n cs)) c) (and-left (over version (latest (take n cs)) c) (standOver version (latest (take n cs))) told) (doubled version cs n c k q))
       (λ q. nowhere-none (map claimId cs) (c .id) n q) in
       rw (take-suc (map claimId cs) n 0, List·getD-map claimId cs n noClaim)
       (distinct-last (take n (map claimId cs)) (c .id)
-      (stand-distinct n (omega arith) (and-right (over (latest (take n cs)) c) (standOver (latest (take n cs))) told))
+      (stand-distinct n (omega arith) (and-right (over version (latest (take n cs)) c) (standOver version (latest (take n cs))) told))
       single)
 
 -- of distinct numbers none stands before its place
@@ -89,8 +89,8 @@ unseen l n i apart below inside =
     (λ t. clash (distinct (take n l)) apart (ap distinct parts ∙ distinct-again (take i l) x (drop (i + 1) (take n l)) t))
     (λ t. t)
 
--- the tables of a list of claims with distinct ids: its columns of grantors and holders, and where each one's parent stands before it
-pub record Tables (cs : List Claim) (n : ℕ) (grantors holders ups : List ℕ) : Type 0 where
+-- the tables of a list of claims with distinct ids, to be judged in a version: its columns of grantors and holders, and where each one's parent stands before it
+pub record Tables (version : ℕ) (cs : List Claim) (n : ℕ) (grantors holders ups : List ℕ) : Type 0 where
   pub long : length cs ≡ claimLimit
   pub short : n ≤ claimLimit
   pub granted : grantors ≡ map grantorOf cs
@@ -105,10 +105,10 @@ earlier-long column wanted m =
     tabled-length (λ i. placeNumber claimLimit (latestPlace column i (getD wanted i 0))) (asked m wanted) (omega arith)
 
 -- those of the claims in a sheet
-pub sheet-tables : (s : List ℕ) (n : ℕ) {grantors holders ups : List ℕ} → n ≤ claimLimit → length s ≡ sheetLimit
+pub sheet-tables : (version : ℕ) (s : List ℕ) (n : ℕ) {grantors holders ups : List ℕ} → n ≤ claimLimit → length s ≡ sheetLimit
     → distinct (take n (columnOf idColumn s)) ≡ true → ups ≡ earlierPlaces (columnOf idColumn s) (columnOf parentColumn s) n
-    → grantors ≡ columnOf grantorColumn s → holders ≡ columnOf holderColumn s → Tables (claimsIn s) n grantors holders ups
-sheet-tables s n short long distant parents granted held = record {
+    → grantors ≡ columnOf grantorColumn s → holders ≡ columnOf holderColumn s → Tables version (claimsIn s) n grantors holders ups
+sheet-tables version s n short long distant parents granted held = record {
   long = claims-in-length s;
   short = short;
   granted = granted ∙ column-natural s long grantorOf grantorColumn (omega arith) (λ g. refl);
@@ -122,36 +122,36 @@ sheet-tables s n short long distant parents granted held = record {
 pub parent-read : (s : List ℕ) (i : ℕ) {c : Claim} → c ≡ claimAt s i → getD (claimsIn s) i noClaim .parent ≡ c .parent
 parent-read s i read = ap (λ c. c .parent) (claims-in-at s i ∙ sym read)
 
-pub over-read : (s ups grantors holders : List ℕ) (up steps i : ℕ) {p c : Claim} {answer : Bool} → p ≡ claimAt s up → c ≡ claimAt s i
-    → answer ≡ overAt ups grantors holders up steps p c
-    → answer ≡ overAt ups grantors holders up steps (getD (claimsIn s) up noClaim) (getD (claimsIn s) i noClaim)
-over-read s ups grantors holders up steps i parent claim told = told ∙ rw (parent, claim, claims-in-at s up, claims-in-at s i)
+pub over-read : (version : ℕ) (s ups grantors holders : List ℕ) (up steps i : ℕ) {p c : Claim} {answer : Bool} → p ≡ claimAt s up → c ≡ claimAt s i
+    → answer ≡ overAt version ups grantors holders up steps p c
+    → answer ≡ overAt version ups grantors holders up steps (getD (claimsIn s) up noClaim) (getD (claimsIn s) i noClaim)
+over-read version s ups grantors holders up steps i parent claim told = told ∙ rw (parent, claim, claims-in-at s up, claims-in-at s i)
 
 -- the claims before place i are as they should be, and their hops are kept: by `hops-natural` the running count is 01's
-pub record Climbed (cs : List Claim) (n : ℕ) (hops : List ℕ) (i : ℕ) : Type 0 where
+pub record Climbed (version : ℕ) (cs : List Claim) (n : ℕ) (hops : List ℕ) (i : ℕ) : Type 0 where
   pub within : i ≤ n
   pub room : length hops ≡ claimLimit
-  pub stands : standOver (latest (take i cs)) ≡ true
+  pub stands : standOver version (latest (take i cs)) ≡ true
   pub kept : (j : ℕ) → j < i → getD hops j 0 ≡ hopsOf (latest (take j cs)) (getD cs j noClaim)
-  pub low : (j : ℕ) → j < i → getD hops j 0 ≤ hopLimit
+  pub low : (j : ℕ) → j < i → getD hops j 0 ≤ j
 
-pub climbed-none : (cs : List Claim) (n : ℕ) (hops : List ℕ) → length hops ≡ claimLimit → Climbed cs n hops 0
-climbed-none cs n hops room = record {
+pub climbed-none : (version : ℕ) (cs : List Claim) (n : ℕ) (hops : List ℕ) → length hops ≡ claimLimit → Climbed version cs n hops 0
+climbed-none version cs n hops room = record {
   within = omega arith;
   room = room;
-  stands = stand-nil;
+  stands = stand-nil version;
   kept = λ j h. absurd (omega arith);
   low = λ j h. absurd (omega arith);
 }
 
-module _ {cs : List Claim} {n : ℕ} {hops : List ℕ} {i : ℕ} (s : Climbed cs n hops i) (long : length cs ≡ claimLimit) (short : n ≤ claimLimit) (inside : i < n) where
+module _ {version : ℕ} {cs : List Claim} {n : ℕ} {hops : List ℕ} {i : ℕ} (s : Climbed version cs n hops i) (long : length cs ≡ claimLimit) (short : n ≤ claimLimit) (inside : i < n) where
   -- one claim more
-  climbed-next : (steps : ℕ) → over (latest (take i cs)) (getD cs i noClaim) ≡ true → steps ≡ hopsOf (latest (take i cs)) (getD cs i noClaim)
-      → steps ≤ hopLimit → Climbed cs n (set hops i steps) (i + 1)
+  climbed-next : (steps : ℕ) → over version (latest (take i cs)) (getD cs i noClaim) ≡ true → steps ≡ hopsOf (latest (take i cs)) (getD cs i noClaim)
+      → steps ≤ i → Climbed version cs n (set hops i steps) (i + 1)
   climbed-next steps behind e few = record {
     within = omega arith;
     room = length-set hops i steps ∙ s .room;
-    stands = stand-next cs i (omega arith) ∙ rw (behind, s .stands);
+    stands = stand-next version cs i (omega arith) ∙ rw (behind, s .stands);
     kept = λ j h. cases (eqb j i)
         (λ t. let same : j ≡ i = eqb-true j i t in rw same (getD-set-same hops i steps 0 (omega (arith, s .room)) ∙ e))
         (λ t. let other : (j ≡ i → ⊥) = eqb-false j i t in getD-set-other hops i j steps 0 other ∙ s .kept j (omega arith));
@@ -160,7 +160,7 @@ module _ {cs : List Claim} {n : ℕ} {hops : List ℕ} {i : ℕ} (s : Climbed cs
         (λ t. let other : (j ≡ i → ⊥) = eqb-false j i t in rw (getD-set-other hops i j steps 0 other) (s .low j (omega arith)));
   }
 
-module _ {cs : List Claim} {n : ℕ} {grantors holders ups : List ℕ} (t : Tables cs n grantors holders ups) {i : ℕ} (inside : i < n) where
+module _ {version : ℕ} {cs : List Claim} {n : ℕ} {grantors holders ups : List ℕ} (t : Tables version cs n grantors holders ups) {i : ℕ} (inside : i < n) where
   asked-inside : (f : Claim → ℕ) → i < min n (min claimLimit (length (map f cs)))
   asked-inside f = omega (arith, inside, t .short, t .long, length-map cs f)
 
@@ -178,8 +178,8 @@ module _ {cs : List Claim} {n : ℕ} {grantors holders ups : List ℕ} (t : Tabl
   below : (x j : ℕ) → latestPlace (map claimId cs) i x ≡ At j → j < claimLimit
   below x j q = let found = place-found (map claimId cs) x i j q in omega (arith, found .0, inside, t .short)
 
-  fails : over (latest (take i cs)) (getD cs i noClaim) ≡ false → standOver (latest (take n cs)) ≡ false
-  fails = stand-failed cs i n (omega (arith, t .long, t .short, inside)) inside
+  fails : over version (latest (take i cs)) (getD cs i noClaim) ≡ false → standOver version (latest (take n cs)) ≡ false
+  fails = stand-failed version cs i n (omega (arith, t .long, t .short, inside)) inside
 
   -- its id does not stand before it
   apart : latestPlace (map claimId cs) i (getD cs i noClaim .id) ≡ Nowhere
@@ -190,9 +190,9 @@ module _ {cs : List Claim} {n : ℕ} {grantors holders ups : List ℕ} (t : Tabl
       ∙ unseen (map claimId cs) n i (t .distant) inside there)
 
   -- it is a root
-  pub root-passed : {hops : List ℕ} → Climbed cs n hops i → getD cs i noClaim .parent ≡ 0 → Climbed cs n (set hops i 0) (i + 1)
+  pub root-passed : {hops : List ℕ} → Climbed version cs n hops i → getD cs i noClaim .parent ≡ 0 → Climbed version cs n (set hops i 0) (i + 1)
   root-passed s e =
-      climbed-next s (t .long) (t .short) inside 0 (root-stands cs i (getD cs i noClaim) apart e)
+      climbed-next s (t .long) (t .short) inside 0 (root-stands version cs i (getD cs i noClaim) apart e)
       (sym (ap (λ x. length (chainPlaces (map claimId cs) (map parentOf cs) i x)) (List·getD-map parentOf cs i noClaim ∙ e)
       ∙ ap length (chain-places-zero (map claimId cs) (map parentOf cs) i))
       ∙ column-laws.hops-natural cs i)
@@ -200,9 +200,9 @@ module _ {cs : List Claim} {n : ℕ} {grantors holders ups : List ℕ} (t : Tabl
 
   module _ (o : getD cs i noClaim .parent ≡ 0 → ⊥) where
     -- its parent stands nowhere before it
-    pub parent-failed : claimLimit ≤ getD ups i 0 → standOver (latest (take n cs)) ≡ false
+    pub parent-failed : claimLimit ≤ getD ups i 0 → standOver version (latest (take n cs)) ≡ false
     parent-failed h =
-        fails (parent-nowhere cs i (getD cs i noClaim) apart o
+        fails (parent-nowhere version cs i (getD cs i noClaim) apart o
         (number-none (latestPlace (map claimId cs) i (getD cs i noClaim .parent)) (getD ups i 0) ups-at (below (getD cs i noClaim .parent)) h))
 
     module _ (found : getD ups i 0 < claimLimit) where
@@ -212,34 +212,33 @@ module _ {cs : List Claim} {n : ℕ} {grantors holders ups : List ℕ} (t : Tabl
       parent-before : getD ups i 0 < i
       parent-before = place-found (map claimId cs) (getD cs i noClaim .parent) i (getD ups i 0) stood .0
 
-      -- its hops are few
-      pub parent-low : {hops : List ℕ} → Climbed cs n hops i → getD hops (getD ups i 0) 0 ≤ hopLimit
-      parent-low s = s .low (getD ups i 0) parent-before
+      -- it has one hop more than its parent, and no more hops than its place
+      parent-steps : {hops : List ℕ} → Climbed version cs n hops i → getD hops (getD ups i 0) 0 + 1 ≤ i
+      parent-steps s = omega (arith, s .low (getD ups i 0) parent-before, parent-before)
 
-      module _ {hops : List ℕ} (s : Climbed cs n hops i) {answer : Bool}
-          (told : answer ≡ overAt ups grantors holders (getD ups i 0) (getD hops (getD ups i 0) 0) (getD cs (getD ups i 0) noClaim) (getD cs i noClaim)) where
+      pub parent-low : {hops : List ℕ} → Climbed version cs n hops i → getD hops (getD ups i 0) 0 + 1 < claimLimit
+      parent-low s = omega (arith, parent-steps s, inside, t .short)
+
+      module _ {hops : List ℕ} (s : Climbed version cs n hops i) {answer : Bool}
+          (told : answer ≡ overAt version ups grantors holders (getD ups i 0) (getD hops (getD ups i 0) 0) (getD cs (getD ups i 0) noClaim) (getD cs i noClaim)) where
         steps-kept : getD hops (getD ups i 0) 0 ≡ length (higher (map claimId cs) (map parentOf cs) (getD ups i 0))
         steps-kept = s .kept (getD ups i 0) parent-before ∙ sym (column-laws.hops-natural cs (getD ups i 0))
 
-        judged : answer ≡ over (latest (take i cs)) (getD cs i noClaim)
+        judged : answer ≡ over version (latest (take i cs)) (getD cs i noClaim)
         judged =
             told
             ∙ rw (t .granted, t .held)
-            (over-natural cs i (getD cs i noClaim) apart o (getD ups i 0) stood ups (getD hops (getD ups i 0) 0) kept-ups steps-kept)
+            (over-natural version cs i (getD cs i noClaim) apart o (getD ups i 0) stood ups (getD hops (getD ups i 0) 0) kept-ups steps-kept)
 
-        pub over-failed : answer ≡ false → standOver (latest (take n cs)) ≡ false
+        pub over-failed : answer ≡ false → standOver version (latest (take n cs)) ≡ false
         over-failed h = fails (sym judged ∙ h)
 
-        pub steps-below : answer ≡ true → getD hops (getD ups i 0) 0 < hopLimit
-        steps-below h =
-            over-within ups grantors holders (getD ups i 0) (getD hops (getD ups i 0) 0) (getD cs (getD ups i 0) noClaim) (getD cs i noClaim) (sym told ∙ h)
-
-        pub over-passed : answer ≡ true → Climbed cs n (set hops i (getD hops (getD ups i 0) 0 + 1)) (i + 1)
+        pub over-passed : answer ≡ true → Climbed version cs n (set hops i (getD hops (getD ups i 0) 0 + 1)) (i + 1)
         over-passed h =
             climbed-next s (t .long) (t .short) inside (getD hops (getD ups i 0) 0 + 1) (sym judged ∙ h)
             (add-one (getD hops (getD ups i 0) 0)
             ∙ ap suc steps-kept
-            ∙ sym (one-hop-more cs i (getD cs i noClaim) apart o (getD ups i 0) stood)
+            ∙ sym (one-hop-more version cs i (getD cs i noClaim) apart o (getD ups i 0) stood)
             ∙ ap (λ x. length (chainPlaces (map claimId cs) (map parentOf cs) i x)) (sym (List·getD-map parentOf cs i noClaim))
             ∙ column-laws.hops-natural cs i)
-            (omega (arith, steps-below h))
+            (parent-steps s)

@@ -2,14 +2,14 @@
 use mathlib.Core.Path.{_≡_, refl, sym, ap, _∙_}
 use mathlib.Core.Bool.{Bool, true, false, _&&_}
 use mathlib.Core.List.{List, [], _∷_, map}
-use Prim.Native.Nat.{ℕ, zero, suc, _+_, _≤_, _<_, min}
+use Prim.Native.Nat.{ℕ, _+_, _≤_, _<_, min}
 use native.Mathlib.Nat.{zero-add}
 use native.Mathlib.Numerals.{add-one}
 use native.Mathlib.Omega.{arith}
 use lib.ListN.{length, take, getD, length-map, List·getD-map}
 use Rattle.lists.specs.Tests.{cases}
 use Rattle.lists.specs.Lists.{every, counted, distinct}
-use Rattle.lists.specs.Each.{every-append}
+use Rattle.lists.specs.Each.{every-append, take-map}
 use Rattle.lists.specs.Counts.{counted-last}
 use Rattle.register.specs.Limits.{claimLimit}
 use Rattle.register.specs.Register.{actorsOf, resourcesOf, noClaim}
@@ -39,18 +39,12 @@ and-middle true false true d = refl
 and-middle true true c d = refl
 
 -- claims are sound where each is as it should be by itself, and over those before it
-pub sound-apart : (w : World) (L : List Claim) → soundClaims w L ≡ every (alone w) L && standOver L
+pub sound-apart : (w : World) (L : List Claim) → soundClaims w L ≡ every (alone w) L && standOver (w .version) L
 unfolding acceptable
-sound-apart w [] = sound-claims-nil w ∙ sym stand-nil
+sound-apart w [] = sound-claims-nil w ∙ sym (stand-nil (w .version))
 sound-apart w (c ∷ L) =
     sound-claims-cons w c L
-    ∙ rw (sound-apart w L, stand-cons c L) (and-middle (alone w c) (over L c) (every (alone w) L) (standOver L))
-
--- the first n of a column
-pub take-map : {A : Type 0} (f : A → ℕ) (n : ℕ) (l : List A) → take n (map f l) ≡ map f (take n l)
-take-map f zero l = refl
-take-map f (suc n) [] = refl
-take-map f (suc n) (a ∷ l) = rw (take-map f n l)
+    ∙ rw (sound-apart w L, stand-cons (w .version) c L) (and-middle (alone w c) (over (w .version) L c) (every (alone w) L) (standOver (w .version) L))
 
 -- a loop that asks a test of the places from the front has come to place i
 pub record Asked (first : Bool) (test : ℕ → Bool) (n i : ℕ) (stand : Bool) : Type 0 where
@@ -88,7 +82,7 @@ module _ {first : Bool} {test : ℕ → Bool} {n : ℕ} where
   asked-done {i} s done = let same : i ≡ n = omega (arith, s .within, done) in s .told ∙ ap (λ k. first && every test (counted 0 k)) same
 
 -- the grantors and the holders were looked up by one table
-module _ (actors : ActorColumns) (h : ℕ) (s : List ℕ) (n : ℕ) (short : n ≤ claimLimit) (long : length s ≡ sheetLimit) {named : Both}
+module _ (version : ℕ) (actors : ActorColumns) (h : ℕ) (s : List ℕ) (n : ℕ) (short : n ≤ claimLimit) (long : length s ≡ sheetLimit) {named : Both}
     (looked : named ≡ bothPlaces (actors .names) h (columnOf grantorColumn s) (columnOf holderColumn s) n) where
   pub ids-told : named .distinct ≡ distinct (take (min h claimLimit) (actors .names))
   unfolding bothPlaces
@@ -96,8 +90,8 @@ module _ (actors : ActorColumns) (h : ℕ) (s : List ℕ) (n : ℕ) (short : n �
 
   pub alone-told : (keepers spots : List ℕ)
       → (distinct (take (min h claimLimit) (actors .names))
-      && every (λ i. aloneAt (claimAt s i) (foundAt actors keepers (named .first) (named .second) spots i)) (counted 0 n))
-      ≡ claimsAlone actors h keepers spots s n
+      && every (λ i. aloneAt version (claimAt s i) (foundAt actors keepers (named .first) (named .second) spots i)) (counted 0 n))
+      ≡ claimsAlone version actors h keepers spots s n
   unfolding claimsAlone
   alone-told keepers spots =
       let few : n ≤ length (columnOf grantorColumn s) = omega (arith, short, column-length s 2 long (omega arith)) in
@@ -117,7 +111,7 @@ place-told id l m cs n fits long short f unset i inside =
     ∙ ap (λ k. placeIn (map id l) k (getD (map f cs) i 0)) all
     ∙ ap (placeIn (map id l) m) (rw unset at (List·getD-map f cs i noClaim))
 
-module _ (a : Actors) (o : Resources) (s : List ℕ) (n : ℕ) (few : a .count ≤ claimLimit) (scant : o .count ≤ claimLimit) (short : n ≤ claimLimit)
+module _ (version : ℕ) (a : Actors) (o : Resources) (s : List ℕ) (n : ℕ) (few : a .count ≤ claimLimit) (scant : o .count ≤ claimLimit) (short : n ≤ claimLimit)
     (long : length s ≡ sheetLimit) (distant : distinct (map resourceId (resourcesOf o)) ≡ true) where
   abbrev granting : List ℕ
   granting = placesOf (map actorId (a .list)) (a .count) (columnOf grantorColumn s) n
@@ -143,20 +137,20 @@ module _ (a : Actors) (o : Resources) (s : List ℕ) (n : ℕ) (few : a .count �
       )
 
   module _ (apart : distinct (map actorId (actorsOf a)) ≡ true) where
-    looked-natural : (i : ℕ) → i < n → aloneAt (claimAt s i) (found i) ≡ alone (worldOf (actorsOf a) (resourcesOf o)) (getD (claimsIn s) i noClaim)
+    looked-natural : (i : ℕ) → i < n → aloneAt version (claimAt s i) (found i) ≡ alone (worldOf version (actorsOf a) (resourcesOf o)) (getD (claimsIn s) i noClaim)
     looked-natural i inside =
-        ap (λ f. aloneAt (claimAt s i) f) (found-natural i inside)
-        ∙ ap (λ c. aloneAt c (foundIn (a .list) (a .count) (o .list) (o .count) (getD (claimsIn s) i noClaim))) (sym (claims-in-at s i))
-        ∙ alone-natural (a .list) (a .count) (o .list) (o .count) (getD (claimsIn s) i noClaim) few apart scant distant
+        ap (λ f. aloneAt version (claimAt s i) f) (found-natural i inside)
+        ∙ ap (λ c. aloneAt version c (foundIn (a .list) (a .count) (o .list) (o .count) (getD (claimsIn s) i noClaim))) (sym (claims-in-at s i))
+        ∙ alone-natural version (a .list) (a .count) (o .list) (o .count) (getD (claimsIn s) i noClaim) few apart scant distant
 
   -- where the ids of the actors are distinct, each claim is asked what 01 asks
-  pub claims-alone-natural : claimsAlone (actorColumns (a .list)) (a .count) (map keeperOf (o .list)) spots s n
-      ≡ distinct (map actorId (actorsOf a)) && every (alone (worldOf (actorsOf a) (resourcesOf o))) (take n (claimsIn s))
+  pub claims-alone-natural : claimsAlone version (actorColumns (a .list)) (a .count) (map keeperOf (o .list)) spots s n
+      ≡ distinct (map actorId (actorsOf a)) && every (alone (worldOf version (actorsOf a) (resourcesOf o))) (take n (claimsIn s))
   unfolding claimsAlone
   claims-alone-natural =
       let all : min (a .count) claimLimit ≡ a .count = omega (arith, few) in
       rw (all, take-map actorId (a .count) (a .list))
       (cases (distinct (map actorId (actorsOf a)))
-      (λ t. rw t (every-places (λ i. aloneAt (claimAt s i) (found i)) (alone (worldOf (actorsOf a) (resourcesOf o))) noClaim (claimsIn s) n
+      (λ t. rw t (every-places (λ i. aloneAt version (claimAt s i) (found i)) (alone (worldOf version (actorsOf a) (resourcesOf o))) noClaim (claimsIn s) n
       (omega (arith, short, claims-in-length s)) (looked-natural t)))
       (λ t. rw t))

@@ -9,8 +9,8 @@ use lib.Dec.{eqb, leb}
 use lib.ListN.{length, take, getD, length-map, List·getD-map}
 use Rattle.lists.specs.Tests.{cases, clash, and-left, and-right}
 use Rattle.lists.specs.Lists.{every, ands, distinct}
-use Rattle.lists.specs.Each.{every-reverse}
-use Rattle.register.specs.Limits.{actorLimit, resourceLimit, claimLimit}
+use Rattle.lists.specs.Each.{every-reverse, take-map}
+use Rattle.register.specs.Limits.{actorLimit, resourceLimit, claimLimit, versionOne, versionTwo, ranged}
 use Rattle.register.specs.Register.{actorsOf, resourcesOf, noActor, noResource}
 use Rattle.register.specs.Chain.{latest}
 use Rattle.register.specs.declared.Actor.{Actor}
@@ -33,21 +33,22 @@ use Rattle.soundness.proofs.WorldLaws.{actors-natural, resources-natura
 use Rattle.soundness.specs.Judged.{registerBy, soFar, findingsIn, findingsBy, claimsAlone}
 use Rattle.soundness.specs.declared.Findings.{Findings}
 use Rattle.soundness.proofs.Climbing.{stand-distinct}
-use Rattle.soundness.proofs.Judging.{sound-apart, take-map, claims-alone-natural}
+use Rattle.soundness.proofs.Judging.{sound-apart, claims-alone-natural}
 
 -- the tests in the order of the code are those of 01, where the ids of the resources are distinct and the counts within their limits
-regrouped : (a b c d e : Bool) → (((a && b) && c) && (d && e)) ≡ ands (true ∷ (a && d) ∷ (b && true) ∷ (e && c) ∷ [])
-regrouped false b c d e = refl
-regrouped true false c true e = refl
-regrouped true false c false e = refl
-regrouped true true false true true = refl
-regrouped true true false true false = refl
-regrouped true true false false e = refl
-regrouped true true true true true = refl
-regrouped true true true true false = refl
-regrouped true true true false e = refl
+regrouped : (v a b c d e : Bool) → ((((v && a) && b) && c) && (d && e)) ≡ ands (v ∷ true ∷ (a && d) ∷ (b && true) ∷ (e && c) ∷ [])
+regrouped false a b c d e = refl
+regrouped true false b c d e = refl
+regrouped true true false c true e = refl
+regrouped true true false c false e = refl
+regrouped true true true false true true = refl
+regrouped true true true false true false = refl
+regrouped true true true false false e = refl
+regrouped true true true true true true = refl
+regrouped true true true true true false = refl
+regrouped true true true true false e = refl
 
-module _ (a : Actors) (o : Resources) (s : List ℕ) (n : ℕ) where
+module _ (version : ℕ) (a : Actors) (o : Resources) (s : List ℕ) (n : ℕ) where
   -- those that stand, with zeros behind them
   abbrev people : List Actor
   people = actorsTo a .list
@@ -99,16 +100,16 @@ module _ (a : Actors) (o : Resources) (s : List ℕ) (n : ℕ) where
       }
 
   -- they pass where the register is sound
-  pub sound-begins : length s ≡ sheetLimit → sound (registerBy a o s n) ≡ true → starts ≡ true
+  pub sound-begins : length s ≡ sheetLimit → sound (registerBy version a o s n) ≡ true → starts ≡ true
   sound-begins long h =
-      let told = sound-out (registerBy a o s n) h in
-      let w = worldOf (actorsOf a) (resourcesOf o) in
+      let told = sound-out (registerBy version a o s n) h in
+      let w = worldOf version (actorsOf a) (resourcesOf o) in
       let claims = latest (take n (claimsIn s)) in
       let short = told .limits .claimCount in
       let scant = told .limits .resourceCount in
-      let stands : standOver claims ≡ true = and-right (every (alone w) claims) (standOver claims) (sym (sound-apart w claims) ∙ told .claims) in
+      let stands : standOver version claims ≡ true = and-right (every (alone w) claims) (standOver version claims) (sym (sound-apart w claims) ∙ told .claims) in
       let single : distinct (take n (map claimId (claimsIn s))) ≡ true =
-      stand-distinct (claimsIn s) n (omega (arith, short, claims-in-length s)) stands in
+      stand-distinct version (claimsIn s) n (omega (arith, short, claims-in-length s)) stands in
       rw (
         le-leb n claimLimit short,
         le-leb (a .count) actorLimit (told .limits .actorCount),
@@ -121,21 +122,21 @@ module _ (a : Actors) (o : Resources) (s : List ℕ) (n : ℕ) where
       )
       (eq-eqb (length s) sheetLimit long)
 
-  not-begun : starts ≡ false → false ≡ eqb (length s) sheetLimit && sound (registerBy a o s n)
+  not-begun : starts ≡ false → false ≡ eqb (length s) sheetLimit && sound (registerBy version a o s n)
   not-begun h =
-      cases (eqb (length s) sheetLimit && sound (registerBy a o s n))
+      cases (eqb (length s) sheetLimit && sound (registerBy version a o s n))
       (λ t. clash (starts)
-      (sound-begins (eqb-true (length s) sheetLimit (and-left (eqb (length s) sheetLimit) (sound (registerBy a o s n)) t))
-      (and-right (eqb (length s) sheetLimit) (sound (registerBy a o s n)) t)) h)
+      (sound-begins (eqb-true (length s) sheetLimit (and-left (eqb (length s) sheetLimit) (sound (registerBy version a o s n)) t))
+      (and-right (eqb (length s) sheetLimit) (sound (registerBy version a o s n)) t)) h)
       (λ t. sym t)
 
   -- where they pass, what is left decides
   abbrev left : Bool
   left =
-      ((actorsFit (map actorId people) (map actorKind people) (map actorOwner people) (a .count)
+      (((ranged versionOne versionTwo version && actorsFit (map actorId people) (map actorKind people) (map actorOwner people) (a .count))
       && resourcesFit (humanIds (map actorId people) (map actorKind people) (a .count)) (a .count) (map keeperOf things) o)
-      && standOver (latest (take n (claimsIn s))))
-      && claimsAlone (actorColumns people) (a .count) (map keeperOf things)
+      && standOver version (latest (take n (claimsIn s))))
+      && claimsAlone version (actorColumns people) (a .count) (map keeperOf things)
       (placesOf (map resourceId things) (o .count) (columnOf resourceColumn s) n) s n
 
   module _ (many : length (a .list) ≡ actorLimit) (full : length (o .list) ≡ resourceLimit) (b : Begun) where
@@ -149,16 +150,16 @@ module _ (a : Actors) (o : Resources) (s : List ℕ) (n : ℕ) where
     apart-ids : distinct (map resourceId (resourcesOf (resourcesTo o))) ≡ true
     apart-ids = ap (λ l. distinct (map resourceId l)) (up-to-first noResource (o .count) (o .list)) ∙ b .distant
 
-    pub begun-decides : left ≡ (eqb (length s) sheetLimit && sound (registerBy a o s n))
+    pub begun-decides : left ≡ (eqb (length s) sheetLimit && sound (registerBy version a o s n))
     unfolding sound soundActors soundResources
     begun-decides =
-        let w = worldOf (actorsOf a) (resourcesOf o) in
-        let within : withinLimits (registerBy a o s n) ≡ true =
-        within-limits-in (registerBy a o s n) (record { actorCount = b .few; resourceCount = b .scant; claimCount = b .short }) in
+        let w = worldOf version (actorsOf a) (resourcesOf o) in
+        let within : withinLimits (registerBy version a o s n) ≡ true =
+        within-limits-in (registerBy version a o s n) (record { actorCount = b .few; resourceCount = b .scant; claimCount = b .short }) in
         rw (
           actors-natural people (a .count),
           resources-natural people (a .count) (up-to-length noActor (a .count) (a .list) ∙ many) (b .few) o full (b .scant) (map keeperOf things) keepers-long keepers-at,
-          claims-alone-natural (actorsTo a) (resourcesTo o) s n (omega (arith, b .few)) (omega (arith, b .scant)) (b .short) (b .long) apart-ids,
+          claims-alone-natural version (actorsTo a) (resourcesTo o) s n (omega (arith, b .few)) (omega (arith, b .scant)) (b .short) (b .long) apart-ids,
           up-to-first noActor (a .count) (a .list),
           up-to-first noResource (o .count) (o .list),
           eq-eqb (length s) sheetLimit (b .long),
@@ -168,9 +169,10 @@ module _ (a : Actors) (o : Resources) (s : List ℕ) (n : ℕ) where
           every-reverse (alone w) (take n (claimsIn s)),
         )
         (regrouped
+        (ranged versionOne versionTwo version)
         (every (actorFits (human (actorsOf a))) (actorsOf a))
         (every (resourceFits (human (actorsOf a))) (resourcesOf o))
-        (standOver (latest (take n (claimsIn s))))
+        (standOver version (latest (take n (claimsIn s))))
         (distinct (map actorId (actorsOf a)))
         (every (alone w) (take n (claimsIn s))))
 
@@ -183,7 +185,7 @@ module _ (a : Actors) (o : Resources) (s : List ℕ) (n : ℕ) where
     seen : known ≡ found starts
     seen = looked ∙ rw (of-folk, of-goods)
 
-    pub refused-told : known .sound ≡ false → known ≡ findingsBy a o s n
+    pub refused-told : known .sound ≡ false → known ≡ findingsBy version a o s n
     refused-told h =
         let none : starts ≡ false = sym (ap (λ k. k .sound) seen) ∙ h in
         seen ∙ ap found (none ∙ not-begun none)
@@ -199,15 +201,15 @@ module _ (a : Actors) (o : Resources) (s : List ℕ) (n : ℕ) where
         → humans ≡ humanIds (folk .names) (folk .kinds) (a .count)
         → x ≡ actorsFit (folk .names) (folk .kinds) (folk .owners) (a .count)
         → y ≡ resourcesFit humans (a .count) (goods .keepers) o
-        → z ≡ standOver (latest (take n (claimsIn s)))
-        → w ≡ claimsAlone folk (a .count) (goods .keepers) (known .spots) s n
+        → z ≡ standOver version (latest (take n (claimsIn s)))
+        → w ≡ claimsAlone version folk (a .count) (goods .keepers) (known .spots) s n
         → _≡_ {A = Findings} (record {
-          sound = ((x && y) && z) && w;
+          sound = (((ranged versionOne versionTwo version && x) && y) && z) && w;
           ups = known .ups;
           spots = known .spots;
           actors = known .actors;
           resources = known .resources;
-        }) (findingsBy a o s n)
+        }) (findingsBy version a o s n)
     judged-told many full h of-humans of-x of-y of-z of-w =
         rw (of-x, of-y, of-z, of-w, of-humans, seen, of-folk, of-goods) (ap found (begun-decides many full (begun-told h)))
 

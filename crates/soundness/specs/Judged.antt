@@ -19,9 +19,9 @@ use Rattle.soundness_rules.specs.Sound.{sound}
 use Rattle.claim_judging.specs.Alone.{Found, aloneAt}
 use Rattle.soundness.specs.declared.Findings.{Findings}
 
--- the register of actors and resources, and of the first n claims of a sheet
-abbrev pub registerBy : Actors → Resources → List ℕ → ℕ → Register
-registerBy a o s n = record { actors = a; resources = o; claims = record { list = claimsIn s; count = n } }
+-- the register of a version, of actors and resources, and of the first n claims of a sheet
+abbrev pub registerBy : ℕ → Actors → Resources → List ℕ → ℕ → Register
+registerBy version a o s n = record { actors = a; resources = o; claims = record { list = claimsIn s; count = n }; version = version }
 
 -- whether nothing is against soundness so far, by the counts and the ids of the resources: the counts are within their limits, the ids of the claims
 -- and of the resources distinct, and the sheet is one
@@ -42,10 +42,10 @@ findingsIn actors resources m s n whole = record {
   resources = resources;
 }
 
--- what is found of the register of actors and resources, by the columns of those that stand
-abbrev pub findingsBy : Actors → Resources → List ℕ → ℕ → Findings
-findingsBy a o s n =
-    findingsIn (actorColumns (actorsTo a .list)) (resourceColumns (resourcesTo o .list)) (o .count) s n (eqb (length s) sheetLimit && sound (registerBy a o s n))
+-- what is found of the register of a version, actors and resources, by the columns of those that stand
+abbrev pub findingsBy : ℕ → Actors → Resources → List ℕ → ℕ → Findings
+findingsBy version a o s n =
+    findingsIn (actorColumns (actorsTo a .list)) (resourceColumns (resourcesTo o .list)) (o .count) s n (eqb (length s) sheetLimit && sound (registerBy version a o s n))
 
 -- what was looked up of the claim at a place: the places of its grantor, its holder and its resource, and what stands there
 abbrev pub foundAt : ActorColumns → List ℕ → List ℕ → List ℕ → List ℕ → ℕ → Found
@@ -60,9 +60,9 @@ foundAt actors keepers granting holding spots i = record {
 
 -- whether the ids of the first h actors are distinct, and each of the first n claims of a sheet is as it should be by itself, its grantor and its
 -- holder looked up among those
-unfoldable pub claimsAlone : ActorColumns → ℕ → List ℕ → List ℕ → List ℕ → ℕ → Bool
-claimsAlone actors h keepers spots s n =
+unfoldable pub claimsAlone : ℕ → ActorColumns → ℕ → List ℕ → List ℕ → List ℕ → ℕ → Bool
+claimsAlone version actors h keepers spots s n =
     let granting = placesOf (actors .names) h (columnOf grantorColumn s) n in
     let holding = placesOf (actors .names) h (columnOf holderColumn s) n in
     distinct (take (min h claimLimit) (actors .names))
-    && every (λ i. aloneAt (claimAt s i) (foundAt actors keepers granting holding spots i)) (counted 0 n)
+    && every (λ i. aloneAt version (claimAt s i) (foundAt actors keepers granting holding spots i)) (counted 0 n)

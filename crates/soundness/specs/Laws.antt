@@ -1,11 +1,11 @@
 -- Laws: The register of a sheet that a register's claims were put into is that register, and as sound. Assumes nothing.
 use mathlib.Core.Path.{_≡_, refl, ap, _∙_}
-use mathlib.Core.List.{List}
+use mathlib.Core.List.{List, map}
 use Prim.Native.Nat.{ℕ}
 use borrow.Author.Tests.{eq-eqb}
 use lib.ListN.{length}
 use Rattle.register.specs.Limits.{claimLimit}
-use Rattle.register.specs.Register.{Same}
+use Rattle.register.specs.Register.{claimAs, Same}
 use Rattle.register.specs.declared.Register.{Register}
 use Rattle.columns.specs.Columns.{actorsTo, resourcesTo, actorColumns, resourceColumns}
 use Rattle.columns.specs.Sheet.{sheetLimit, sheetOf, columnOf, idColumn, parentColumn}
@@ -18,27 +18,28 @@ use Rattle.soundness.specs.Opened.{Opened}
 use Rattle.soundness.specs.declared.Findings.{Findings}
 
 module _ (r : Register) (places : length (r .claims .list) ≡ claimLimit) where
-  pub register-standing : Same (registerBy (r .actors) (r .resources) (sheetOf (r .claims)) (r .claims .count)) r
+  pub register-standing : Same (registerBy (r .version) (r .actors) (r .resources) (sheetOf (r .claims)) (r .claims .count)) r
   register-standing = record {
     actorCount = refl;
     actors = refl;
     resourceCount = refl;
     resources = refl;
     claimCount = refl;
-    claims = sheet-claims (r .claims) places;
+    claims = ap (map (claimAs (r .version))) (sheet-claims (r .claims) places);
+    version = refl;
   }
 
-  pub register-same : sound (registerBy (r .actors) (r .resources) (sheetOf (r .claims)) (r .claims .count)) ≡ sound r
-  register-same = sound-same (registerBy (r .actors) (r .resources) (sheetOf (r .claims)) (r .claims .count)) r register-standing
+  pub register-same : sound (registerBy (r .version) (r .actors) (r .resources) (sheetOf (r .claims)) (r .claims .count)) ≡ sound r
+  register-same = sound-same (registerBy (r .version) (r .actors) (r .resources) (sheetOf (r .claims)) (r .claims .count)) r register-standing
 
   -- so it is judged as that register is
-  pub judged-same : findingsBy (r .actors) (r .resources) (sheetOf (r .claims)) (r .claims .count) .sound ≡ sound r
+  pub judged-same : findingsBy (r .version) (r .actors) (r .resources) (sheetOf (r .claims)) (r .claims .count) .sound ≡ sound r
   judged-same = rw (eq-eqb (length (sheetOf (r .claims))) sheetLimit (sheet-long (r .claims))) register-same
 
 -- what was found of a register that was examined
 module _ (r : Register) where
   -- what `examine` ensures of a sheet of zeros
-  pub examined : {s : List ℕ} {found : Findings} → (s ≡ sheetOf (r .claims)) × (found ≡ findingsBy (r .actors) (r .resources) s (r .claims .count)) → Opened r s found
+  pub examined : {s : List ℕ} {found : Findings} → (s ≡ sheetOf (r .claims)) × (found ≡ findingsBy (r .version) (r .actors) (r .resources) s (r .claims .count)) → Opened r s found
   examined told = record { put = told .0; told = told .1 }
 
   module _ {s : List ℕ} {found : Findings} (opened : Opened r s found) where
@@ -46,12 +47,12 @@ module _ (r : Register) where
     pub judged-sound : length (r .claims .list) ≡ claimLimit → found .sound ≡ sound r
     judged-sound places =
         ap (λ f. f .sound) (opened .told)
-        ∙ ap (λ l. findingsBy (r .actors) (r .resources) l (r .claims .count) .sound) (opened .put)
+        ∙ ap (λ l. findingsBy (r .version) (r .actors) (r .resources) l (r .claims .count) .sound) (opened .put)
         ∙ judged-same r places
 
     -- where the parents stand
     pub judged-ups : found .ups ≡ earlierPlaces (columnOf idColumn (sheetOf (r .claims))) (columnOf parentColumn (sheetOf (r .claims))) (r .claims .count)
-    judged-ups = ap (λ f. f .ups) (opened .told) ∙ ap (λ l. findingsBy (r .actors) (r .resources) l (r .claims .count) .ups) (opened .put)
+    judged-ups = ap (λ f. f .ups) (opened .told) ∙ ap (λ l. findingsBy (r .version) (r .actors) (r .resources) l (r .claims .count) .ups) (opened .put)
 
     -- the columns of the actors and the resources
     pub judged-actors : found .actors ≡ actorColumns (actorsTo (r .actors) .list)

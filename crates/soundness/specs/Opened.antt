@@ -10,4 +10,4 @@ use Rattle.soundness.specs.declared.Findings.{Findings}
 
 pub record Opened (r : Register) (s : List ℕ) (found : Findings) : Type 0 where
   pub put : s ≡ sheetOf (r .claims)
-  pub told : found ≡ findingsBy (r .actors) (r .resources) s (r .claims .count)
+  pub told : found ≡ findingsBy (r .version) (r .actors) (r .resources) s (r .claims .count)

@@ -38,9 +38,9 @@ pub struct Findings {
 
 // Whether each claim is as it should be over those before it, where their ids are distinct. The places of the parents are lent; the hops
 // of the claims that were judged are kept.
-fn claims_over<'a>(ups: &'a [u16], sheet: &'a [u32], n: usize) -> bool
+fn claims_over<'a>(version: u64, ups: &'a [u16], sheet: &'a [u32], n: usize) -> bool
     requires { ⌜ (n ≤ claimLimit) × (length (now sheet) ≡ sheetLimit) × (distinct (take n (columnOf idColumn (now sheet))) ≡ true) × (now ups ≡ earlierPlaces (columnOf idColumn (now sheet)) (columnOf parentColumn (now sheet)) n) ⌝ }
-    ensures { λ r. ⌜ r ≡ standOver (latest (take n (claimsIn (now (sheet .entry))))) ⌝ }
+    ensures { λ r. ⌜ r ≡ standOver version (latest (take n (claimsIn (now (sheet .entry))))) ⌝ }
 {
     let grantors = columns::column(sheet, columns::GRANTORS);
     let holders = columns::column(sheet, columns::HOLDERS);
@@ -58,7 +58,7 @@ fn claims_over<'a>(ups: &'a [u16], sheet: &'a [u32], n: usize) -> bool
             }
             let p = columns::claim_at(sheet, up);
             let steps = hops[up] as usize;
-            if !claim_judging::stands_over(ups, grantors, holders, up, steps, p, c) {
+            if !claim_judging::stands_over(version, ups, grantors, holders, up, steps, p, c) {
                 return false;
             }
             hops[i] = (steps + 1) as u8;
@@ -71,6 +71,7 @@ fn claims_over<'a>(ups: &'a [u16], sheet: &'a [u32], n: usize) -> bool
 // Whether the ids of the first `h` actors are distinct and each claim is as it should be by itself. The places of the resources are lent;
 // those of the grantors and holders are found once for all claims. Every claim is looked at, without a way out of the loop.
 fn claims_alone<'a>(
+    version: u64,
     actors: ActorColumns,
     h: usize,
     keepers: &'a [u32],
@@ -79,7 +80,7 @@ fn claims_alone<'a>(
     n: usize,
 ) -> bool
     requires { ⌜ (n ≤ claimLimit) × (length (now sheet) ≡ sheetLimit) × (length (now spots) ≡ claimLimit) ⌝ }
-    ensures { λ r. ⌜ r ≡ claimsAlone actors h (now (keepers .entry)) (now (spots .entry)) (now (sheet .entry)) n ⌝ }
+    ensures { λ r. ⌜ r ≡ claimsAlone version actors h (now (keepers .entry)) (now (spots .entry)) (now (sheet .entry)) n ⌝ }
 {
     let grantors = columns::column(sheet, columns::GRANTORS);
     let holders = columns::column(sheet, columns::HOLDERS);
@@ -95,7 +96,7 @@ fn claims_alone<'a>(
         let owner = columns::number_at(&actors.owners, grantor);
         let keeper = columns::number_at(keepers, report);
         stand = stand
-            & claim_judging::stands_alone(c, grantor, holder, report, kind, owner, keeper);
+            & claim_judging::stands_alone(version, c, grantor, holder, report, kind, owner, keeper);
         i += 1;
     }
     stand
@@ -131,33 +132,43 @@ fn looked_up(
     }
 }
 
-// What is found of the register of the actors, the resources and the first `n` claims of a sheet. A slice of another length is
+// What is found of the register of the version, the actors, the resources and the first `n` claims of a sheet. A slice of another length is
 // not sound.
-pub fn examine_sheet(a: Actors, o: Resources, sheet: &[u32], n: usize) -> Findings
-    ensures { λ r. ⌜ r ≡ findingsBy a o (now (sheet .entry)) n ⌝ }
+pub fn examine_sheet(version: u64, a: Actors, o: Resources, sheet: &[u32], n: usize) -> Findings
+    ensures { λ r. ⌜ r ≡ findingsBy version a o (now (sheet .entry)) n ⌝ }
 {
     let actors = columns::actor_columns(a);
     let resources = columns::resource_columns(o);
     let humans = human_ids(&actors.names, &actors.kinds, a.count);
-    let fit = actors_fit(&actors.names, &actors.kinds, &actors.owners, a.count)
+    let fit = (Register::VERSION_ONE <= version)
+        & (version <= Register::VERSION_TWO)
+        & actors_fit(&actors.names, &actors.kinds, &actors.owners, a.count)
         & resources_fit(&humans, a.count, &resources.keepers, o);
     let mut found = looked_up(actors, a.count, resources, o.count, sheet, n);
     if !found.sound {
         return found;
     }
     found.sound = fit
-        & claims_over(&found.ups, sheet, n)
-        & claims_alone(actors, a.count, &resources.keepers, &found.spots, sheet, n);
+        & claims_over(version, &found.ups, sheet, n)
+        & claims_alone(
+            version,
+            actors,
+            a.count,
+            &resources.keepers,
+            &found.spots,
+            sheet,
+            n,
+        );
     found
 }
 
 // The one door to a register: puts its claims into a lent sheet, and says what is found of the register by it.
-pub fn examine(sheet: &mut [u32], a: Actors, o: Resources, k: Claims) -> Findings
+pub fn examine(sheet: &mut [u32], version: u64, a: Actors, o: Resources, k: Claims) -> Findings
     ensures put { λ _. ⌜ now (sheet .exit) ≡ sheetWith (now (sheet .entry)) (claimsOf k) ⌝ }
-    ensures found { λ r. ⌜ r ≡ findingsBy a o (now (sheet .exit)) (k .count) ⌝ }
+    ensures found { λ r. ⌜ r ≡ findingsBy version a o (now (sheet .exit)) (k .count) ⌝ }
 {
     columns::put_claims(sheet, k);
-    examine_sheet(a, o, sheet, k.count)
+    examine_sheet(version, a, o, sheet, k.count)
 }
 
 // Whether the register is sound.
@@ -168,7 +179,7 @@ pub fn is_sound(r: Register) -> bool
     let o = r.resources;
     let k = r.claims;
     let mut sheet = [0u32; columns::SHEET];
-    let found = examine(&mut sheet, a, o, k);
+    let found = examine(&mut sheet, r.version, a, o, k);
     found.sound
 }
 
@@ -220,7 +231,7 @@ fn actors_fit<'a>(names: &'a [u32], kinds: &'a [u32], owners: &'a [u32], n: usiz
 fn path_fits(o: Resource) -> bool
     ensures { λ r. ⌜ r ≡ every (ranged pathByteLeast pathByteGreatest) (pathOf o) ⌝ }
 {
-    let top = lists::least(o.len, Register::PATH);
+    let top = lists::least(o.len as usize, Register::PATH);
     let mut fit = true;
     let mut i: usize = 0;
     while i < top {
@@ -269,7 +280,7 @@ fn resource_fits(kept: bool, o: Resource) -> bool
     if !register::is_id(o.keeper) {
         return false;
     }
-    if Register::PATH < o.len {
+    if Register::PATH < o.len as usize {
         return false;
     }
     if !kept {

@@ -7,12 +7,13 @@ use Prim.Native.Nat.{ℕ, _+_, _-_}
 use lib.ListN.{length, replicate}
 use Rattle.lists.specs.Lists.{counted, distinct}
 use Rattle.rights.specs.Rights.{hasRight, hasRights, barsMachine}
-use Rattle.register.specs.Chain.{chain, rootGranted, circling}
+use Rattle.register.specs.Register.{withLeft}
+use Rattle.register.specs.Chain.{latest, chain, rootGranted, circling}
 use Rattle.register.specs.declared.Actor.{Actor}
 use Rattle.register.specs.declared.Resource.{Resource}
 use Rattle.register.specs.declared.Claim.{Claim}
 use Rattle.register.specs.declared.Register.{Register}
-use Rattle.soundness_rules.specs.Sound.{actorFits, resourceFits, claimFits, namesStand, rootKept, drawnFrom, machineMay, overChain, drawn, fresh, alone, over, acceptable, soundClaims, soundActors, soundResources, withinLimits, sound}
+use Rattle.soundness_rules.specs.Sound.{actorFits, resourceFits, claimFits, namesStand, rootKept, drawnFrom, machineMay, overChain, drawn, fresh, alone, over, acceptable, soundClaims, soundActors, soundResources, withinLimits, sound, eachStored}
 
 abbrev actor : ℕ → ℕ → ℕ → Actor
 actor id kind owner = record { id = id; kind = kind; owner = owner }
@@ -23,14 +24,19 @@ resource id public keeper byte = record { id = id; public = public; keeper = kee
 
 abbrev claim : ℕ → ℕ → ℕ → ℕ → ℕ → ℕ → ℕ → ℕ → Claim
 claim id parent grantor holder resource rights weight expiry =
-    record { id = id; parent = parent; grantor = grantor; holder = holder; resource = resource; rights = rights; weight = weight; expiry = expiry }
+    record { id = id; parent = parent; grantor = grantor; holder = holder; resource = resource; rights = rights; weight = weight; left = 0; expiry = expiry }
 
 abbrev register : List Actor → List Resource → List Claim → Register
 register actors resources claims = record {
   actors = record { list = actors; count = length actors };
   resources = record { list = resources; count = length resources };
   claims = record { list = claims; count = length claims };
+  version = 1;
 }
+
+-- the same in another version
+abbrev of : ℕ → Register → Register
+of version r = record { actors = r .actors; resources = r .resources; claims = r .claims; version = version }
 
 -- two humans, 1 and 3; a machine of the first, 2, and one without an owner, 4
 people : List Actor
@@ -115,6 +121,35 @@ line n = register (map (λ i. actor i 1 0) (counted 1 20)) (resource 10 0 1 120 
 hops-told : map (λ n. sound (line n)) (17 ∷ 18 ∷ []) ≡ true ∷ false ∷ []
 unfolding sound withinLimits soundActors soundResources soundClaims acceptable alone over fresh drawn overChain machineMay drawnFrom rootKept namesStand claimFits resourceFits actorFits distinct chain circling rootGranted hasRight hasRights barsMachine
 hops-told = refl
+
+-- a register of version 0 and of version 3 is not sound, even an empty one
+versions-told : map (λ version. sound (of version (claiming []))) (0 ∷ 1 ∷ 2 ∷ 3 ∷ []) ≡ false ∷ true ∷ true ∷ false ∷ []
+unfolding people reports sound withinLimits soundActors soundResources soundClaims resourceFits actorFits distinct
+versions-told = refl
+
+-- a chain of three, with these numbers of hands left
+abbrev falling : ℕ → ℕ → ℕ → List Claim
+falling a b c = withLeft a root ∷ withLeft b (claim 8 7 1 2 10 19 600 0) ∷ withLeft c (claim 9 8 2 3 10 1 0 0) ∷ []
+
+-- (d) in version 2: left falls from parent to claim, by one or by more; it does not stay, and does not rise; 17 is no left, of a root either.
+-- In version 1 none of this is asked.
+left-told : map (λ version. map (λ cs. sound (of version (claiming cs))) (
+    falling 16 15 14
+    ∷ falling 2 1 0
+    ∷ falling 9 4 0
+    ∷ falling 2 2 0
+    ∷ falling 2 1 1
+    ∷ falling 1 0 1
+    ∷ falling 17 1 0
+    ∷ [])) (2 ∷ 1 ∷ [])
+    ≡ (true ∷ true ∷ true ∷ false ∷ false ∷ false ∷ false ∷ []) ∷ replicate 7 true ∷ []
+unfolding people reports sound withinLimits soundActors soundResources soundClaims acceptable alone over fresh drawn overChain machineMay drawnFrom rootKept namesStand claimFits resourceFits actorFits distinct chain circling rootGranted hasRight hasRights barsMachine
+left-told = refl
+
+-- what is stored: in version 1 16 less the hops, in version 2 what is held
+stored-told : map (λ version. map (λ c. c .left) (eachStored version (latest (falling 9 4 0)))) (1 ∷ 2 ∷ []) ≡ (14 ∷ 15 ∷ 16 ∷ []) ∷ (0 ∷ 4 ∷ 9 ∷ []) ∷ []
+unfolding eachStored chain
+stored-told = refl
 
 -- 64 actors, and an actor of each kind with the greatest id; 65, a human with an owner, a machine of
 -- a machine and of none that stands, a third kind, the id 0 and 65,536, an id twice

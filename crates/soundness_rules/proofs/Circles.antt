@@ -56,7 +56,7 @@ module _ (w : World) where
       let chained = acceptable-out w L c (latest-acceptable w c L h) .overEarlier .chained in
       cases (eqb (c .parent) 0)
       (λ e. let none = eqb-true (c .parent) 0 e in root none (rw none (chain-zero (λ d. d .id) (λ d. d .parent) L)))
-      (λ e. let d = drawn-out L c chained (eqb-false (c .parent) 0 e) in below (d .parent) (d .higher) (d .chained) (d .overIt .uncircled))
+      (λ e. let d = drawn-out (w .version) L c chained (eqb-false (c .parent) 0 e) in below (d .parent) (d .higher) (d .chained) (d .overIt .uncircled))
 
   -- its holder holds no claim above it
   apart : (c : Claim) (L : List Claim) → soundClaims w (c ∷ L) ≡ true → any (eqb (c .holder)) (map (λ d. d .holder) (above L c)) ≡ false

@@ -57,15 +57,15 @@ distinct-claims c L = distinct-cons (c .id) (map (λ d. d .id) L) ∙ rw (any-ma
 -- the natural reading of soundness
 pub sound-claims-natural : (w : World) (L : List Claim)
     → soundClaims w L ≡ ands (
-    every claimFits L
+    every (claimFits (w .version)) L
     ∷ distinct (map (λ c. c .id) L)
     ∷ every (namesStand w) L
     ∷ every (rootKept w) L
     ∷ every (machineMay w) L
-    ∷ eachDrawn L
+    ∷ eachDrawn (w .version) L
     ∷ [])
 unfolding acceptable alone over
 sound-claims-natural w [] = sound-claims-nil w ∙ rw distinct-nil
 sound-claims-natural w (c ∷ L) = rw (sound-claims-cons w c L, sound-claims-natural w L, distinct-claims c L)
-    (rule-by-rule (claimFits c) (namesStand w c) (rootKept w c) (machineMay w c) (fresh L c) (drawn L c) (every claimFits L)
-    (distinct (map (λ c. c .id) L)) (every (namesStand w) L) (every (rootKept w) L) (every (machineMay w) L) (eachDrawn L))
+    (rule-by-rule (claimFits (w .version) c) (namesStand w c) (rootKept w c) (machineMay w c) (fresh L c) (drawn (w .version) L c) (every (claimFits (w .version)) L)
+    (distinct (map (λ c. c .id) L)) (every (namesStand w) L) (every (rootKept w) L) (every (machineMay w) L) (eachDrawn (w .version) L))

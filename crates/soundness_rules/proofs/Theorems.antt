@@ -45,7 +45,7 @@ pub strike-kept : (P : Claim → Bool) (M : List Claim) (c : Claim) → struck (
     → above (strike (λ c. c .id) (λ c. c .parent) P M) c ≡ above M c
 strike-kept = striking.above-kept (λ c. c .id) (λ c. c .parent)
 
--- 4a. In a sound register a claim has at most 16 hops.
+-- 4a. In a sound register of either version a claim has at most 16 hops.
 pub hops-most : (w : World) (L : List Claim) (c : Claim) (M : List Claim) → soundClaims w (L ++ c ∷ M) ≡ true → hopsOf M c ≤ hopLimit
 hops-most = places.place-hops
 
@@ -82,7 +82,7 @@ sound-same = sameness.sound-same
 
 -- 6. Claims are sound where all fit, ids are distinct, what they name stands, (a) and (c) hold of each, and (b), (d) and (e) of each over the earlier ones.
 pub sound-claims-natural : (w : World) (L : List Claim)
-    → soundClaims w L ≡ ands (every claimFits L ∷ distinct (map (λ c. c .id) L) ∷ every (namesStand w) L ∷ every (rootKept w) L ∷ every (machineMay w) L ∷ eachDrawn L ∷ [])
+    → soundClaims w L ≡ ands (every (claimFits (w .version)) L ∷ distinct (map (λ c. c .id) L) ∷ every (namesStand w) L ∷ every (rootKept w) L ∷ every (machineMay w) L ∷ eachDrawn (w .version) L ∷ [])
 sound-claims-natural = natural.sound-claims-natural
 
 -- 7a. Two claims with one id are never sound.

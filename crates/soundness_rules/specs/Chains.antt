@@ -27,7 +27,7 @@ chain-hops earlier c = refl
 
 module _ (w : World) where
   latest-stands : (c : Claim) (L : List Claim) → soundClaims w (c ∷ L) ≡ true → above L c ≡ [] → c .parent ≡ 0
-  latest-stands c L h = drawn-stands L c (acceptable-out w L c (latest-acceptable w c L h) .overEarlier .chained)
+  latest-stands c L h = drawn-stands (w .version) L c (acceptable-out w L c (latest-acceptable w c L h) .overEarlier .chained)
 
   chain-climbs : (L : List Claim) (p : ℕ) → soundClaims w L ≡ true → (chain (λ d. d .id) (λ d. d .parent) L p ≡ [] → p ≡ 0)
       → Climbs p (chain (λ d. d .id) (λ d. d .parent) L p)
@@ -70,7 +70,7 @@ module _ (w : World) where
     -- among all claims its id has its chain
     pub place-chain : chain (λ d. d .id) (λ d. d .parent) (L ++ c ∷ M) (c .id) ≡ chainOf M c
     place-chain =
-        let fits = claim-fits-out c (place-acceptable w L c M h .byItself .fits) in
+        let fits = claim-fits-out (w .version) c (place-acceptable w L c M h .byItself .fits) in
         let here = chain-hit (λ d. d .id) (λ d. d .parent) c M (c .id) (numbered-own (λ d. d .id) (λ d. d .parent) c (fits .idLeast)) in
         chain-earlier L (c ∷ M) h (c .id) (λ none. cons-clash (sym here ∙ none)) ∙ here
 

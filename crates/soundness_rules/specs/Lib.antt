@@ -4,6 +4,7 @@ pub mod Roots
 pub mod Laws
 pub mod Registers
 pub mod Places
+pub mod Alike
 pub mod Chains
 pub mod Striking
 pub mod Sameness

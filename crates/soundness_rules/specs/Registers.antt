@@ -10,7 +10,7 @@ use lib.Dec.{eqb, leb}
 use Rattle.lists.specs.Tests.{cases, and-left, and-right, and-both, or-other}
 use Rattle.lists.specs.Lists.{every, distinct}
 use Rattle.lists.specs.Each.{ands-out}
-use Rattle.register.specs.Limits.{isId, ranged, actorLimit, resourceLimit, claimLimit, pathLimit, idLimit, pathByteLeast, pathByteGreatest, humanKind, machineKind}
+use Rattle.register.specs.Limits.{isId, ranged, actorLimit, resourceLimit, claimLimit, pathLimit, idLimit, versionOne, versionTwo, pathByteLeast, pathByteGreatest, humanKind, machineKind}
 use Rattle.register.specs.Register.{actorsOf, resourcesOf, claimsOf, pathOf}
 use Rattle.register.specs.Chain.{latest}
 use Rattle.register.specs.declared.Actor.{Actor}
@@ -134,26 +134,29 @@ within-limits-in r h = rw (
 
 -- a sound register
 pub record SoundRegister (r : Register) : Type 0 where
+  pub version : ranged versionOne versionTwo (r .version) ≡ true
   pub limits : Within r
   pub actors : SoundActors (actorsOf (r .actors))
   pub resources : SoundResources (actorsOf (r .actors)) (resourcesOf (r .resources))
-  pub claims : soundClaims (worldOf (actorsOf (r .actors)) (resourcesOf (r .resources))) (latest (claimsOf (r .claims))) ≡ true
+  pub claims : soundClaims (worldOf (r .version) (actorsOf (r .actors)) (resourcesOf (r .resources))) (latest (claimsOf (r .claims))) ≡ true
 
 pub sound-out : (r : Register) → sound r ≡ true → SoundRegister r
 unfolding sound
 sound-out r h =
-    let told = ands-out (withinLimits r ∷ soundActors (actorsOf (r .actors)) ∷ soundResources (actorsOf (r .actors)) (resourcesOf (r .resources))
-    ∷ soundClaims (worldOf (actorsOf (r .actors)) (resourcesOf (r .resources))) (latest (claimsOf (r .claims))) ∷ []) h in
+    let told = ands-out (ranged versionOne versionTwo (r .version) ∷ withinLimits r ∷ soundActors (actorsOf (r .actors))
+    ∷ soundResources (actorsOf (r .actors)) (resourcesOf (r .resources)) ∷ soundClaims (worldOf (r .version) (actorsOf (r .actors)) (resourcesOf (r .resources))) (latest (claimsOf (r .claims))) ∷ []) h in
     record {
-      limits = within-limits-out r (told .0);
-      actors = sound-actors-out (actorsOf (r .actors)) (told .1 .0);
-      resources = sound-resources-out (actorsOf (r .actors)) (resourcesOf (r .resources)) (told .1 .1 .0);
-      claims = told .1 .1 .1 .0;
+      version = told .0;
+      limits = within-limits-out r (told .1 .0);
+      actors = sound-actors-out (actorsOf (r .actors)) (told .1 .1 .0);
+      resources = sound-resources-out (actorsOf (r .actors)) (resourcesOf (r .resources)) (told .1 .1 .1 .0);
+      claims = told .1 .1 .1 .1 .0;
     }
 
 pub sound-in : (r : Register) → SoundRegister r → sound r ≡ true
 unfolding sound
 sound-in r h = rw (
+  h .version,
   within-limits-in r (h .limits),
   sound-actors-in (actorsOf (r .actors)) (h .actors),
   sound-resources-in (actorsOf (r .actors)) (resourcesOf (r .resources)) (h .resources),

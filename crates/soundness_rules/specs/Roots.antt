@@ -26,6 +26,6 @@ rootOf c [] = c
 rootOf c (p ∷ higher) = rootOf p higher
 
 -- (b), (d) and (e) hold of each claim over the earlier ones
-abbrev pub eachDrawn : List Claim → Bool
-eachDrawn [] = true
-eachDrawn (c ∷ earlier) = drawn earlier c && eachDrawn earlier
+abbrev pub eachDrawn : ℕ → List Claim → Bool
+eachDrawn version [] = true
+eachDrawn version (c ∷ earlier) = drawn version earlier c && eachDrawn version earlier

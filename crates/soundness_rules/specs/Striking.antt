@@ -92,14 +92,14 @@ module _ (w : World) where
   pub sound-distinct : (L : List Claim) → soundClaims w L ≡ true → Distinct (λ c. c .id) (λ c. c .parent) L
   sound-distinct [] h = tt
   sound-distinct (c ∷ L) h = let told = acceptable-out w L c (latest-acceptable w c L h) in
-      ((claim-fits-out c (told .byItself .fits) .idLeast, fresh-out L c (told .overEarlier .apart)), sound-distinct L (earlier-sound w c L h))
+      ((claim-fits-out (w .version) c (told .byItself .fits) .idLeast, fresh-out L c (told .overEarlier .apart)), sound-distinct L (earlier-sound w c L h))
 
   acceptable-strike : (P : Claim → Bool) (L : List Claim) (c : Claim) → struck (λ c. c .id) (λ c. c .parent) P L c ≡ false
       → acceptable w L c ≡ true → acceptable w (strike (λ c. c .id) (λ c. c .parent) P L) c ≡ true
   acceptable-strike P L c spared h =
       let K : List Claim = strike (λ c. c .id) (λ c. c .parent) P L in
       let told = acceptable-out w L c h in
-      let kept = drawn-same K L c (above-kept (λ c. c .id) (λ c. c .parent) P L c spared) in
+      let kept = drawn-same (w .version) K L c (above-kept (λ c. c .id) (λ c. c .parent) P L c spared) in
       acceptable-in w K c record {
         byItself = told .byItself;
         overEarlier = record {

@@ -5,3 +5,4 @@ pub mod Answers
 pub mod Opens
 pub mod Laws
 pub mod Shrinking
+pub mod Sameness

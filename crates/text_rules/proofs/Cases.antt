@@ -16,7 +16,7 @@ use Rattle.register.specs.declared.Resource.{Resource}
 use Rattle.register.specs.declared.Claim.{Claim}
 use Rattle.register.specs.declared.Register.{Register}
 use Rattle.rights.specs.Rights.{hasRight, hasRights, barsMachine}
-use Rattle.soundness_rules.specs.Sound.{actorFits, resourceFits, claimFits, namesStand, rootKept, drawnFrom, machineMay, overChain, drawn, fresh, alone, over, acceptable, soundClaims, soundActors, soundResources, withinLimits, sound}
+use Rattle.soundness_rules.specs.Sound.{actorFits, resourceFits, claimFits, namesStand, rootKept, drawnFrom, machineMay, overChain, drawn, fresh, alone, over, acceptable, soundClaims, soundActors, soundResources, withinLimits, sound, eachStored}
 use Rattle.actions.specs.declared.Usage.{Usage}
 use Rattle.actions.specs.declared.Action.{Action}
 use Rattle.refusals.specs.declared.Refusal.{Refusal}
@@ -36,7 +36,7 @@ abbrev pub lined : String → List ℕ
 lined end = 10 ∷ []
 lined (c then s) = cond (eqb (code c) 32) 10 (code c) ∷ lined s
 
-abbrev unended : String → List ℕ
+abbrev pub unended : String → List ℕ
 unended end = []
 unended (c then s) = cond (eqb (code c) 32) 10 (code c) ∷ unended s
 
@@ -44,25 +44,27 @@ unended (c then s) = cond (eqb (code c) 32) 10 (code c) ∷ unended s
 abbrev actor : ℕ → ℕ → ℕ → Actor
 actor id kind owner = record { id = id; kind = kind; owner = owner }
 
-abbrev claim : ℕ → ℕ → ℕ → ℕ → ℕ → ℕ → ℕ → ℕ → Claim
-claim id parent grantor holder resource rights weight expiry =
-    record { id = id; parent = parent; grantor = grantor; holder = holder; resource = resource; rights = rights; weight = weight; expiry = expiry }
+abbrev pub claim : ℕ → ℕ → ℕ → ℕ → ℕ → ℕ → ℕ → ℕ → ℕ → Claim
+claim id parent grantor holder resource rights weight left expiry =
+    record { id = id; parent = parent; grantor = grantor; holder = holder; resource = resource; rights = rights; weight = weight; left = left; expiry = expiry }
 
 abbrev site : Resource
 site = record { id = 10; public = 0; keeper = 1; len = 6; path = 115 ∷ 105 ∷ 116 ∷ 101 ∷ 47 ∷ 97 ∷ replicate 58 0 }
 
-abbrev caseR : Register
+-- its claims hold 16 less their hops as left, which the text does not tell
+abbrev pub caseR : Register
 caseR = record {
   actors = record { list = actor 1 1 0 ∷ actor 2 2 1 ∷ replicate 62 noActor; count = 2 };
   resources = record { list = site ∷ replicate 63 noResource; count = 1 };
-  claims = record { list = claim 1 0 1 1 10 19 1000 0 ∷ claim 2 1 1 2 10 1 600 2000 ∷ replicate 254 noClaim; count = 2 };
+  claims = record { list = claim 1 0 1 1 10 19 1000 16 0 ∷ claim 2 1 1 2 10 1 600 15 2000 ∷ replicate 254 noClaim; count = 2 };
+  version = 1;
 }
 
 abbrev pub caseText : List ℕ
 caseText = lined "register=1 actors=2 actor=1 kind=human owner=0 actor=2 kind=machine owner=1 resources=1 resource=10 public=0 keeper=1 scope=site/a claims=2 claim=1 parent=0 grantor=1 holder=1 resource=10 rights=19 weight=1000 expiry=0 claim=2 parent=1 grantor=1 holder=2 resource=10 rights=1 weight=600 expiry=2000"
 
 register-case-read : registerRead caseText ≡ record { register = caseR; outcome = Accepted; line = 0 }
-unfolding registerRead registerFrom readActors readResources readClaims values passed many parseLimited atLeast begins ended parse canonical digitRun after value parseWord parseScope pathOn sound withinLimits soundActors soundResources soundClaims acceptable alone over fresh drawn overChain machineMay drawnFrom rootKept namesStand claimFits resourceFits actorFits distinct chain circling rootGranted hasRight hasRights barsMachine
+unfolding registerRead registerFrom readActors readResources readClaims values passed many parseLimited atLeast begins ended parse canonical digitRun after value parseWord parseScope pathOn sound withinLimits soundActors soundResources soundClaims acceptable alone over fresh drawn overChain machineMay drawnFrom rootKept namesStand claimFits resourceFits actorFits eachStored distinct chain circling rootGranted hasRight hasRights barsMachine
 register-case-read = refl
 
 register-case-written : registerText caseR ≡ caseText
@@ -70,14 +72,14 @@ unfolding registerText linesText texts decimalLine wordLine scopeLine digits dig
 register-case-written = refl
 
 -- a reading refused for a reason at a line
-abbrev refusedAt : Refusal → ℕ → RegisterRead
+abbrev pub refusedAt : Refusal → ℕ → RegisterRead
 refusedAt why l = record { register = emptyRegister; outcome = Refused why; line = l }
 
 -- the first failing line decides between 19 and 20
 register-case-refused : map registerRead (
     -- nothing, another version, and a text that ends before its lines do
     []
-    ∷ lined "register=2 actors=0 resources=0 claims=0"
+    ∷ lined "register=3 actors=0 resources=0 claims=0"
     ∷ lined "register=1 actors=0 resources=0"
     -- a count above its limit, of any length; without LF it is no line, and with a leading zero no decimal
     ∷ lined "register=1 actors=65"
@@ -98,7 +100,7 @@ register-case-refused : map registerRead (
     ∷ refusedAt Count 2 ∷ refusedAt Form 2 ∷ refusedAt Count 2 ∷ refusedAt Form 2
     ∷ refusedAt Form 3 ∷ refusedAt Form 5 ∷ refusedAt Form 4 ∷ refusedAt Form 12 ∷ refusedAt Form 7
     ∷ refusedAt Form 31 ∷ refusedAt Form 31 ∷ [])
-unfolding registerRead registerFrom readActors readResources readClaims values passed many parseLimited atLeast begins ended parse canonical digitRun after value parseWord parseScope pathOn sound withinLimits soundActors soundResources soundClaims acceptable alone over fresh drawn overChain machineMay drawnFrom rootKept namesStand claimFits resourceFits actorFits distinct chain circling rootGranted hasRight hasRights barsMachine
+unfolding registerRead registerFrom readActors readResources readClaims values passed many parseLimited atLeast begins ended parse canonical digitRun after value parseWord parseScope pathOn sound withinLimits soundActors soundResources soundClaims acceptable alone over fresh drawn overChain machineMay drawnFrom rootKept namesStand claimFits resourceFits actorFits eachStored distinct chain circling rootGranted hasRight hasRights barsMachine
 register-case-refused = refl
 
 -- soundness comes last, with line 0: a human's owner is 0, and a keeper stands
@@ -107,7 +109,7 @@ register-case-unsound : map registerRead (
     ∷ lined "register=1 actors=1 actor=1 kind=human owner=0 resources=1 resource=10 public=0 keeper=9 scope=site/a claims=0"
     ∷ [])
     ≡ (refusedAt Unsound 0 ∷ refusedAt Unsound 0 ∷ [])
-unfolding registerRead registerFrom readActors readResources readClaims values passed many parseLimited atLeast begins ended parse canonical digitRun after value parseWord parseScope pathOn sound withinLimits soundActors soundResources soundClaims acceptable alone over fresh drawn overChain machineMay drawnFrom rootKept namesStand claimFits resourceFits actorFits distinct chain circling rootGranted hasRight hasRights barsMachine
+unfolding registerRead registerFrom readActors readResources readClaims values passed many parseLimited atLeast begins ended parse canonical digitRun after value parseWord parseScope pathOn sound withinLimits soundActors soundResources soundClaims acceptable alone over fresh drawn overChain machineMay drawnFrom rootKept namesStand claimFits resourceFits actorFits eachStored distinct chain circling rootGranted hasRight hasRights barsMachine
 register-case-unsound = refl
 
 -- the action of case R

@@ -1,25 +1,27 @@
--- Actors, resources and claims as things with one text. A resource that is read holds zeros past its path; its
--- text does not tell what stood there. Assumes nothing.
+-- Actors, resources and claims as things with one text. A resource that is read holds zeros past its path, and a claim of version 1
+-- holds 0 as left: the text does not tell what stood there. Assumes nothing.
 use Prim.Native.Nat.{ℕ, _-_, _≤_}
 use mathlib.Core.Path.{_≡_, refl, sym, ap, subst, _∙_}
-use mathlib.Core.List.{List, [], _∷_}
+use mathlib.Core.List.{List, [], _∷_, map}
 use mathlib.Core.Bool.{true}
-use lib.ListN.{length, take, replicate}
+use lib.ListN.{length, take, replicate, length-map}
 use lib.Seq.{take-append-seam, length-take-le}
-use Rattle.register.specs.Limits.{pathLimit}
-use Rattle.register.specs.Register.{pathOf, resourceStanding}
+use Rattle.lists.specs.Tests.{cases}
+use Rattle.register.specs.Limits.{claimLimit, pathLimit, tellsLeft}
+use Rattle.register.specs.Register.{pathOf, claimAs, resourceStanding}
 use Rattle.register.specs.declared.Actor.{Actor}
 use Rattle.register.specs.declared.Resource.{Resource}
 use Rattle.register.specs.declared.Claim.{Claim}
 use Rattle.lines.specs.Reading.{State}
 use Rattle.lines.specs.Lines.{heldPath}
-use Rattle.text_rules.specs.Records.{values, passed}
-use Rattle.text_rules.specs.Registers.{actorForms, actorNumbers, actorFrom, resourceForms, resourceNumbers, resourceFrom, resourceText, claimForms, claimNumbers, claimFrom}
+use Rattle.text_rules.specs.Keys.{claimsKey}
+use Rattle.text_rules.specs.Records.{values, passed, texts, sectionText}
+use Rattle.text_rules.specs.Registers.{actorForms, actorNumbers, actorFrom, resourceForms, resourceNumbers, resourceFrom, resourceText, claimForms, claimNumbers, claimFrom, claimText}
 use Rattle.text_rules.specs.Fitting.{ResourceLines, linesFit}
 use Rattle.text_rules.specs.Things.{Codec, Pair, pairCodec, madeCodec}
 use Rattle.text_rules.specs.Forms.{scopeCodec, linesCodec}
 
--- an actor, a claim: numbers in lines
+-- an actor: numbers in lines
 pub actor-back : (st : State) → actorNumbers (actorFrom (values actorForms st)) ≡ values actorForms st
 unfolding values
 actor-back st = refl
@@ -30,15 +32,41 @@ actor = madeCodec (linesCodec actorForms) actorFrom actorNumbers actor-back
 pub actor-fits : (a : Actor) → linesFit actorForms (actorNumbers a) ≡ true → actor .Fits a
 actor-fits a h = record { whole = record { count = refl; each = h }; clean = refl }
 
-pub claim-back : (st : State) → claimNumbers (claimFrom (values claimForms st)) ≡ values claimForms st
+-- a claim in a version: outside version 2 what it holds as left does not stand in its text
+pub claim-back : (version : ℕ) (st : State) → claimNumbers version (claimFrom version (values (claimForms version) st)) ≡ values (claimForms version) st
 unfolding values
-claim-back st = refl
+claim-back version st = cases (tellsLeft version) (λ e. rw e) (λ e. rw e)
 
-abbrev pub claim : Codec Claim
-claim = madeCodec (linesCodec claimForms) claimFrom claimNumbers claim-back
+abbrev pub claim : ℕ → Codec Claim
+claim version = madeCodec (linesCodec (claimForms version)) (claimFrom version) (claimNumbers version) (claim-back version)
 
-pub claim-fits : (c : Claim) → linesFit claimForms (claimNumbers c) ≡ true → claim .Fits c
-claim-fits c h = record { whole = record { count = refl; each = h }; clean = refl }
+numbers-as : (version : ℕ) (c : Claim) → claimNumbers version (claimAs version c) ≡ claimNumbers version c
+numbers-as version c = cases (tellsLeft version) (λ e. rw e) (λ e. rw e)
+
+-- a claim as it counts in the version
+pub claim-fits : (version : ℕ) (c : Claim) → linesFit (claimForms version) (claimNumbers version c) ≡ true → claim version .Fits (claimAs version c)
+claim-fits version c h = record {
+  whole = record {
+    count = cases (tellsLeft version) (λ e. rw e) (λ e. rw e);
+    each = ap (linesFit (claimForms version)) (numbers-as version c) ∙ h;
+  };
+  clean = cases (tellsLeft version) (λ e. rw e) (λ e. rw e);
+}
+
+-- its text is the same
+claim-texts-as : (version : ℕ) (l : List Claim) → texts (claimText version) (map (claimAs version) l) ≡ texts (claimText version) l
+unfolding texts
+claim-texts-as version [] = refl
+claim-texts-as version (c ∷ l) = rw (numbers-as version c, claim-texts-as version l)
+
+pub claims-as-text : (version : ℕ) (l : List Claim)
+    → sectionText claimsKey claimLimit (claimText version) (map (claimAs version) l) ≡ sectionText claimsKey claimLimit (claimText version) l
+claims-as-text version l = rw (length-map l (claimAs version), claim-texts-as version l)
+
+-- claims that count alike have one text
+pub claims-text : (version : ℕ) (l m : List Claim) → map (claimAs version) l ≡ map (claimAs version) m
+    → sectionText claimsKey claimLimit (claimText version) l ≡ sectionText claimsKey claimLimit (claimText version) m
+claims-text version l m e = sym (claims-as-text version l) ∙ ap (sectionText claimsKey claimLimit (claimText version)) e ∙ claims-as-text version m
 
 -- a resource: numbers in lines, then its path
 abbrev pub resourceOf : Pair (List ℕ) (List ℕ) → Resource

@@ -6,4 +6,5 @@ pub mod Sameness
 pub mod Naming
 pub mod Theorems
 pub mod Cases
+pub mod CasesVersions
 pub mod TheoremsActions

@@ -6,7 +6,8 @@ use mathlib.Core.Bool.{Bool, true, false}
 use mathlib.Core.List.{List, [], _∷_}
 use mathlib.Core.Logic.{_⊎_, inl, inr}
 use native.Mathlib.Omega.{arith}
-use Rattle.register.specs.Limits.{actorLimit, resourceLimit, claimLimit}
+use Rattle.lists.specs.Tests.{cases}
+use Rattle.register.specs.Limits.{actorLimit, resourceLimit, claimLimit, tellsLeft}
 use Rattle.register.specs.declared.Register.{Register}
 use Rattle.soundness_rules.specs.Sound.{sound}
 use Rattle.actions.specs.declared.Action.{Action}
@@ -37,6 +38,10 @@ resource-told : (st : State) → Told Faulty st → Told Faulty (readResource st
 resource-told st told =
     scope-told Faulty by-form by-count (passed resourceForms st) (passed-told Faulty by-form by-count resourceForms (by-form, (by-form, (by-form, tt))) st told)
 
+claim-told : (version : ℕ) (st : State) → Told Faulty st → Told Faulty (readClaim version st .state)
+claim-told version = passed-told Faulty by-form by-count (claimForms version)
+    (by-form, (by-form, (by-form, (by-form, (by-form, (by-form, (by-form, cases (tellsLeft version) (λ e. rw e (by-form, (by-form, tt))) (λ e. rw e (by-form, tt)))))))))
+
 -- a whole reading is told
 register-told : (t : List ℕ) → Told Faulty (registerFrom t .state)
 unfolding registerFrom readActors readResources readClaims
@@ -44,11 +49,9 @@ register-told t =
     let version = readForm versionForm (going t 1) in
     let actors = readActors (version .state) in
     let resources = readResources (actors .state) in
-    let claims = readClaims (resources .state) in
+    let claims = readClaims (version .value) (resources .state) in
     closed-told Faulty by-form by-count (claims .state)
-    (section-told Faulty by-form by-count claimsKey claimLimit readClaim
-    (passed-told Faulty by-form by-count claimForms (by-form, (by-form, (by-form, (by-form, (by-form, (by-form, (by-form, (by-form, tt)))))))))
-    (resources .state)
+    (section-told Faulty by-form by-count claimsKey claimLimit (readClaim (version .value)) (claim-told (version .value)) (resources .state)
     (section-told Faulty by-form by-count resourcesKey resourceLimit readResource resource-told (actors .state)
     (section-told Faulty by-form by-count actorsKey actorLimit readActor (passed-told Faulty by-form by-count actorForms (by-form, (by-form, (by-form, tt))))
     (version .state) (form-told Faulty by-form by-count versionForm by-form (going t 1) (omega arith)))))

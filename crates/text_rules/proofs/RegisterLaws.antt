@@ -10,16 +10,17 @@ use lib.Seq.{length-take-le}
 use Rattle.lists.specs.Each.{all-imp, all-both, all-append, all-take, all-map, every-all}
 use Rattle.lists.specs.Fills.{full-length, all-replicate}
 use Rattle.lists.specs.Lists.{All}
-use Rattle.register.specs.Limits.{actorLimit, resourceLimit, claimLimit, pathLimit, ranged}
-use Rattle.register.specs.Register.{actorsOf, resourcesOf, claimsOf, pathOf, Same, noActor, noResource, noClaim, emptyRegister, resourceStanding, Shaped}
-use Rattle.register.specs.Laws.{empty-shaped}
+use Rattle.register.specs.Limits.{actorLimit, resourceLimit, claimLimit, pathLimit}
+use Rattle.register.specs.Register.{actorsOf, resourcesOf, claimsOf, pathOf, claimAs, Same, noActor, noResource, noClaim, emptyRegister, resourceStanding, Shaped}
+use Rattle.register.specs.Chain.{latest}
+use Rattle.register.specs.Laws.{empty-shaped, as-as}
 use Rattle.register.specs.declared.Actor.{Actor}
 use Rattle.register.specs.declared.Resource.{Resource}
 use Rattle.register.specs.declared.Claim.{Claim}
 use Rattle.register.specs.declared.Register.{Register}
-use Rattle.soundness_rules.specs.Sound.{sound, human, resourceFits}
+use Rattle.soundness_rules.specs.Sound.{sound, human, resourceFits, eachStored}
+use Rattle.soundness_rules.specs.Alike.{stored-claims-as, stored-claims-length}
 use Rattle.soundness_rules.specs.Sameness.{sound-same}
-use Rattle.soundness_rules.specs.Laws.{ranged-least, ranged-greatest}
 use Rattle.soundness_rules.specs.Registers.{sound-out, resource-fits-out}
 use Rattle.refusals.specs.Laws.{outcome-cases}
 use Rattle.refusals.specs.declared.Outcome.the-variants.{Accepted, Refused}
@@ -30,9 +31,9 @@ use Rattle.text_rules.specs.Records.{texts, sectionText}
 use Rattle.text_rules.specs.Registers.{actorForms, actorNumbers, resourceText, claimForms, claimNumbers, heldActors, heldResources, heldClaims, readActors, readResources, readClaims, versionForm, registerFrom, registerText, registerRead, registerEnding}
 use Rattle.text_rules.specs.declared.RegisterRead.{RegisterRead}
 use Rattle.text_rules.specs.Fitting.{ResourceLines, RegisterLines, register-lines-fit, linesFit}
-use Rattle.text_rules.specs.Things.{Codec, Pair, pairCodec}
+use Rattle.text_rules.specs.Things.{Codec, Pair, decidedCodec, pairCodec}
 use Rattle.text_rules.specs.Forms.{formCodec, sectionCodec}
-use Rattle.text_rules.proofs.Entries.{actor, actor-fits, claim, claim-fits, resource, cleaned, cleaned-fits, cleaned-text, cleaned-standing}
+use Rattle.text_rules.proofs.Entries.{actor, actor-fits, claim, claim-fits, claims-as-text, claims-text, resource, cleaned, cleaned-fits, cleaned-text, cleaned-standing}
 use Rattle.text_rules.specs.Holding.{held-entries}
 use Rattle.text_rules.specs.Telling.{going-same, closed-going}
 use Rattle.text_rules.proofs.Answering.{accepted-answer, refused-answer, sound-answer}
@@ -43,23 +44,25 @@ Lists = Pair ℕ (Pair (List Actor) (Pair (List Resource) (List Claim)))
 
 abbrev parts : Codec Lists
 parts =
-    pairCodec (formCodec versionForm)
-    (pairCodec (sectionCodec actorsKey actorLimit actor) (pairCodec (sectionCodec resourcesKey resourceLimit resource) (sectionCodec claimsKey claimLimit claim)))
+    decidedCodec (formCodec versionForm) (λ version.
+    pairCodec (sectionCodec actorsKey actorLimit actor) (pairCodec (sectionCodec resourcesKey resourceLimit resource) (sectionCodec claimsKey claimLimit (claim version))))
 
--- the register that holds parts, and the parts of a register that has zeros past its paths
+-- the register that holds parts, its claims with the hands that they have left; and the parts of a register that has zeros past its paths, its claims
+-- as they count
 abbrev holding : Lists → Register
 holding p = record {
   actors = heldActors (p .second .first);
   resources = heldResources (p .second .second .first);
-  claims = heldClaims (p .second .second .second);
+  claims = heldClaims (latest (eachStored (p .first) (latest (p .second .second .second))));
+  version = p .first;
 }
 
 abbrev partsOf : Register → Lists
 partsOf r = record {
-  first = 1;
+  first = r .version;
   second = record {
     first = actorsOf (r .actors);
-    second = record { first = map cleaned (resourcesOf (r .resources)); second = claimsOf (r .claims) };
+    second = record { first = map cleaned (resourcesOf (r .resources)); second = map (claimAs (r .version)) (claimsOf (r .claims)) };
   };
 }
 
@@ -78,11 +81,11 @@ cleaned-section l = rw (length-map l cleaned, cleaned-texts l)
 
 text-parts : (r : Register) → registerText r ≡ parts .text (partsOf r)
 unfolding registerText
-text-parts r = rw (cleaned-section (resourcesOf (r .resources)))
+text-parts r = rw (cleaned-section (resourcesOf (r .resources)), claims-as-text (r .version) (claimsOf (r .claims)))
 
 parts-fit : (r : Register) → RegisterLines r → parts .Fits (partsOf r)
 parts-fit r h = record {
-  one = refl;
+  one = h .version;
   other = record {
     one = record {
       few = h .fewActors;
@@ -95,8 +98,10 @@ parts-fit r h = record {
             (all-imp ResourceLines (λ o. resource .Fits (cleaned o)) cleaned-fits (resourcesOf (r .resources)) (h .resources));
       };
       other = record {
-        few = h .fewClaims;
-        each = all-imp (λ c. linesFit claimForms (claimNumbers c) ≡ true) (claim .Fits) claim-fits (claimsOf (r .claims)) (h .claims);
+        few = omega (arith, length-map (claimsOf (r .claims)) (claimAs (r .version)), h .fewClaims);
+        each = all-map (claimAs (r .version)) (claim (r .version) .Fits) (claimsOf (r .claims))
+            (all-imp (λ c. linesFit (claimForms (r .version)) (claimNumbers (r .version) c) ≡ true) (λ c. claim (r .version) .Fits (claimAs (r .version) c))
+            (claim-fits (r .version)) (claimsOf (r .claims)) (h .claims));
       };
     };
   };
@@ -136,14 +141,19 @@ holding-same : (r : Register) → sound r ≡ true → Shaped r → Same (holdin
 holding-same r h shaped =
     let limits = sound-out r h .limits in
     let kept = map cleaned (resourcesOf (r .resources)) in
+    let counting : List Claim = map (claimAs (r .version)) (claimsOf (r .claims)) in
+    let filled : List Claim = latest (eachStored (r .version) (latest counting)) in
     record {
       actorCount = length-take-le (r .actors .count) (r .actors .list) (omega (arith, limits .actorCount, shaped .actors));
       actors = held-entries (actorsOf (r .actors)) (actorLimit - length (actorsOf (r .actors))) noActor;
       resourceCount = length-map (resourcesOf (r .resources)) cleaned
           ∙ length-take-le (r .resources .count) (r .resources .list) (omega (arith, limits .resourceCount, shaped .resources));
       resources = ap (map resourceStanding) (held-entries kept (resourceLimit - length kept) noResource) ∙ cleaned-standings (resourcesOf (r .resources)) (room r h shaped);
-      claimCount = length-take-le (r .claims .count) (r .claims .list) (omega (arith, limits .claimCount, shaped .claims));
-      claims = held-entries (claimsOf (r .claims)) (claimLimit - length (claimsOf (r .claims))) noClaim;
+      claimCount = stored-claims-length (r .version) counting ∙ length-map (claimsOf (r .claims)) (claimAs (r .version))
+          ∙ length-take-le (r .claims .count) (r .claims .list) (omega (arith, limits .claimCount, shaped .claims));
+      claims = ap (map (claimAs (r .version))) (held-entries filled (claimLimit - length filled) noClaim) ∙ stored-claims-as (r .version) counting
+          ∙ as-as (r .version) (claimsOf (r .claims));
+      version = refl;
     }
 
 -- reading what was written: accepted, and the register of its parts
@@ -161,17 +171,18 @@ pub read-written : (r : Register) → sound r ≡ true → Shaped r → Same (re
 read-written r h shaped = subst (λ (x : RegisterRead). Same (x .register) r) (sym (written-answer r h shaped)) (holding-same r h shaped)
 
 -- the text of the register that holds parts is the text of the parts
-holding-text : (p : Lists) → p .first ≡ 1 → registerText (holding p) ≡ parts .text p
+holding-text : (p : Lists) → registerText (holding p) ≡ parts .text p
 unfolding registerText
-holding-text p one =
+holding-text p =
     let actors = p .second .first in
     let resources = p .second .second .first in
     let claims = p .second .second .second in
+    let filled : List Claim = latest (eachStored (p .first) (latest claims)) in
     rw (
       held-entries actors (actorLimit - length actors) noActor,
       held-entries resources (resourceLimit - length resources) noResource,
-      held-entries claims (claimLimit - length claims) noClaim,
-      one,
+      held-entries filled (claimLimit - length filled) noClaim,
+      claims-text (p .first) filled claims (stored-claims-as (p .first) claims),
     )
 
 -- the arrays of the register that holds parts are full
@@ -187,7 +198,8 @@ holding-shaped p h =
       paths = all-append (λ o. length (o .path) ≡ pathLimit) resources (replicate (resourceLimit - length resources) noResource)
           (all-imp (resource .Fits) (λ o. length (o .path) ≡ pathLimit) path-full resources (h .other .other .one .each))
           (all-replicate (λ o. length (o .path) ≡ pathLimit) (resourceLimit - length resources) noResource refl);
-      claims = full-length (p .second .second .second) claimLimit noClaim (h .other .other .other .few);
+      claims = full-length (latest (eachStored (p .first) (latest (p .second .second .second)))) claimLimit noClaim
+          (omega (arith, stored-claims-length (p .first) (p .second .second .second), h .other .other .other .few));
     }
 
 -- a text that reads: the register read is sound, and the text is its text
@@ -195,9 +207,6 @@ pub record TextOf (t : List ℕ) (r : Register) : Type 0 where
   pub fine : sound r ≡ true
   pub shaped : Shaped r
   pub text : registerText r ≡ t
-
-one-only : (n : ℕ) → ranged 1 1 n ≡ true → n ≡ 1
-one-only n h = omega (arith, ranged-least 1 1 n h, ranged-greatest 1 1 n h)
 
 pub accepted-text : (t : List ℕ) → registerRead t .outcome ≡ Accepted → TextOf t (registerRead t .register)
 unfolding registerRead
@@ -209,7 +218,7 @@ accepted-text t h =
     let ends : closed (parts .read (going t 1) .state) ≡ going (answer .rest) (answer .at) = sym (ap (λ (x : Read Register). x .state) (from-parts t)) ∙ answer .goes in
     let stood = parts .stood (going t 1) [] (answer .at) (closed-going (parts .read (going t 1) .state) (answer .rest) (answer .at) ends) in
     let text : registerText (holding p) ≡ t =
-    holding-text p (one-only (p .first) (stood .fits .one)) ∙ sym (append-nil (parts .text p)) ∙ sym (going-same t (parts .text p ++ []) 1 (stood .at) (stood .before)) in
+    holding-text p ∙ sym (append-nil (parts .text p)) ∙ sym (going-same t (parts .text p ++ []) 1 (stood .at) (stood .before)) in
     let same : registerRead t .register ≡ holding p = answer .same ∙ value in
     subst (TextOf t) (sym same) (record {
       fine = ap sound (sym value) ∙ answer .fine;

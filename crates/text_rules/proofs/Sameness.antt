@@ -5,7 +5,7 @@ use mathlib.Core.Bool.{true}
 use mathlib.Core.List.{List, [], _∷_, _++_, map}
 use lib.ListN.{length, length-map}
 use Rattle.register.specs.Limits.{actorLimit, resourceLimit, claimLimit}
-use Rattle.register.specs.Register.{resourcesOf, Standing, resourceStanding, Same, Shaped}
+use Rattle.register.specs.Register.{actorsOf, resourcesOf, claimsOf, claimAs, Standing, resourceStanding, Same, Shaped}
 use Rattle.register.specs.declared.Resource.{Resource}
 use Rattle.register.specs.declared.Register.{Register}
 use Rattle.soundness_rules.specs.Sound.{sound}
@@ -19,6 +19,7 @@ use Rattle.text_rules.specs.Registers.{actorText, resourceForms, resourc
 use Rattle.text_rules.specs.Actions.{ShapedAction, actionText, actionRead}
 use Rattle.text_rules.specs.ActionCodec.{pieces-same}
 use Rattle.text_rules.specs.ActionTexts.{same-action-sym, same-action-trans}
+use Rattle.text_rules.proofs.Entries.{claims-as-text}
 use Rattle.text_rules.proofs.RegisterLaws.{read-written}
 use Rattle.text_rules.proofs.ActionLaws as actions
 
@@ -30,6 +31,7 @@ same-sym r s same = record {
   resources = sym (same .resources);
   claimCount = sym (same .claimCount);
   claims = sym (same .claims);
+  version = sym (same .version);
 }
 
 pub same-trans : (q r s : Register) → Same q r → Same r s → Same q s
@@ -40,6 +42,7 @@ same-trans q r s one other = record {
   resources = one .resources ∙ other .resources;
   claimCount = one .claimCount ∙ other .claimCount;
   claims = one .claims ∙ other .claims;
+  version = one .version ∙ other .version;
 }
 
 -- the text of a resource is that of the resource as it stands
@@ -57,15 +60,27 @@ standing-section l =
     ap (λ (t : List ℕ). formLine (count resourcesKey resourceLimit) (length l) ++ t) (standing-texts l)
     ∙ ap (λ (n : ℕ). formLine (count resourcesKey resourceLimit) n ++ texts standingText (map resourceStanding l)) (sym (length-map l resourceStanding))
 
+-- the text of claims is that of the claims as they count
+claims-section-same : (r s : Register) → Same r s
+    → sectionText claimsKey claimLimit (claimText (r .version)) (claimsOf (r .claims)) ≡ sectionText claimsKey claimLimit (claimText (s .version)) (claimsOf (s .claims))
+claims-section-same r s same =
+    sym (claims-as-text (r .version) (claimsOf (r .claims)))
+    ∙ ap (sectionText claimsKey claimLimit (claimText (r .version))) (same .claims)
+    ∙ ap (λ (n : ℕ). sectionText claimsKey claimLimit (claimText n) (map (claimAs (s .version)) (claimsOf (s .claims)))) (same .version)
+    ∙ claims-as-text (s .version) (claimsOf (s .claims))
+
 -- the same registers have one text
 pub same-text : (r s : Register) → Same r s → registerText r ≡ registerText s
 unfolding registerText
 same-text r s same =
-    ap (λ (t : List ℕ). formLine versionForm 1 ++ t) (pieces-same _ _ _ _ _ _
+    ap (λ (t : List ℕ). formLine versionForm (r .version) ++ t) (pieces-same _ _ _ _ _ _
     (ap (sectionText actorsKey actorLimit actorText) (same .actors))
     (standing-section (resourcesOf (r .resources)) ∙ ap (sectionText resourcesKey resourceLimit standingText) (same .resources)
     ∙ sym (standing-section (resourcesOf (s .resources))))
-    (ap (sectionText claimsKey claimLimit claimText) (same .claims)))
+    (claims-section-same r s same))
+    ∙ ap (λ (n : ℕ). formLine versionForm n ++ (sectionText actorsKey actorLimit actorText (actorsOf (s .actors))
+    ++ (sectionText resourcesKey resourceLimit resourceText (resourcesOf (s .resources))
+    ++ sectionText claimsKey claimLimit (claimText (s .version)) (claimsOf (s .claims))))) (same .version)
 
 -- one text has the same registers
 pub text-same : (r s : Register) → sound r ≡ true → Shaped r → sound s ≡ true → Shaped s → registerText r ≡ registerText s → Same r s

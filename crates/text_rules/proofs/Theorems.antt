@@ -7,6 +7,7 @@ use mathlib.Core.List.{List}
 use mathlib.Core.Logic.{_⊎_}
 use lib.ListN.{length}
 use Rattle.actions.specs.Actions.{noAction}
+use Rattle.register.specs.Limits.{versionOne}
 use Rattle.register.specs.Register.{Same, emptyRegister, Shaped}
 use Rattle.register.specs.declared.Register.{Register}
 use Rattle.soundness_rules.specs.Sound.{sound}
@@ -54,9 +55,13 @@ register-one-text = sameness.same-text
 pub text-one-register : (r s : Register) → sound r ≡ true → Shaped r → sound s ≡ true → Shaped s → registerText r ≡ registerText s → Same r s
 text-one-register = sameness.text-same
 
--- 5. The text of a sound register is never longer than 37,741 bytes.
+-- 5a. The text of a sound register is never longer than 39,789 bytes.
 pub register-text-length : (r : Register) → sound r ≡ true → length (registerText r) ≤ textLimit
 register-text-length = lengths.text-length
+
+-- 5b. That of a sound register of version 1 is never longer than 37,741 bytes.
+pub register-text-length-one : (r : Register) → r .version ≡ versionOne → sound r ≡ true → length (registerText r) ≤ 37741
+register-text-length-one = lengths.text-length-one
 
 -- 6a. A refused reading gives the empty register.
 pub refused-register : (t : List ℕ) (why : Refusal) → registerRead t .outcome ≡ Refused why → registerRead t .register ≡ emptyRegister

@@ -7,10 +7,10 @@ use native.Mathlib.Omega.{arith}
 use lib.Dec.{eqb, leb}
 use lib.ListN.{length, take, length-take}
 use borrow.Author.Tests.{leb-true}
-use Rattle.lists.specs.Tests.{and-left, and-right, and-both}
+use Rattle.lists.specs.Tests.{cases, and-left, and-right, and-both}
 use Rattle.lists.specs.Lists.{every, All}
 use Rattle.lists.specs.Each.{all-imp, every-all, ands-out}
-use Rattle.register.specs.Limits.{actorLimit, resourceLimit, claimLimit, pathLimit, idLimit, weightLimit, momentEnd, pathByteLeast, pathByteGreatest, humanKind, machineKind, ranged, isId}
+use Rattle.register.specs.Limits.{actorLimit, resourceLimit, claimLimit, pathLimit, idLimit, weightLimit, leftLimit, tellsLeft, momentEnd, pathByteLeast, pathByteGreatest, humanKind, machineKind, ranged, isId}
 use Rattle.register.specs.Register.{actorsOf, resourcesOf, claimsOf, pathOf}
 use Rattle.register.specs.Chain.{latest}
 use Rattle.register.specs.declared.Actor.{Actor}
@@ -24,7 +24,7 @@ use Rattle.soundness_rules.specs.Registers.{resource-fits-out, sound-out}
 use Rattle.soundness_rules.specs.Places.{latest-acceptable, earlier-sound}
 use Rattle.lines.specs.Reading.{LineForm}
 use Rattle.lines.specs.Laws.{formFits}
-use Rattle.text_rules.specs.Registers.{actorForms, actorNumbers, resourceForms, resourceNumbers, claimForms, claimNumbers}
+use Rattle.text_rules.specs.Registers.{actorForms, actorNumbers, resourceForms, resourceNumbers, claimForms, claimNumbers, versionForm}
 
 unfoldable pub linesFit : List LineForm → List ℕ → Bool
 linesFit [] numbers = true
@@ -82,9 +82,10 @@ resource-lines-fit human o h =
       short = take-few (o .len) pathLimit (o .path) (told .lenGreatest);
     }
 
-pub claim-lines-fit : (c : Claim) → claimFits c ≡ true → linesFit claimForms (claimNumbers c) ≡ true
-claim-lines-fit c h =
-    let told = claim-fits-out c h in
+pub claim-lines-fit : (version : ℕ) (c : Claim) → claimFits version c ≡ true → linesFit (claimForms version) (claimNumbers version c) ≡ true
+claim-lines-fit version c h =
+    let told = claim-fits-out version c h in
+    let last = lines-fit-more _ _ _ _ (ranged-in 0 (momentEnd - 1) (c .expiry) (omega arith) (let below = told .expiryBelow in omega arith)) (lines-fit-none []) in
     lines-fit-more _ _ _ _ (ranged-in 1 idLimit (c .id) (told .idLeast) (told .idGreatest))
     (lines-fit-more _ _ _ _ (ranged-in 0 idLimit (c .parent) (omega arith) (told .parentGreatest))
     (lines-fit-more _ _ _ _ (ranged-in 1 idLimit (c .grantor) (told .grantorLeast) (told .grantorGreatest))
@@ -92,8 +93,9 @@ claim-lines-fit c h =
     (lines-fit-more _ _ _ _ (ranged-in 1 idLimit (c .resource) (told .resourceLeast) (told .resourceGreatest))
     (lines-fit-more _ _ _ _ (ranged-in 1 (2 ^ rightCount - 1) (c .rights) (told .rightsLeast) (let below = told .rightsBelow in omega arith))
     (lines-fit-more _ _ _ _ (ranged-in 0 weightLimit (c .weight) (omega arith) (told .weightGreatest))
-    (lines-fit-more _ _ _ _ (ranged-in 0 (momentEnd - 1) (c .expiry) (omega arith) (let below = told .expiryBelow in omega arith))
-    (lines-fit-none []))))))))
+    (cases (tellsLeft version)
+    (λ tells. rw tells (lines-fit-more _ _ _ _ (ranged-in 0 leftLimit (c .left) (omega arith) (told .leftGreatest tells)) last))
+    (λ untold. rw untold last))))))))
 
 -- what holds of each the other way round
 all-append-left : {C : Type 0} (Q : C → Type 0) (L M : List C) → All Q (L ++ M) → All Q L
@@ -110,10 +112,11 @@ all-reverse Q (c ∷ L) h =
     let turned = rw (reverse-cons c L) at h in
     (all-last Q (reverse L) c turned, all-reverse Q L (all-append-left Q (reverse L) (c ∷ []) turned))
 
-sound-claims-fit : (w : World) (L : List Claim) → soundClaims w L ≡ true → All (λ c. linesFit claimForms (claimNumbers c) ≡ true) L
+sound-claims-fit : (w : World) (L : List Claim) → soundClaims w L ≡ true
+    → All (λ c. linesFit (claimForms (w .version)) (claimNumbers (w .version) c) ≡ true) L
 sound-claims-fit w [] h = tt
 sound-claims-fit w (c ∷ L) h =
-    (claim-lines-fit c (acceptable-out w L c (latest-acceptable w c L h) .byItself .fits), sound-claims-fit w L (earlier-sound w c L h))
+    (claim-lines-fit (w .version) c (acceptable-out w L c (latest-acceptable w c L h) .byItself .fits), sound-claims-fit w L (earlier-sound w c L h))
 
 -- a register of which each entry may stand in its lines, with no more of them than the limits
 pub record RegisterLines (r : Register) : Type 0 where
@@ -122,7 +125,8 @@ pub record RegisterLines (r : Register) : Type 0 where
   pub fewResources : length (resourcesOf (r .resources)) ≤ resourceLimit
   pub resources : All ResourceLines (resourcesOf (r .resources))
   pub fewClaims : length (claimsOf (r .claims)) ≤ claimLimit
-  pub claims : All (λ c. linesFit claimForms (claimNumbers c) ≡ true) (claimsOf (r .claims))
+  pub claims : All (λ c. linesFit (claimForms (r .version)) (claimNumbers (r .version) c) ≡ true) (claimsOf (r .claims))
+  pub version : formFits versionForm (r .version) ≡ true
 
 pub register-lines-fit : (r : Register) → sound r ≡ true → RegisterLines r
 register-lines-fit r h =
@@ -136,6 +140,7 @@ register-lines-fit r h =
       resources = all-imp (λ o. resourceFits people o ≡ true) ResourceLines (resource-lines-fit people)
           (resourcesOf (r .resources)) (every-all (resourceFits people) (resourcesOf (r .resources)) (told .resources .fit));
       fewClaims = take-few (r .claims .count) claimLimit (r .claims .list) (told .limits .claimCount);
-      claims = all-reverse (λ c. linesFit claimForms (claimNumbers c) ≡ true) (claimsOf (r .claims))
-          (sound-claims-fit (worldOf (actorsOf (r .actors)) (resourcesOf (r .resources))) (latest (claimsOf (r .claims))) (told .claims));
+      claims = all-reverse (λ c. linesFit (claimForms (r .version)) (claimNumbers (r .version) c) ≡ true) (claimsOf (r .claims))
+          (sound-claims-fit (worldOf (r .version) (actorsOf (r .actors)) (resourcesOf (r .resources))) (latest (claimsOf (r .claims))) (told .claims));
+      version = told .version;
     }

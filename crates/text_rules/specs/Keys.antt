@@ -48,6 +48,9 @@ rightsKey = bytes "rights="
 abbrev pub weightKey : List ℕ
 weightKey = bytes "weight="
 
+abbrev pub leftKey : List ℕ
+leftKey = bytes "left="
+
 abbrev pub expiryKey : List ℕ
 expiryKey = bytes "expiry="
 

@@ -1,9 +1,9 @@
 -- Laws: How long a text can be: each line is no longer than that of its greatest number, and so on up to the text of a sound register, which is never
--- longer than 37,741 bytes. Assumes nothing.
+-- longer than 39,789 bytes, in version 1 than 37,741. Assumes nothing.
 use Prim.Native.Nat.{ℕ, zero, suc, _+_, _*_, _/_, _≤_, _<_}
-use mathlib.Core.Path.{_≡_, refl}
+use mathlib.Core.Path.{_≡_, refl, ap}
 use mathlib.Core.List.{List, [], _∷_, _++_}
-use mathlib.Core.Bool.{true}
+use mathlib.Core.Bool.{true, cond}
 use native.Mathlib.Omega.{arith}
 use native.Mathlib.Decide.{decLt}
 use native.Mathlib.Nat.{suc-mul}
@@ -12,7 +12,7 @@ use lib.ListN.{length, length-append}
 use Rattle.lists.specs.Tests.{cases, and-left, and-right}
 use Rattle.lists.specs.Each.{all-imp}
 use Rattle.lists.specs.Lists.{All}
-use Rattle.register.specs.Limits.{humanKind, actorLimit, resourceLimit, claimLimit}
+use Rattle.register.specs.Limits.{humanKind, actorLimit, resourceLimit, claimLimit, versionOne, tellsLeft}
 use Rattle.register.specs.Register.{actorsOf, resourcesOf, claimsOf, pathOf}
 use Rattle.register.specs.declared.Actor.{Actor}
 use Rattle.register.specs.declared.Resource.{Resource}
@@ -22,7 +22,7 @@ use Rattle.soundness_rules.specs.Sound.{sound}
 use Rattle.soundness_rules.specs.Laws.{ranged-greatest, ranged-in}
 use Rattle.decimals.specs.Decimals.{digits, digitsWith}
 use Rattle.decimals.specs.Walk.{length-small, length-step}
-use Rattle.lines.specs.Lines.{lineFeed, machineLine, wordLine, decimalLine, scopeLine}
+use Rattle.lines.specs.Lines.{lineFeed, machineLine, wordLine, scopeLine}
 use Rattle.lines.specs.Reading.{LineForm, decimal, kind, count, formLine}
 use Rattle.lines.specs.Laws.{decimal-line-length, formFits}
 use Rattle.text_rules.specs.Records.{linesText, texts, sectionText}
@@ -101,9 +101,12 @@ resource-width : linesWidth resourceForms ≡ 37
 unfolding linesWidth formWidth digits digitsWith
 resource-width = refl
 
-claim-width : linesWidth claimForms ≡ 111
+abbrev claimWidth : ℕ → ℕ
+claimWidth version = cond (tellsLeft version) 119 111
+
+claim-width : (version : ℕ) → linesWidth (claimForms version) ≡ claimWidth version
 unfolding linesWidth formWidth digits digitsWith
-claim-width = refl
+claim-width version = cases (tellsLeft version) (λ e. rw e) (λ e. rw e)
 
 actors-width : formWidth (count actorsKey actorLimit) ≡ 10
 unfolding formWidth digits digitsWith
@@ -117,9 +120,9 @@ claims-width : formWidth (count claimsKey claimLimit) ≡ 11
 unfolding formWidth digits digitsWith
 claims-width = refl
 
-version-length : length (formLine versionForm 1) ≡ 11
-unfolding decimalLine digits digitsWith
-version-length = refl
+version-width : formWidth versionForm ≡ 11
+unfolding formWidth digits digitsWith
+version-width = refl
 
 pub scope-line-length : (p : List ℕ) → length (scopeLine p) ≡ length p + 7
 unfolding scopeLine
@@ -139,25 +142,36 @@ resource-text-length o h =
       length-append (linesText resourceForms (resourceNumbers o)) (scopeLine (pathOf o)),
     )
 
-claim-text-length : (c : Claim) → linesFit claimForms (claimNumbers c) ≡ true → length (claimText c) ≤ 111
-claim-text-length c h = omega (arith, lines-length claimForms (claimNumbers c) h, claim-width)
+claim-text-length : (version : ℕ) (c : Claim) → linesFit (claimForms version) (claimNumbers version c) ≡ true → length (claimText version c) ≤ claimWidth version
+claim-text-length version c h = omega (arith, lines-length (claimForms version) (claimNumbers version c) h, claim-width version)
 
--- the text of a sound register is never longer than 37,741 bytes
-pub text-length : (r : Register) → sound r ≡ true → length (registerText r) ≤ textLimit
+-- the text of a sound register, by how long a claim's is
+text-width : (r : Register) → sound r ≡ true → length (registerText r) ≤ 11 + (2378 + (6925 + (11 + claimLimit * claimWidth (r .version))))
 unfolding registerText
-text-length r h =
+text-width r h =
     let fit = register-lines-fit r h in
     let actors = actorsOf (r .actors) in
     let resources = resourcesOf (r .resources) in
     let claims = claimsOf (r .claims) in
-    let version = formLine versionForm 1 in
+    let version = formLine versionForm (r .version) in
     let first = sectionText actorsKey actorLimit actorText actors in
     let second = sectionText resourcesKey resourceLimit resourceText resources in
-    let third = sectionText claimsKey claimLimit claimText claims in
+    let third = sectionText claimsKey claimLimit (claimText (r .version)) claims in
     let a = section-text-length actorText 37 actorsKey actorLimit actors (fit .fewActors)
     (all-imp (λ a. linesFit actorForms (actorNumbers a) ≡ true) (λ a. length (actorText a) ≤ 37) actor-text-length actors (fit .actors)) in
     let o = section-text-length resourceText 108 resourcesKey resourceLimit resources (fit .fewResources)
     (all-imp ResourceLines (λ o. length (resourceText o) ≤ 108) resource-text-length resources (fit .resources)) in
-    let c = section-text-length claimText 111 claimsKey claimLimit claims (fit .fewClaims)
-    (all-imp (λ c. linesFit claimForms (claimNumbers c) ≡ true) (λ c. length (claimText c) ≤ 111) claim-text-length claims (fit .claims)) in
-    four-length version first second third 11 2378 6925 28427 (omega (arith, version-length)) (omega (arith, a, actors-width)) (omega (arith, o, resources-width)) (omega (arith, c, claims-width))
+    let c = section-text-length (claimText (r .version)) (claimWidth (r .version)) claimsKey claimLimit claims (fit .fewClaims)
+    (all-imp (λ c. linesFit (claimForms (r .version)) (claimNumbers (r .version) c) ≡ true) (λ c. length (claimText (r .version) c) ≤ claimWidth (r .version))
+    (claim-text-length (r .version)) claims (fit .claims)) in
+    four-length version first second third 11 2378 6925 (11 + claimLimit * claimWidth (r .version))
+    (omega (arith, form-length versionForm (r .version) (fit .version), version-width)) (omega (arith, a, actors-width)) (omega (arith, o, resources-width))
+    (omega (arith, c, claims-width))
+
+-- it is never longer than 39,789 bytes
+pub text-length : (r : Register) → sound r ≡ true → length (registerText r) ≤ textLimit
+text-length r h = cases (tellsLeft (r .version)) (λ e. let wide = rw e at (text-width r h) in omega (arith, wide)) (λ e. let wide = rw e at (text-width r h) in omega (arith, wide))
+
+-- and in version 1 than 37,741
+pub text-length-one : (r : Register) → r .version ≡ versionOne → sound r ≡ true → length (registerText r) ≤ 37741
+text-length-one r one h = let wide = rw (ap tellsLeft one) at (text-width r h) in omega (arith, wide)

@@ -33,43 +33,52 @@ pub record Pair (A B : Type 0) : Type 0 where
   pub first : A
   pub second : B
 
-module _ {A B : Type 0} (C : Codec A) (D : Codec B) where
+-- where the first decides how the second is read
+module _ {A B : Type 0} (C : Codec A) (D : A → Codec B) where
   abbrev pub bothRead : State → Read (Pair A B)
   bothRead st =
       let one = C .read st in
-      let other = D .read (one .state) in
+      let other = D (one .value) .read (one .state) in
       record { value = record { first = one .value; second = other .value }; state = other .state }
 
   abbrev pub bothText : Pair A B → List ℕ
-  bothText p = C .text (p .first) ++ D .text (p .second)
+  bothText p = C .text (p .first) ++ D (p .first) .text (p .second)
 
   pub record BothFit (p : Pair A B) : Type 0 where
     pub one : C .Fits (p .first)
-    pub other : D .Fits (p .second)
+    pub other : D (p .first) .Fits (p .second)
 
   pub pair-reads : (p : Pair A B) (rest : List ℕ) (l : ℕ) → BothFit p → ReadsAs bothRead (bothText p ++ rest) l p rest
   pair-reads p rest l h =
-      let one = C .reads (p .first) (D .text (p .second) ++ rest) l (h .one) in
-      let other = D .reads (p .second) rest (one .next) (h .other) in
-      let shape : bothText p ++ rest ≡ C .text (p .first) ++ (D .text (p .second) ++ rest) = append-assoc (C .text (p .first)) (D .text (p .second)) rest in
+      let follows : List ℕ = D (p .first) .text (p .second) ++ rest in
+      let one = C .reads (p .first) follows l (h .one) in
+      let other = D (p .first) .reads (p .second) rest (one .next) (h .other) in
+      let shape : bothText p ++ rest ≡ C .text (p .first) ++ follows = append-assoc (C .text (p .first)) (D (p .first) .text (p .second)) rest in
+      let before : Read A = C .read (going (C .text (p .first) ++ follows) l) in
       rw shape (record {
         next = other .next;
         value = rw (one .value, one .state, other .value);
-        state = ap (λ (st : State). D .read st .state) (one .state) ∙ other .state;
+        state = ap (λ (a : A). D a .read (before .state) .state) (one .value) ∙ ap (λ (st : State). D (p .first) .read st .state) (one .state) ∙ other .state;
       })
 
   pub pair-stood : (st : State) (rest : List ℕ) (m : ℕ) → bothRead st .state ≡ going rest m → Stood bothText BothFit (bothRead st .value) st rest
   pair-stood st rest m h =
-      let other = D .stood (C .read st .state) rest m h in
-      let one = C .stood st (D .text (D .read (C .read st .state) .value) ++ rest) (other .at) (other .before) in
+      let a : A = C .read st .value in
+      let b : B = D a .read (C .read st .state) .value in
+      let other = D a .stood (C .read st .state) rest m h in
+      let one = C .stood st (D a .text b ++ rest) (other .at) (other .before) in
       record {
         at = one .at;
-        before = one .before ∙ ap (λ (u : List ℕ). going u (one .at)) (sym (append-assoc (C .text (C .read st .value)) (D .text (D .read (C .read st .state) .value)) rest));
+        before = one .before ∙ ap (λ (u : List ℕ). going u (one .at)) (sym (append-assoc (C .text a) (D a .text b) rest));
         fits = record { one = one .fits; other = other .fits };
       }
 
-  abbrev pub pairCodec : Codec (Pair A B)
-  pairCodec = record { read = bothRead; text = bothText; Fits = BothFit; reads = pair-reads; stood = pair-stood }
+  abbrev pub decidedCodec : Codec (Pair A B)
+  decidedCodec = record { read = bothRead; text = bothText; Fits = BothFit; reads = pair-reads; stood = pair-stood }
+
+-- where it does not
+abbrev pub pairCodec : {A B : Type 0} → Codec A → Codec B → Codec (Pair A B)
+pairCodec C D = decidedCodec C (λ a. D)
 
 -- a thing made of another: `of` makes it, `apart` takes it apart, and what was read is what the made thing is taken apart into
 module _ {A B : Type 0} (C : Codec B) (of : B → A) (apart : A → B) (back : (st : State) → apart (of (C .read st .value)) ≡ C .read st .value) where

@@ -6,7 +6,7 @@ use refusals::Outcome;
 use register::Register;
 
 // No text of a sound register is longer.
-pub const REGISTER_TEXT: usize = 37741;
+pub const REGISTER_TEXT: usize = 39789;
 
 // A register that was read. Refused: the empty register, and the failing line from 1, or 0 where the register is not sound. Accepted:
 // line 0.

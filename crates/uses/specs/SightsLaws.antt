@@ -39,7 +39,7 @@ use Rattle.uses.specs.Relying.{claimStanding, claimPlaces, places-within
 -- ---- the claim relied on: its hops
 module _ (r : Register) (shaped : Shaped r) (h : sound r ≡ true) where
   abbrev pub around : World
-  around = worldOf (actorsOf (r .actors)) (resourcesOf (r .resources))
+  around = worldOf (r .version) (actorsOf (r .actors)) (resourcesOf (r .resources))
 
   pub few : r .claims .count ≤ claimLimit
   few = sound-out r h .limits .claimCount

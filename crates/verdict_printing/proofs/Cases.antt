@@ -7,7 +7,7 @@ use Rattle.lists.specs.Lists.{dropping, same, distinct}
 use Rattle.paths.specs.Containment.{components, climbing, trimmed, starting, contained}
 use Rattle.rights.specs.Rights.{hasRight, hasRights, barsMachine}
 use Rattle.register.specs.Chain.{chain, rootGranted, circling}
-use Rattle.soundness_rules.specs.Sound.{actorFits, resourceFits, claimFits, namesStand, rootKept, drawnFrom, machineMay, overChain, drawn, fresh, alone, over, acceptable, soundClaims, soundActors, soundResources, withinLimits, sound}
+use Rattle.soundness_rules.specs.Sound.{actorFits, resourceFits, claimFits, namesStand, rootKept, drawnFrom, machineMay, overChain, drawn, fresh, alone, over, acceptable, soundClaims, eachStored, soundActors, soundResources, withinLimits, sound}
 use Rattle.refusals.specs.Refusals.{outcomeOf}
 use Rattle.actions.specs.Actions.{actionFits}
 use Rattle.gate_rules.specs.Gate.{publicRead, contains, covering, covers, isOwnerless, ownerLacks, firstOf, flagsSet, governed, useViolation, useViolations, violationsOf, actionTests, gateTests, gated}
@@ -29,7 +29,7 @@ printed-in-R : map (printed caseText) (
     ∷ lined "verdict=permitted violations=0"
     ∷ lined "verdict=refused violations=4 violation=1 at=0 violation=1 at=9 violation=3 at=0 violation=3 at=1"
     ∷ []
-unfolding printed verdictText listText pairText stoppedText texts decimalLine digits digitsWith registerRead registerFrom readActors readResources readClaims actionRead actionOf readAction readUses readGoverns values passed many parseLimited atLeast begins ended parse canonical digitRun after value parseWord parseScope pathOn gated gateTests actionTests outcomeOf actionFits violationsOf flagsSet dropping isOwnerless governed useViolations useViolation covers covering publicRead contains ownerLacks firstOf contained climbing components same trimmed starting sound withinLimits soundActors soundResources soundClaims acceptable alone over fresh drawn overChain machineMay drawnFrom rootKept namesStand claimFits resourceFits actorFits distinct chain circling rootGranted hasRight hasRights barsMachine
+unfolding printed verdictText listText pairText stoppedText texts decimalLine digits digitsWith registerRead registerFrom readActors readResources readClaims eachStored actionRead actionOf readAction readUses readGoverns values passed many parseLimited atLeast begins ended parse canonical digitRun after value parseWord parseScope pathOn gated gateTests actionTests outcomeOf actionFits violationsOf flagsSet dropping isOwnerless governed useViolations useViolation covers covering publicRead contains ownerLacks firstOf contained climbing components same trimmed starting sound withinLimits soundActors soundResources soundClaims acceptable alone over fresh drawn overChain machineMay drawnFrom rootKept namesStand claimFits resourceFits actorFits distinct chain circling rootGranted hasRight hasRights barsMachine
 printed-in-R = refl
 
 abbrev nobody : List ℕ
@@ -42,12 +42,12 @@ printed-stopped :
     × (printed [] [] ≡ lined "verdict=stopped refusal=19")
     × (printed nobody [] ≡ lined "verdict=stopped refusal=19")
     × (printed nobody (lined "now=0 actor=2 flags=0 uses=33") ≡ lined "verdict=stopped refusal=20")
-unfolding printed verdictText stoppedText decimalLine digits digitsWith registerRead registerFrom readActors readResources readClaims actionRead actionOf readAction readUses readGoverns values passed many parseLimited atLeast begins ended parse canonical digitRun after value parseWord parseScope pathOn gated gateTests actionTests outcomeOf actionFits sound withinLimits soundActors soundResources soundClaims actorFits resourceFits distinct hasRight
+unfolding printed verdictText stoppedText decimalLine digits digitsWith registerRead registerFrom readActors readResources readClaims eachStored actionRead actionOf readAction readUses readGoverns values passed many parseLimited atLeast begins ended parse canonical digitRun after value parseWord parseScope pathOn gated gateTests actionTests outcomeOf actionFits sound withinLimits soundActors soundResources soundClaims actorFits resourceFits distinct hasRight
 printed-stopped = (refl, refl, refl, refl, refl)
 
 -- the first refusal is printed: a register that is refused with 20, whatever is wrong with the action
 printed-first : printed (lined "register=1 actors=65") [] ≡ lined "verdict=stopped refusal=20"
-unfolding printed stoppedText decimalLine digits digitsWith registerRead registerFrom readActors readResources readClaims values passed many parseLimited atLeast begins ended parse canonical digitRun after value
+unfolding printed stoppedText decimalLine digits digitsWith registerRead registerFrom readActors readResources readClaims eachStored values passed many parseLimited atLeast begins ended parse canonical digitRun after value
 printed-first = refl
 
 -- the register, then the clock, before the JSON action: 20 before a clock that is none; 19 of no clock and of a line behind it; 2 of a moment past its
@@ -57,5 +57,5 @@ json-printed-stopped :
     × (jsonPrinted nobody [] [] ≡ lined "verdict=stopped refusal=19")
     × (jsonPrinted nobody (lined "now=0 now=0") [] ≡ lined "verdict=stopped refusal=19")
     × (jsonPrinted nobody (lined "now=4294967296") [] ≡ lined "verdict=stopped refusal=2")
-unfolding jsonPrinted stoppedText decimalLine digits digitsWith registerRead registerFrom readActors readResources readClaims values passed many parseLimited atLeast begins ended parse canonical digitRun after value sound withinLimits soundActors soundResources soundClaims distinct
+unfolding jsonPrinted stoppedText decimalLine digits digitsWith registerRead registerFrom readActors readResources readClaims eachStored values passed many parseLimited atLeast begins ended parse canonical digitRun after value sound withinLimits soundActors soundResources soundClaims distinct
 json-printed-stopped = (refl, refl, refl, refl)

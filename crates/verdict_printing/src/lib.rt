@@ -134,7 +134,7 @@ fn compose(buf: &mut [u8], register: &[u8], action: &[u8]) -> usize
     let claims = state.claims;
     let mut sheet = [0u32; columns::SHEET];
     columns::put_claims(&mut sheet, claims);
-    let known = soundness::examine_sheet(actors, resources, &sheet, claims.count);
+    let known = soundness::examine_sheet(state.version, actors, resources, &sheet, claims.count);
     if !known.sound {
         return put_stopped(buf, Refusal::Unsound);
     }
@@ -225,7 +225,7 @@ fn compose_texts(buf: &mut [u8], register: &[u8], clock: &[u8], action: &[u8]) -
     let claims = state.claims;
     let mut sheet = [0u32; columns::SHEET];
     columns::put_claims(&mut sheet, claims);
-    let known = soundness::examine_sheet(actors, resources, &sheet, claims.count);
+    let known = soundness::examine_sheet(state.version, actors, resources, &sheet, claims.count);
     if !known.sound {
         return put_stopped(buf, Refusal::Unsound);
     }

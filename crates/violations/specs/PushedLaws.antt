@@ -1,11 +1,14 @@
--- Laws: What putting violations to the end of a held list is over lists, and how many violations flags and governed entries give. Assumes nothing.
+-- Laws: What putting violations to the end of a held list is over lists, that there are never more than places, and how many violations flags and governed
+-- entries give. Assumes nothing.
 use mathlib.Core.Path.{_≡_, refl, sym, ap, _∙_}
 use mathlib.Core.List.{List, [], _∷_, _++_, map, map-append, append-assoc, append-nil}
 use Prim.Native.Nat.{ℕ, suc, _+_, _-_, _≤_, _<_}
 use native.Mathlib.Omega.{arith}
-use borrow.Author.Tests.{lt-ltb}
+use borrow.Author.Tests.{lt-ltb, ltb-true}
+use lib.Dec.{ltb}
 use lib.ListN.{length, set, replicate, length-map, length-append}
 use lib.Seq.{set-at}
+use Rattle.lists.specs.Tests.{cases}
 use Rattle.lists.specs.Lists.{counted}
 use Rattle.actions.specs.Actions.{violationLimit}
 use Rattle.actions.specs.declared.Violated.{Violated}
@@ -48,6 +51,17 @@ pub pushed-all-append : (vs : Violations) (l m : List Violation) → pushedAll v
 unfolding pushedAll
 pushed-all-append vs [] m = refl
 pushed-all-append vs (v ∷ l) m = pushed-all-append (pushed vs v) l m
+
+-- no more are put than there are places
+pushed-most : (vs : Violations) (v : Violation) → vs .count ≤ violationLimit → pushed vs v .count ≤ violationLimit
+unfolding pushed
+pushed-most vs v few =
+    cases (ltb (vs .count) violationLimit) (λ e. rw e (omega (arith, ltb-true (vs .count) violationLimit e))) (λ e. rw e few)
+
+pub pushed-all-most : (l : List Violation) (vs : Violations) → vs .count ≤ violationLimit → pushedAll vs l .count ≤ violationLimit
+unfolding pushedAll
+pushed-all-most [] vs few = few
+pushed-all-most (v ∷ l) vs few = pushed-all-most l (pushed vs v) (pushed-most vs v few)
 
 -- governed entries give violations by their positions, one for each
 pub governed-counted : (n : ℕ) (entries : List ℕ) → governed n entries ≡ map (λ i. MachineGoverns i) (counted n (length entries))

@@ -24,8 +24,8 @@ use Rattle.withdrawing.specs.Struck.{askedTests}
 
 -- what the columns that were found are asked is what the register is asked
 module _ (r : Register) {s : List ℕ} {found : Findings} (opened : Opened r s found) where
-  world : worldBy (found .actors .names) (found .actors .kinds) (found .actors .owners) (r .actors .count) (found .resources .reports) (found .resources .keepers) (r .resources .count) ≡ worldIn r
-  world = world-natural (r .actors) (r .resources) (judged-actors r opened) (judged-resources r opened)
+  world : worldBy (r .version) (found .actors .names) (found .actors .kinds) (found .actors .owners) (r .actors .count) (found .resources .reports) (found .resources .keepers) (r .resources .count) ≡ worldIn r
+  world = world-natural (r .version) (r .actors) (r .resources) (judged-actors r opened) (judged-resources r opened)
 
   module _ (who : ℕ) {known : Bool} (knows : known ≡ any (eqb who) (take (r .actors .count) (found .actors .names))) where
     pub known-told : known ≡ worldIn r .known who

@@ -197,7 +197,7 @@ pub fn revoke(r: Register, who: u32, x: u32) -> Struck
     let o = r.resources;
     let k = r.claims;
     let mut sheet = [0u32; columns::SHEET];
-    let found = soundness::examine(&mut sheet, a, o, k);
+    let found = soundness::examine(&mut sheet, r.version, a, o, k);
     let known = columns::is_among(&found.actors.names, a.count, who);
     let ids = columns::column(&sheet, columns::IDS);
     let stands = columns::is_among(ids, k.count, x);
@@ -223,7 +223,7 @@ pub fn clear_resource(r: Register, caller: u32, resource: u32) -> Struck
     let o = r.resources;
     let k = r.claims;
     let mut sheet = [0u32; columns::SHEET];
-    let found = soundness::examine(&mut sheet, a, o, k);
+    let found = soundness::examine(&mut sheet, r.version, a, o, k);
     let known = columns::is_among(&found.actors.names, a.count, caller);
     let listed = columns::is_among(&found.resources.reports, o.count, resource);
     let keeps = columns::is_beside(
@@ -254,7 +254,7 @@ pub fn clear_expired(r: Register, caller: u32, moment: u64) -> Struck
     let o = r.resources;
     let k = r.claims;
     let mut sheet = [0u32; columns::SHEET];
-    let found = soundness::examine(&mut sheet, a, o, k);
+    let found = soundness::examine(&mut sheet, r.version, a, o, k);
     let known = columns::is_among(&found.actors.names, a.count, caller);
     let human = columns::is_beside(
         &found.actors.names,

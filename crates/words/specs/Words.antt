@@ -26,7 +26,7 @@ refusalTexts =
     ∷ bytes "parent lacks DELEGATE"
     ∷ bytes "a right the parent lacks"
     ∷ bytes "weight above the parent's"
-    ∷ bytes "more than 16 hops"
+    ∷ bytes "more than 16 hops, or left not below the parent's"
     ∷ bytes "circle: the holder holds a claim higher on the chain, or granted its root"
     ∷ bytes "claim to revoke does not stand"
     ∷ bytes "revoker is no grantor on that claim's chain, or caller is not the keeper or not human"

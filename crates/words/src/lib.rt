@@ -76,7 +76,7 @@ parent, or a claim above it, not live at the moment
 parent lacks DELEGATE
 a right the parent lacks
 weight above the parent's
-more than 16 hops
+more than 16 hops, or left not below the parent's
 circle: the holder holds a claim higher on the chain, or granted its root
 claim to revoke does not stand
 revoker is no grantor on that claim's chain, or caller is not the keeper or not human

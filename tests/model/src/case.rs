@@ -260,7 +260,7 @@ impl Call {
                 yes_or_no(answer.contained == 1)
             }
             Call::Grant { claim, now, keep } => {
-                let count = state.claims.count;
+                let (count, version) = (state.claims.count, state.version);
                 let place = state.claims.list.get(count).copied();
                 let result = model.grant(state, claim, *now);
                 state.put(out);
@@ -268,6 +268,7 @@ impl Call {
                 if let (Ok(()), false, Some(place)) = (result, keep, place) {
                     state.claims.list[count] = place;
                     state.claims.count = count;
+                    state.version = version;
                 }
                 outcome(result)
             }
@@ -488,7 +489,8 @@ mod tests {
         register.actors.push(Actor { id: 1, kind: HUMAN, owner: 0 });
         register.resources.push(Resource { id: 1, keeper: 1, ..Resource::ZERO });
         register.claims.list[0].id = 77;
-        let claim = Claim { id: 1, parent: 0, grantor: 1, holder: 1, resource: 1, rights: 1, weight: 1, expiry: 0 };
+        let claim =
+            Claim { id: 1, parent: 0, grantor: 1, holder: 1, resource: 1, rights: 1, weight: 1, left: 0, expiry: 0 };
         let before = register.clone();
         let mut out = Vec::new();
         let grant = |keep| Call::Grant { claim, now: 0, keep };

@@ -1,13 +1,13 @@
 //! The comparison: scripts go to the driver in batches, and each whole answer is held against the model's.
 
-use crate::case::{outcome_name, Call, Outcome, Script, CALLS, KINDS, NAMES, WITHDRAWALS};
+use crate::case::{outcome_name, Call, Outcome, Script, CALLS, KINDS, NAMES, WITHDRAWALS, YES};
 use crate::driver::Driver;
 use crate::generate::random::Random;
 use crate::generate::{actions, changes, json, registers, texts, trees};
 use crate::pairs::{Answers, Pair, DEMANDED};
 use crate::{saved, shrink};
 use guvrendik_model::model::words::Words;
-use guvrendik_model::model::Model;
+use guvrendik_model::model::{Model, Refusal};
 use guvrendik_model::requests::{put_request, Request, STACK_ORDER};
 use guvrendik_model::shapes::*;
 use guvrendik_model::types::*;
@@ -51,6 +51,9 @@ pub struct Tally {
     pub pairs_on_one_chain: u64,
     /// How often a call of a pair had these outcomes, when it came first and when it came second.
     pub pair_outcomes: BTreeMap<(Outcome, Outcome), u64>,
+    /// How many calls were made on a register of each version; and of the grants among them, how often each outcome was met.
+    pub versions: BTreeMap<u64, u64>,
+    pub grants: BTreeMap<(u64, Outcome), u64>,
     /// How many violations of each kind the gate of the library listed.
     pub kinds: BTreeMap<u32, u64>,
 }
@@ -180,8 +183,15 @@ impl<'c> Comparison<'c> {
                 continue;
             }
             expected.clear();
+            let version = state.version;
             let outcome = call.answer(&self.model, &mut state, &mut expected);
             self.tally.calls[call.number()] += 1;
+            if script.register.is_some() {
+                *self.tally.versions.entry(version).or_default() += 1;
+            }
+            if let Call::Grant { .. } = call {
+                *self.tally.grants.entry((version, outcome)).or_default() += 1;
+            }
             *self.tally.outcomes.entry((call.number(), outcome)).or_default() += 1;
             call.kinds(&got).into_iter().for_each(|kind| *self.tally.kinds.entry(kind).or_default() += 1);
             if expected == got {
@@ -370,7 +380,9 @@ impl<'c> Comparison<'c> {
 
     /// Structs with a number of its own in every field, passed through and back.
     pub fn boundary(&mut self, random: &mut Random) -> io::Result<()> {
-        let register = texts::register_text(&registers::sound(random, FULL, false));
+        let one = registers::sound(random, FULL, false);
+        let two = registers::as_two(random, &one, false);
+        let register = texts::register_text(&two);
         let action = texts::action_text(&Action {
             actor: 60_001,
             flags: 777,
@@ -515,9 +527,12 @@ fn said_stack(name: &str) -> u64 {
     said.chars().take_while(|c| *c != ' ').filter(char::is_ascii_digit).collect::<String>().parse().unwrap_or(0)
 }
 
-/// An input for all calls at once.
+/// An input for all calls at once, of either version.
 fn put_input(random: &mut Random, shape: Shape, out: &mut Vec<u8>) {
-    let register = registers::sound(random, shape, false);
+    let mut register = registers::sound(random, shape, false);
+    if random.chance(50) {
+        register = registers::as_two(random, &register, false);
+    }
     let action = actions::action(random, &register);
     let text = texts::action_text(&action);
     register.put(out);
@@ -570,8 +585,26 @@ impl Tally {
             }
         }
         println!("{:>7} cases", self.calls.iter().sum::<u64>());
+        self.summarise_versions();
         self.summarise_kinds();
         self.summarise_pairs();
+    }
+
+    /// Prints how many calls were on a register of each version, and counts that 0 to 3 were met, and in 1 and 2 each refusal that the version
+    /// has a part in.
+    fn summarise_versions(&mut self) {
+        for version in 0..=3 {
+            let count = self.versions.get(&version).copied().unwrap_or(0);
+            println!("{count:>7} cases on a register of version {version}");
+            self.count(count > 0);
+        }
+        for version in [VERSION_1, VERSION_2] {
+            for outcome in [YES, Refusal::Range as Outcome, Refusal::Hops as Outcome] {
+                let count = self.grants.get(&(version, outcome)).copied().unwrap_or(0);
+                println!("{count:>7} grants in version {version}: {}", outcome_name(outcome));
+                self.count(count > 0);
+            }
+        }
     }
 
     /// Prints the violations of each kind, and counts each kind as met; one that there is not has failed.

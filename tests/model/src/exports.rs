@@ -203,5 +203,5 @@ pub unsafe extern "C" fn guvrendik_flag_name(number: u32, buffer: *mut u8, buffe
 
 #[no_mangle]
 pub extern "C" fn guvrendik_version() -> VersionNumbers {
-    VersionNumbers { major: 1, minor: 1, patch: 0 }
+    VersionNumbers { major: 2, minor: 0, patch: 0 }
 }

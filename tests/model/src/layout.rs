@@ -20,11 +20,11 @@ macro_rules! layout {
 layout! {
     "actor" Actor { id, kind, owner }
     "resource" Resource { id, is_public, keeper, len, path }
-    "claim" Claim { id, parent, grantor, holder, resource, rights, weight, expiry }
+    "claim" Claim { id, parent, grantor, holder, resource, rights, weight, left, expiry }
     "actors" Actors { list, count }
     "resources" Resources { list, count }
     "claims" Claims { list, count }
-    "register" Register { actors, resources, claims }
+    "register" Register { actors, resources, claims, version }
     "usage" Usage { resource, right }
     "action" Action { actor, flags, now, uses, used, governs, governed }
     "plan" Plan { actions, count }

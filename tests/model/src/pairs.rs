@@ -89,9 +89,17 @@ mod tests {
         register.resources.push(Resource { id: 1, keeper: 1, ..Resource::ZERO });
         for id in 1..=3 {
             let (rights, weight) = (1 << DELEGATE, 1);
-            let claim =
-                Claim { id, parent: id - 1, grantor: id, holder: id + 1, resource: 1, rights, weight, expiry: 0 };
-            register.claims.push(claim);
+            let (grantor, holder) = (id, id + 1);
+            register.claims.push(Claim {
+                id,
+                parent: id - 1,
+                grantor,
+                holder,
+                resource: 1,
+                rights,
+                weight,
+                ..Claim::ZERO
+            });
         }
         register
     }

@@ -27,8 +27,12 @@ fn line(out: &mut String, text: std::fmt::Arguments) {
 }
 
 fn write_register(register: &Register, out: &mut String) {
-    let Register { actors, resources, claims } = register;
-    line(out, format_args!("register actors={} resources={} claims={}", actors.count, resources.count, claims.count));
+    let Register { actors, resources, claims, version } = register;
+    let counts = (actors.count, resources.count, claims.count);
+    line(
+        out,
+        format_args!("register actors={} resources={} claims={} version={version}", counts.0, counts.1, counts.2),
+    );
     for (at, Actor { id, kind, owner }) in filled(&actors.list) {
         line(out, format_args!("  actor at={at} id={id} kind={kind} owner={owner}"));
     }
@@ -37,15 +41,17 @@ fn write_register(register: &Register, out: &mut String) {
         let path = quoted(&path[..used]);
         line(out, format_args!("  resource at={at} id={id} public={is_public} keeper={keeper} len={len} path={path}"));
     }
-    for (at, Claim { id, parent, grantor, holder, resource, rights, weight, expiry }) in filled(&claims.list) {
-        line(
-            out,
-            format_args!(
-                "  claim at={at} id={id} parent={parent} grantor={grantor} holder={holder} resource={resource} \
-                 rights={rights} weight={weight} expiry={expiry}"
-            ),
-        );
+    for (at, claim) in filled(&claims.list) {
+        line(out, format_args!("  claim at={at} {}", claim_parts(claim)));
     }
+}
+
+fn claim_parts(claim: &Claim) -> String {
+    let Claim { id, parent, grantor, holder, resource, rights, weight, left, expiry } = claim;
+    format!(
+        "id={id} parent={parent} grantor={grantor} holder={holder} resource={resource} rights={rights} weight={weight} \
+         left={left} expiry={expiry}"
+    )
 }
 
 /// The entries that are not all zero, with their positions.
@@ -77,15 +83,7 @@ fn write_call(call: &Call, out: &mut String) {
     match call {
         Call::Sound => line(out, format_args!("call {name}")),
         Call::Grant { claim, now, keep } => {
-            let Claim { id, parent, grantor, holder, resource, rights, weight, expiry } = claim;
-            line(
-                out,
-                format_args!(
-                    "call {name} id={id} parent={parent} grantor={grantor} holder={holder} resource={resource} \
-                     rights={rights} weight={weight} expiry={expiry} now={now} keep={}",
-                    u8::from(*keep)
-                ),
-            );
+            line(out, format_args!("call {name} {} now={now} keep={}", claim_parts(claim), u8::from(*keep)));
         }
         Call::Revoke { revoker, claim, keep } => {
             line(out, format_args!("call {name} revoker={revoker} claim={claim} keep={}", u8::from(*keep)));
@@ -194,6 +192,7 @@ fn read_line(line: &str, script: &mut Script, planned: &mut usize) -> Result<(),
             register.actors.count = number(&parts, "actors")?;
             register.resources.count = number(&parts, "resources")?;
             register.claims.count = number(&parts, "claims")?;
+            register.version = number(&parts, "version")?;
             script.register = Some(register);
         }
         "actor" => {
@@ -293,6 +292,7 @@ fn claim(parts: &Parts) -> Result<Claim, String> {
         resource: number(parts, "resource")?,
         rights: number(parts, "rights")?,
         weight: number(parts, "weight")?,
+        left: number(parts, "left")?,
         expiry: number(parts, "expiry")?,
     })
 }

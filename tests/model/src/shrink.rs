@@ -62,8 +62,9 @@ fn nth_step(script: &Script, mut step: usize) -> Option<Script> {
 }
 
 fn register_steps(register: &Register) -> usize {
-    // The claims first, from the last: others hang from the earlier ones. The last step clears what stands past the counts.
-    counted(&register.claims)
+    // The claims first, from the last: others hang from the earlier ones. Then each is taken out of its chains. The last step clears what
+    // stands past the counts.
+    2 * counted(&register.claims)
         + counted(&register.resources)
         + counted(&register.actors)
         + counted(&register.resources)
@@ -84,10 +85,25 @@ fn drop_from<T: Zero, const LIMIT: usize>(list: &mut List<T, LIMIT>, at: usize) 
     }
 }
 
+/// Drops a claim, and hangs what is drawn from it where it hung itself.
+fn take_out(claims: &mut Claims, at: usize) {
+    let Claim { id, parent, grantor, .. } = claims.list[at];
+    claims
+        .list
+        .iter_mut()
+        .filter(|claim| claim.parent == id)
+        .for_each(|claim| (claim.parent, claim.grantor) = (parent, grantor));
+    drop_from(claims, at);
+}
+
 fn step_register(register: &mut Register, mut step: usize) {
     let claims = counted(&register.claims);
     if step < claims {
         return drop_from(&mut register.claims, claims - 1 - step);
+    }
+    step -= claims;
+    if step < claims {
+        return take_out(&mut register.claims, step);
     }
     step -= claims;
     let resources = counted(&register.resources);
@@ -102,14 +118,14 @@ fn step_register(register: &mut Register, mut step: usize) {
     step -= actors;
     if step < resources {
         let resource = &mut register.resources.list[step];
-        resource.len = if resource.len > PATH { resource.len } else { resource.len / 2 };
+        resource.len = if resource.len as usize > PATH { resource.len } else { resource.len / 2 };
         return;
     }
     register.actors.list[actors..].fill(Actor::ZERO);
     register.resources.list[resources..].fill(Resource::ZERO);
     register.claims.list[claims..].fill(Claim::ZERO);
     for resource in &mut register.resources.list {
-        let used = resource.len.min(PATH);
+        let used = PATH.min(resource.len as usize);
         resource.path[used..].fill(0);
     }
 }

@@ -17,7 +17,7 @@ pub const TEXT_ACTIONS: usize = 64;
 /// Ten flags, one violation of kind 2, eight governed entries and 32 uses.
 pub const VIOLATIONS: usize = 51;
 /// No text of a register is longer than this.
-pub const REGISTER_TEXT: usize = 37_741;
+pub const REGISTER_TEXT: usize = 39_789;
 /// No action that is written as JSON is longer than this.
 pub const JSON_TEXT: usize = 807;
 /// Bytes of a JSON action's id.
@@ -28,9 +28,14 @@ pub const WORD_TEXT: usize = 128;
 pub const ID_MAX: u32 = 65_535;
 pub const RIGHTS_MAX: u32 = 131_071;
 pub const WEIGHT_MAX: u32 = 1_000;
+pub const LEFT_MAX: u32 = 16;
 pub const MOMENT_MAX: u64 = (1 << 32) - 1;
 pub const FLAGS_MAX: u32 = 1_023;
 pub const RIGHT_MAX: u32 = 16;
+
+/// The versions of a register: in the second one a claim says how many more hands it may pass through.
+pub const VERSION_1: u64 = 1;
+pub const VERSION_2: u64 = 2;
 
 pub const HUMAN: u32 = 1;
 pub const MACHINE: u32 = 2;
@@ -92,7 +97,7 @@ pub struct Resource {
     pub id: u32,
     pub is_public: u32,
     pub keeper: u32,
-    pub len: usize,
+    pub len: u32,
     pub path: [u8; PATH],
 }
 
@@ -110,11 +115,13 @@ pub struct Claim {
     pub resource: u32,
     pub rights: u32,
     pub weight: u32,
+    pub left: u32,
     pub expiry: u64,
 }
 
 impl Zero for Claim {
-    const ZERO: Self = Claim { id: 0, parent: 0, grantor: 0, holder: 0, resource: 0, rights: 0, weight: 0, expiry: 0 };
+    const ZERO: Self =
+        Claim { id: 0, parent: 0, grantor: 0, holder: 0, resource: 0, rights: 0, weight: 0, left: 0, expiry: 0 };
 }
 
 pub type Actors = List<Actor, ACTORS>;
@@ -127,10 +134,12 @@ pub struct Register {
     pub actors: Actors,
     pub resources: Resources,
     pub claims: Claims,
+    pub version: u64,
 }
 
 impl Register {
-    pub const EMPTY: Self = Register { actors: List::EMPTY, resources: List::EMPTY, claims: List::EMPTY };
+    pub const EMPTY: Self =
+        Register { actors: List::EMPTY, resources: List::EMPTY, claims: List::EMPTY, version: VERSION_1 };
 }
 
 #[repr(C)]
@@ -184,7 +193,7 @@ pub struct Soundness {
 #[repr(C)]
 #[derive(Clone, Copy, Debug, PartialEq, Eq)]
 pub struct Containment {
-    pub contained: u32,
+    pub contained: u64,
     pub length: usize,
 }
 
@@ -236,7 +245,7 @@ impl Verdict {
 #[derive(Clone, Copy, Debug, PartialEq, Eq)]
 pub struct Judgement {
     pub decision: u32,
-    pub violations: usize,
+    pub violations: u32,
 }
 
 #[repr(C)]
@@ -306,7 +315,7 @@ pub struct JsonRead {
     pub accepted: u32,
     pub refusal: u32,
     pub kind: u32,
-    pub id_len: usize,
+    pub id_len: u32,
     pub id: [u8; JSON_ID],
 }
 

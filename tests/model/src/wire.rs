@@ -1,8 +1,8 @@
-//! The structs as the bytes that C sees, fields at the offsets of `types`, zeros between them: what crosses the pipes to the
+//! The structs as the bytes that C sees, fields at the offsets of `types`, nothing between them: what crosses the pipes to the
 //! driver, and what whole answers are compared as.
 
 use crate::types::*;
-use std::mem::{offset_of, size_of};
+use std::mem::size_of;
 
 /// A value with a fixed number of bytes.
 pub trait Wire: Sized {
@@ -48,35 +48,31 @@ macro_rules! structs {
     ($($name:ty { $($field:ident),* })*) => {$(
         impl Wire for $name {
             fn put(&self, out: &mut Vec<u8>) {
-                let start = out.len();
-                $(
-                    out.resize(start + offset_of!($name, $field), 0);
-                    self.$field.put(out);
-                )*
-                out.resize(start + size_of::<$name>(), 0);
+                $(self.$field.put(out);)*
             }
             fn take(from: &mut &[u8]) -> Self {
-                let (mut front, rest) = from.split_at(size_of::<$name>());
-                *from = rest;
-                let whole = front;
-                $(
-                    front = &whole[offset_of!($name, $field)..];
-                    let $field = Wire::take(&mut front);
-                )*
+                $(let $field = Wire::take(from);)*
                 Self { $($field),* }
             }
         }
-    )*};
+    )*
+        /// By struct: its size, and how many bytes its fields come to.
+        #[cfg(test)]
+        fn sizes() -> Vec<(&'static str, usize, usize)> {
+            let zeros = vec![0; size_of::<RegisterRead>()];
+            vec![$((stringify!($name), size_of::<$name>(), bytes_of(&<$name>::take(&mut &zeros[..])).len())),*]
+        }
+    };
 }
 
 structs! {
     Actor { id, kind, owner }
     Resource { id, is_public, keeper, len, path }
-    Claim { id, parent, grantor, holder, resource, rights, weight, expiry }
+    Claim { id, parent, grantor, holder, resource, rights, weight, left, expiry }
     Actors { list, count }
     Resources { list, count }
     Claims { list, count }
-    Register { actors, resources, claims }
+    Register { actors, resources, claims, version }
     Usage { resource, right }
     Action { actor, flags, now, uses, used, governs, governed }
     Plan { actions, count }
@@ -93,4 +89,14 @@ structs! {
     ActionRead { action, accepted, refusal, line }
     JsonRead { action, accepted, refusal, kind, id_len, id }
     Written { accepted, refusal, length }
+}
+
+#[cfg(test)]
+mod tests {
+    #[test]
+    fn no_struct_has_bytes_between_or_behind_its_fields() {
+        for (name, size, fields) in super::sizes() {
+            assert_eq!(size, fields, "{name}");
+        }
+    }
 }

@@ -10,4 +10,6 @@ returns-2 : tie.Need-returns-2
 returns-2 c = rw (c .before .before .w .given .1, c .yes2 .ensures)
 
 pub contained-spec : {M : Type 1} → statement M
-contained-spec = tie.close (tie.spec (λ c. search needs) (λ c κs. search needs) (λ c. search needs) (λ c κs. search needs) returns returns-2)
+contained-spec =
+    tie.close
+    (tie.spec (λ c. search needs) (λ c κs. search needs) (λ c. search needs) (λ c. search needs) (λ c κs. search needs) (λ c. search needs) returns returns-2)

@@ -7,12 +7,13 @@ use Rattle.claim_judging.proofs.claim_fits.Tie as tie
 
 returns : tie.Need-returns
 returns c =
-    claim-asked (c .before .before .before .before .before .before .before .before .args .c)
-    (c .before .before .before .before .before .before .before .is-id .ensures)
-    (c .before .before .before .before .before .is-id2 .ensures)
-    (c .before .before .before .before .is-id3 .ensures)
-    (c .before .before .before .is-id4 .ensures)
-    (c .before .before .in-range .ensures)
+    let given = c .before .before .before .before .before .before .before .before .before .args in
+    claim-asked (given .version) (given .c)
+    (c .before .before .before .before .before .before .before .before .is-id .ensures)
+    (c .before .before .before .before .before .before .is-id2 .ensures)
+    (c .before .before .before .before .before .is-id3 .ensures)
+    (c .before .before .before .before .is-id4 .ensures)
+    (c .before .before .before .in-range .ensures)
 
 pub claim-fits-spec : {M : Type 1} → statement M
 claim-fits-spec =

@@ -14,7 +14,7 @@ returns-2 : tie.Need-returns-2
 returns-2 c =
     let given = c .before .before .before .before .before .args in
     root-asked
-    (worldBy [] [] [] 0 (given .reports .now) (given .keepers .now) (given .m))
+    (worldBy 0 [] [] [] 0 (given .reports .now) (given .keepers .now) (given .m))
     (given .c)
     (c .before .if1 .left)
     (c .is-beside .ensures)

@@ -7,7 +7,7 @@ use Rattle.claim_judging.proofs.stands_alone.Tie as tie
 returns : tie.Need-returns
 returns c =
     let given = c .before .before .before .before .args in
-    alone-asked (given .c)
+    alone-asked (given .version) (given .c)
     (record {
       grantor = given .grantor;
       holder = given .holder;

@@ -27,20 +27,20 @@ cast-low c = fits-widen tt (c .shared-slice-known2 .given (7 * claimLimit + c .b
 cast-late : tie.Need-cast-late
 cast-late c = fits-widen tt (c .shared-slice-known3 .given (8 * claimLimit + c .before .before .before .before .before .args .i))
 
-mul-t43 : tie.Need-mul-t43
-mul-t43 c =
-    let a = c .before .before .before .before .before .before .before .before .before .before .before .before .args in
-    omega (arith, c .shared-slice-known10 .given (8 * claimLimit + a .i) .fits)
+mul-t48 : tie.Need-mul-t48
+mul-t48 c =
+    let a = c .before .before .before .before .before .before .before .before .before .before .before .before .before .args in
+    omega (arith, c .shared-slice-known11 .given (8 * claimLimit + a .i) .fits)
 
-add-t44 : tie.Need-add-t44
-add-t44 c =
-    let a = c .before .before .before .before .before .before .before .before .before .before .before .before .args in
-    let known = c .shared-slice-known10 .given in
+add-t49 : tie.Need-add-t49
+add-t49 c =
+    let a = c .before .before .before .before .before .before .before .before .before .before .before .before .before .args in
+    let known = c .shared-slice-known11 .given in
     omega (arith, known (7 * claimLimit + a .i) .fits, known (8 * claimLimit + a .i) .fits)
 
 returns-3 : tie.Need-returns-3
 returns-3 c =
-    let tests = c .before .before .before .before .before .before .before .before .before in
+    let tests = c .before .before .before .before .before .before .before .before .before .before in
     let a = tests .before .before .before .args in
     claim-read (a .sheet .now) (a .i) (tests .before .if1 .left) (tests .if2 .left)
 
@@ -90,6 +90,10 @@ claim-at-spec =
     (λ c. search needs)
     (λ c. search needs)
     (λ c. search needs)
-    mul-t43
-    add-t44
+    (λ c. search needs)
+    (λ c. search needs)
+    (λ c. search needs)
+    (λ c. search needs)
+    mul-t48
+    add-t49
     returns-3)

@@ -1,4 +1,4 @@
--- `columns::put_claim` meets its contract: the nine stores are the numbers put one by one, and no store changes how long the sheet is (Sheets).
+-- `columns::put_claim` meets its contract: the ten stores are the numbers put one by one, and no store changes how long the sheet is (Sheets).
 -- Assumes nothing.
 use mathlib.Core.Path.{refl}
 use native.Mathlib.Omega.{arith}
@@ -60,5 +60,9 @@ put-claim-spec =
     (λ c. search needs)
     (λ c. search needs)
     (λ c. let a = c .before .before .args in inside-put (take 8 (numbersOf (a .c))) (a .sheet .now) (a .i) 0 (omega (arith, c .before .before .pre)))
+    (λ c. search needs)
+    (λ c. search needs)
+    (λ c. search needs)
+    (λ c. let a = c .before .before .args in inside-put (take 9 (numbersOf (a .c))) (a .sheet .now) (a .i) 0 (omega (arith, c .before .before .pre)))
     same-length
     returns)

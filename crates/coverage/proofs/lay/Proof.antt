@@ -30,8 +30,8 @@ put-path-requires c κs = laying-room (c .before .before .before .loop .inv) (c 
 
 loop-again : tie.Need-loop-again Inv-loop μ-loop
 loop-again c =
-    let put = c .before .before .put-path in
-    let turn = c .before .before .before .before .before in
+    let put = c .before .before .before .put-path in
+    let turn = c .before .before .before .before .before .before in
     laying-next (turn .before .loop .inv) _ (turn .loop-test .taken) (put .ensures .0) (put .ensures .1)
 
 same-length : tie.Need-same-length Inv-loop μ-loop
@@ -52,6 +52,7 @@ lay-spec =
     (λ c. search needs)
     (λ c. search needs)
     put-path-requires
+    (λ c. search needs)
     (λ c. search needs)
     (λ c. search needs)
     (λ c. search needs)

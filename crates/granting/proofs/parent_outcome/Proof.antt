@@ -1,12 +1,13 @@
 -- `granting::parent_outcome` meets its contract: a root is asked nothing; where no claim has the parent's number the parent is absent; where one has,
 -- the tests of the parent come before those of the chain that begins with it (Columns). Assumes nothing.
-use mathlib.Core.Path.{sym, ap, _∙_}
+use mathlib.Core.Path.{sym, _∙_}
 use mathlib.Core.List.{_∷_}
+use Prim.Native.Nat.{suc}
 use lib.Dec.{ltb}
 use lib.ListN.{length}
 use borrow.Author.Needs.{needs}
-use Rattle.register.specs.Limits.{hopLimit}
-use Rattle.columns.specs.Columns.{latestPlace, placesUp}
+use Rattle.columns.specs.Columns.{placesUp}
+use Rattle.claim_judging.specs.Over.{handsAt}
 use Rattle.granting.proofs.Columns.{root-passes, parent-nowhere, parent-at, chain-columns}
 use Rattle.granting.proofs.Deciding.{decided-then}
 use Rattle.granting.proofs.parent_outcome.Statement.{statement}
@@ -15,30 +16,31 @@ use Rattle.granting.proofs.parent_outcome.Tie as tie
 returns : tie.Need-returns
 returns c =
     let given = c .before .before .before .before .args in
-    sym (root-passes (given .sheet .now) (given .ups .now) (given .n) (given .c) (given .moment) (c .if1 .taken))
+    sym (root-passes (given .version) (given .sheet .now) (given .ups .now) (given .place) (given .c) (given .moment) (c .if1 .taken))
 
 returns-2 : tie.Need-returns-2
 returns-2 c =
-    let looked = c .before .before in
-    let given = looked .before .before .before .before .before .before .args in
+    let asked = c .before .before in
+    let given = asked .before .before .before .before .args in
     sym
-    (parent-nowhere (given .sheet .now) (given .ups .now) (given .n) (given .c) (given .moment) (looked .before .before .if1 .left)
-    (ap (λ l. latestPlace l (given .n) (given .c .parent)) (sym (looked .before .column .ensures)) ∙ sym (looked .latest-place .ensures) ∙ c .enum-told .given .1))
+    (parent-nowhere (given .version) (given .sheet .now) (given .ups .now) (given .place) (given .c) (given .moment) (asked .if1 .left) (c .enum-told .given .1))
 
 returns-3 : tie.Need-returns-3
 returns-3 c =
     let lived = c .before .before .before .before .before in
     let placed = lived .before .before .before in
-    let looked = placed .before .before in
-    let given = looked .before .before .before .before .before .before .args in
-    let l = placed .place .given .0 .0 ∷ placesUp (given .ups .now) (placed .place .given .0 .0) in
+    let asked = placed .before .before in
+    let given = asked .before .before .before .before .args in
+    let l = placesUp (given .ups .now) (placed .place .given .0 .0) in
     c .then .ensures
     ∙ decided-then _ _ (c .before .before .before .before .drawn-outcome .ensures)
-    (chain-columns (ltb (length (placesUp (given .ups .now) (placed .place .given .0 .0))) hopLimit) l (given .c .holder) (c .before .before .before .column2 .ensures)
-    (c .before .before .column3 .ensures) (c .before .chain-outcome .ensures))
+    (chain-columns
+    (ltb (handsAt (given .version) (suc (length l)) (given .c)) (handsAt (given .version) (length l) (lived .before .claim-at .result)))
+    (placed .place .given .0 .0 ∷ l) (given .c .holder) (c .before .before .before .column .ensures)
+    (c .before .before .column2 .ensures) (c .before .chain-outcome .ensures))
     ∙ sym
-    (parent-at (given .sheet .now) (given .ups .now) (given .n) (given .c) (given .moment) (looked .before .before .if1 .left)
-    (ap (λ l. latestPlace l (given .n) (given .c .parent)) (sym (looked .before .column .ensures)) ∙ sym (looked .latest-place .ensures) ∙ placed .place .given .1)
+    (parent-at (given .version) (given .sheet .now) (given .ups .now) (given .place) (given .c) (given .moment) (asked .if1 .left)
+    (placed .place .given .1)
     (lived .before .claim-at .ensures) (lived .current-up .ensures))
 
 pub parent-outcome-spec : {M : Type 1} → statement M
@@ -46,8 +48,6 @@ parent-outcome-spec =
     tie.close
     (tie.spec
     returns
-    (λ c κs. search needs)
-    (λ c κs. search needs)
     (λ c. search needs)
     (λ c. search needs)
     (λ c κs. search needs)

@@ -14,7 +14,7 @@ use Rattle.granting.proofs.world_outcome.Tie as tie
 -- the world of a call
 abbrev world : tie.Start → World
 world s =
-    worldBy (s .args .t1 .names) (s .args .t1 .kinds) (s .args .t1 .owners) (s .args .h) (s .args .t3 .reports) (s .args .t3 .keepers) (s .args .m)
+    worldBy 0 (s .args .t1 .names) (s .args .t1 .kinds) (s .args .t1 .owners) (s .args .h) (s .args .t3 .reports) (s .args .t3 .keepers) (s .args .m)
 
 -- where the call began, seen from behind its tests
 abbrev names-start : tie.After-names-stand → tie.Start

@@ -4,6 +4,7 @@ use Prim.Native.Nat.{_+_, _≤_}
 use mathlib.Core.Path.{_≡_, sym, _∙_}
 use mathlib.Core.Bool.{true, false, not, _&&_}
 use native.Mathlib.Omega.{arith}
+use mir.Facts.{fits-below}
 use borrow.Author.Needs.{needs}
 use borrow.Author.Tests.{not-true, not-false, leb-true}
 use lib.Dec.{leb}
@@ -76,6 +77,15 @@ id-of-requires c κs =
     let a = admitted-told n (f .before .before .before .before .before .if2 .left) in
     id-inside (a .drafted .kept) (n .numbers2 .given) (and-left _ _ (full-told f (c .before .before .before .before .before .before .if3 .left)))
 
+-- the id's length is at most 64
+cast-len : tie.Need-cast-t36
+cast-len c =
+    let f = c .before .before .before .before .before .before .before .before .before in
+    let n = f .before .before .before .before .before .before in
+    let a = admitted-told n (f .before .before .before .before .before .if2 .left) in
+    let inside = id-inside (a .drafted .kept) (n .numbers2 .given) (and-left _ _ (full-told f (c .before .before .before .before .before .before .before .before .if3 .left))) in
+    fits-below {n = 65} tt (omega (arith, inside .1))
+
 returns-4 : tie.Need-returns-4
 returns-4 c =
     let f = c .before .before .before .before .before .before .before .before .before in
@@ -112,4 +122,5 @@ read-json-spec =
     (λ c. search needs)
     id-of-requires
     (λ c. search needs)
+    cast-len
     returns-4)

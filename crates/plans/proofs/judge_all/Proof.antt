@@ -4,6 +4,7 @@ use mathlib.Core.Path.{ap, _∙_}
 use Prim.Native.Nat.{_-_}
 use Rattle.lists.specs.Loops.{length-mapped}
 use Rattle.gate.specs.Judged.{lentOf}
+use Rattle.gate.specs.Laws.{judged-most}
 use Rattle.plans.specs.Judgements.{judgedAs}
 use Rattle.plans.proofs.Judging.{Judging, judging-start, judging-next, judging-done}
 use borrow.Author.Needs.{needs}
@@ -31,6 +32,10 @@ loop-again-2 c =
     judging-next (turn .before .loop .inv) _ (turn .loop-test .taken)
     (rw (c .before .before .if1 .left) (c .verdict-by .ensures ∙ ap (λ y. judgedAs (y .violations .count)) (c .before .judge-by .ensures)))
 
+-- there are never more violations than places
+verdict-by-requires : tie.Need-verdict-by-requires Inv-loop μ-loop
+verdict-by-requires c κs = rw (c .judge-by .ensures) (judged-most _ _)
+
 returns : tie.Need-returns Inv-loop μ-loop
 returns c = judging-done (c .before .loop .inv) (c .loop-test .left)
 
@@ -50,7 +55,7 @@ judge-all-spec =
     (λ c. search needs)
     loop-again
     (λ c κs. search needs)
-    (λ c κs. search needs)
+    verdict-by-requires
     (λ c. search needs)
     (λ c. search needs)
     (λ c. search needs)

@@ -7,9 +7,9 @@ use Rattle.portal.proofs.guvrendik_grant.Tie as tie
 
 returns : tie.Need-returns
 returns c =
-    let given = c .before .before .args in
+    let given = c .before .before .before .args in
     c .granted .ensures
-    ∙ ap (grantedAnswer (given .r) (given .c)) (c .before .grant-outcome .ensures)
+    ∙ ap (λ g. grantedAnswer (given .r) (g .claim) (g .outcome)) (c .before .before .grant-outcome .ensures)
     ∙ granted-natural (given .r) (given .c) (given .moment)
 
 pub guvrendik-grant-spec : {M : Type 1} → statement M

@@ -1,85 +1,71 @@
--- `register_reading::read_claims` meets its contract: the array is filled from the front, one thing read in each turn. Assumes nothing.
+-- `register_reading::read_claims` meets its contract: the claims as their lines say them stand in a sheet, and those of the sheet are stored. Assumes
+-- nothing.
 use Prim.Native.Nat.{ℕ, _-_, _≤_}
-use borrow.Author.Needs.{needs}
+use mathlib.Core.Path.{_≡_, ap, _∙_}
+use mathlib.Core.List.{List}
 use native.Mathlib.Omega.{arith}
-use mathlib.Core.Path.{_≡_, refl}
-use mathlib.Core.List.{List, _++_}
-use lib.ListN.{length, replicate}
+use borrow.Author.Needs.{needs}
+use lib.ListN.{length, take, replicate, length-append, length-replicate}
+use lib.Seq.{take-append-seam}
 use Rattle.register.specs.Limits.{claimLimit}
-use Rattle.register.specs.Register.{noClaim}
-use Rattle.text_rules.specs.Keys.{claimsKey}
-use Rattle.text_rules.specs.Records.{many}
+use Rattle.register.specs.Register.{claimsOf, noClaim}
+use Rattle.register.specs.Chain.{latest}
 use Rattle.register.specs.declared.Claim.{Claim}
-use Rattle.refusals.specs.declared.Refusal.the-variants.{Count}
+use Rattle.register.specs.declared.Claims.{Claims}
+use Rattle.columns.specs.Sheet.{claimsIn, sheetOf}
+use Rattle.columns.specs.SheetLaws.{sheet-long, sheet-claims}
+use Rattle.soundness_rules.specs.Sound.{eachStored}
+use Rattle.lines.specs.Reading.{State}
 use Rattle.lines.specs.Answers.{stateOf}
+use Rattle.text_rules.specs.Keys.{claimsKey}
+use Rattle.text_rules.specs.Records.{section}
 use Rattle.text_rules.specs.Registers.{readClaim, readClaims, heldClaims}
-use Rattle.register_reading.specs.Runs.{field-bound}
-use Rattle.register_reading.specs.Filling.{Listing, listing-start, listing-next, listing-done}
 use Rattle.register_reading.proofs.read_claims.Statement.{statement}
 use Rattle.register_reading.proofs.read_claims.Tie as tie
 
-abbrev Inv-loop : tie.InvT-loop
-Inv-loop s count list₀ cursor₀ i₀ list cursor i = Listing s readClaim claimLimit noClaim (stateOf s cursor₀) count list cursor i
-
-abbrev μ-loop : tie.MeasureT-loop
-μ-loop s count list₀ cursor₀ i₀ list cursor i = count - i
-
--- no more than the array has places
-count-bound : (c : tie.After-read-count Inv-loop μ-loop) → c .read-count .result .value ≤ claimLimit
-count-bound c =
-    let args = c .before .before .before .args in
-    field-bound (args .s .now) claimsKey 0 claimLimit Count (stateOf (args .s .now) (args .c)) (c .read-count .result) (c .read-count .ensures)
-
-loop-holds : tie.Need-loop-holds Inv-loop μ-loop
-loop-holds c = rw (c .before .none .ensures) (listing-start _ _ refl refl)
-
-mul-list : tie.Need-mul-list Inv-loop μ-loop
-mul-list c = omega (arith, count-bound (c .before .before .before .before .before .before .before), c .before .before .before .loop-test .taken)
-
-array-set-from-list : tie.Need-array-set-from-list Inv-loop μ-loop
-array-set-from-list c = omega (arith, count-bound (c .before .before .before .before .before .before .before), c .before .before .before .loop-test .taken)
-
-add-i : tie.Need-add-i Inv-loop μ-loop
-add-i c = omega (arith, count-bound (c .before .before .before .before .before .before .before), c .before .before .before .loop-test .taken)
-
-loop-less : tie.Need-loop-less Inv-loop μ-loop
-loop-less c = omega (arith, c .before .before .before .loop-test .taken)
-
-loop-again : tie.Need-loop-again Inv-loop μ-loop
-loop-again c =
-    let before = c .before .before .before .before .loop in
-    let one = c .before .before .read-claim in
-    listing-next (before .list) (before .cursor) (before .i) (one .result .claim) (one .result .cursor) (before .inv) (c .before .before .before .loop-test .taken) (count-bound (c .before .before .before .before .before .before .before)) (one .ensures)
-
--- a list with its count as the answer holds it
-held : (list : List Claim) (n : ℕ) (things : List Claim) → list ≡ things ++ replicate (claimLimit - length things) noClaim → n ≡ length things →
-    record { list = list; count = n } ≡ heldClaims things
-held list n things filled many = rw (filled, many)
-
-returns : tie.Need-returns Inv-loop μ-loop
+-- the claims of the sheet are those that were read
+stored-told : (version : ℕ) (st : State) {k : Claims} {sheet : List ℕ} {claims : Claims} → length (k .list) ≡ claimLimit
+    → k ≡ heldClaims (section claimsKey claimLimit (readClaim version) st .value) → sheet ≡ sheetOf k
+    → claims ≡ heldClaims (latest (eachStored version (latest (take (k .count) (claimsIn sheet)))))
+    → claims ≡ heldClaims (readClaims version st .value)
 unfolding readClaims
+stored-told version st {k} {sheet} long listed put told =
+    let raw : List Claim = section claimsKey claimLimit (readClaim version) st .value in
+    told
+    ∙ ap (λ l. heldClaims (latest (eachStored version (latest (take (k .count) (claimsIn l)))))) put
+    ∙ ap (λ l. heldClaims (latest (eachStored version (latest l)))) (sheet-claims k long ∙ ap claimsOf listed ∙ take-append-seam raw (replicate (claimLimit - length raw) noClaim))
+
+state-told : (version : ℕ) (st : State) {end : State} → end ≡ section claimsKey claimLimit (readClaim version) st .state → end ≡ readClaims version st .state
+unfolding readClaims
+state-told version st e = e
+
+-- the list has all its places
+held-long : (k : Claims) (l : List Claim) → k ≡ heldClaims l → k .count ≤ claimLimit → length (k .list) ≡ claimLimit
+held-long k l listed few =
+    omega (arith, ap (λ m. length (m .list)) listed, ap (λ m. m .count) listed, few, length-append l (replicate (claimLimit - length l) noClaim), length-replicate (claimLimit - length l) noClaim)
+
+stored-claims-requires : tie.Need-stored-claims-requires
+stored-claims-requires c κs =
+    let listed = c .before .before .before .before .before .read-listed in
+    (listed .ensures .0, ap length (c .before .before .put-claims .ensures) ∙ sheet-long (listed .result .claims))
+
+returns : tie.Need-returns
 returns c =
-    let end = c .before .loop in
-    let counted = c .before .before .before .before .read-count in
-    let s = c .before .before .before .before .before .before .before .args .s .now in
-    let things = many readClaim (counted .result .value) (stateOf s (counted .result .cursor)) .value in
-    let all = listing-done (end .list) (end .cursor) (end .i) (end .inv) (c .loop-test .left) in
-    rw (← counted .ensures .value, ← counted .ensures .state) (held (end .list) (counted .result .value) things (all .0) (all .1), all .2)
+    let given = c .before .before .before .before .before .before .before .before .args in
+    let st = stateOf (given .s .now) (given .c) in
+    let listed = c .before .before .before .before .before .before .read-listed in
+    let long = held-long (listed .result .claims) (section claimsKey claimLimit (readClaim (given .version)) st .value) (listed .ensures .1 .0) (listed .ensures .0) in (
+      stored-told (given .version) st long (listed .ensures .1 .0) (c .before .before .before .put-claims .ensures) (c .stored-claims .ensures),
+      state-told (given .version) st (listed .ensures .1 .1),
+    )
 
 pub read-claims-spec : {M : Type 1} → statement M
 read-claims-spec =
     tie.close
     (tie.spec
-    Inv-loop
-    μ-loop
+    (λ c κs. search needs)
     (λ c. search needs)
     (λ c κs. search needs)
-    (λ c κs. search needs)
-    loop-holds
-    (λ c κs. search needs)
-    mul-list
-    array-set-from-list
-    add-i
-    loop-less
-    loop-again
+    (λ c. search needs)
+    stored-claims-requires
     returns)

@@ -15,15 +15,16 @@ use Rattle.register_reading.proofs.read_form.Statement.{statement}
 use Rattle.register_reading.proofs.read_form.Tie as tie
 
 -- the parts, each from where the one before it ended
-joined : (t : List ℕ) (version actorsEnd resourcesEnd claimsEnd end : State) (actors : Actors) (resources : Resources) (claims : Claims) →
-    version ≡ readForm versionForm (going t 1) .state →
-    actors ≡ heldActors (readActors version .value) → actorsEnd ≡ readActors version .state →
+joined : (t : List ℕ) (version : ℕ) (begun actorsEnd resourcesEnd claimsEnd end : State) (actors : Actors) (resources : Resources) (claims : Claims) →
+    version ≡ readForm versionForm (going t 1) .value → begun ≡ readForm versionForm (going t 1) .state →
+    actors ≡ heldActors (readActors begun .value) → actorsEnd ≡ readActors begun .state →
     resources ≡ heldResources (readResources actorsEnd .value) → resourcesEnd ≡ readResources actorsEnd .state →
-    claims ≡ heldClaims (readClaims resourcesEnd .value) → claimsEnd ≡ readClaims resourcesEnd .state →
+    claims ≡ heldClaims (readClaims version resourcesEnd .value) → claimsEnd ≡ readClaims version resourcesEnd .state →
     end ≡ closed claimsEnd →
-    (_≡_ {A = Register} (record { actors = actors; resources = resources; claims = claims }) (registerFrom t .value)) × (end ≡ registerFrom t .state)
+    (_≡_ {A = Register} (record { actors = actors; resources = resources; claims = claims; version = version }) (registerFrom t .value)) × (end ≡ registerFrom t .state)
 unfolding registerFrom
-joined t version actorsEnd resourcesEnd claimsEnd end actors resources claims v a ae o oe k ke e = (rw (k, oe, o, ae, a, v), rw (e, ke, oe, ae, v))
+joined t version begun actorsEnd resourcesEnd claimsEnd end actors resources claims v b a ae o oe k ke e =
+    (rw (k, oe, o, ae, a, b, v), rw (e, ke, oe, ae, b, v))
 
 returns : tie.Need-returns
 returns c =
@@ -35,8 +36,9 @@ returns c =
     let begun = c .before .before .before .before .before .before .before .before .before .start in
     let s = c .before .before .before .before .before .before .before .before .before .before .before .args .text .now in
     let first = run-start s (begun .result) (begun .ensures) in
-    joined s (stateOf s (version .result .cursor)) (stateOf s (actors .result .cursor)) (stateOf s (resources .result .cursor)) (stateOf s (claims .result .cursor))
-    (stateOf s (end .result)) (actors .result .actors) (resources .result .resources) (claims .result .claims)
+    joined s (version .result .value) (stateOf s (version .result .cursor)) (stateOf s (actors .result .cursor)) (stateOf s (resources .result .cursor))
+    (stateOf s (claims .result .cursor)) (stateOf s (end .result)) (actors .result .actors) (resources .result .resources) (claims .result .claims)
+    (version .ensures .value ∙ ap (λ st. readForm versionForm st .value) first)
     (version .ensures .state ∙ ap (λ st. readForm versionForm st .state) first) (actors .ensures .0) (actors .ensures .1) (resources .ensures .0) (resources .ensures .1)
     (claims .ensures .0) (claims .ensures .1) (end .ensures)
 

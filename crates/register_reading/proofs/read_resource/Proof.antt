@@ -3,14 +3,17 @@
 use Prim.Native.Nat.{_≤_}
 use borrow.Author.Needs.{needs}
 use native.Mathlib.Omega.{arith}
+use mathlib.Core.Path.{_≡_}
 use mathlib.Core.List.{[], _∷_}
-use Rattle.register.specs.Limits.{idLimit}
+use mir.Facts.{fits-below}
+use lib.ListN.{length}
+use Rattle.register.specs.Limits.{idLimit, pathLimit}
 use Rattle.refusals.specs.declared.Refusal.the-variants.{Form}
 use Rattle.lines.specs.Reading.{number}
 use Rattle.lines.specs.Answers.{stateOf}
 use Rattle.text_rules.specs.Keys.{resourceKey, publicKey, keeperKey}
 use Rattle.text_rules.specs.Registers.{resourceForms}
-use Rattle.register_reading.specs.Runs.{Run, run-none, run-next, field-bound}
+use Rattle.register_reading.specs.Runs.{Run, run-none, run-next, field-bound, scope-bound}
 use Rattle.register_reading.proofs.read_resource.Statement.{statement}
 use Rattle.register_reading.proofs.read_resource.Tie as tie
 
@@ -62,10 +65,17 @@ cast-t21 c = omega (arith, public-bound (c .before .before .before .before))
 cast-t22 : tie.Need-cast-t22
 cast-t22 c = omega (arith, keeper-bound (c .before .before .before .before .before))
 
+-- a path is at most 64 bytes
+cast-t23 : tie.Need-cast-t23
+cast-t23 c =
+    let scope = c .before .before .before .before .before .read-scope in
+    let full : length (scope .result .path) ≡ pathLimit = search needs in
+    fits-below {n = pathLimit} tt (scope-bound _ _ (scope .result) (scope .ensures) full)
+
 returns : tie.Need-returns
 returns c =
-    let read = lines-read (c .before .before .before .before .before .before) in
-    let scope = c .before .before .before .before .before .read-scope in
+    let read = lines-read (c .before .before .before .before .before .before .before) in
+    let scope = c .before .before .before .before .before .before .read-scope in
     record {
       got = rw (read .got, read .stands, ← scope .ensures .path, ← scope .ensures .len);
       stands = rw (read .stands) (scope .ensures .state);
@@ -87,4 +97,5 @@ read-resource-spec =
     cast-t20
     cast-t21
     cast-t22
+    cast-t23
     returns)

@@ -14,7 +14,7 @@ use Rattle.register_writing.proofs.put_scope.Tie as tie
 
 slice-aggregate-put-bytes-2 : tie.Need-slice-aggregate-put-bytes-2
 slice-aggregate-put-bytes-2 c =
-    let st = c .before .before .before .before .before .before .before .before .before .before in
+    let st = c .before .before .before .before .before .before .before .before .before .before .before in
     let o = st .args .o in
     let full : length (o .path) ≡ pathLimit = search needs in
     sym (length-take-le (o .len) (o .path) (omega (arith, full, st .pre .1)))
@@ -24,7 +24,7 @@ unfolding scopeLine
 returns c =
     let ended = c .before .before in
     let laid = ended .before .before .before .before .before in
-    let keyed = laid .before .before .before .before .before .before .before in
+    let keyed = laid .before .before .before .before .before .before .before .before in
     let st = keyed .before .before .before .before in
     let a = st .args in
     let path = pathOf (a .o) in
@@ -39,6 +39,7 @@ put-scope-spec =
     (tie.spec
     (λ c. search needs)
     (λ c κs. search needs)
+    (λ c. search needs)
     (λ c. search needs)
     slice-aggregate-put-bytes-2
     (λ c κs. search needs)

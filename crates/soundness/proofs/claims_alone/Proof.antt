@@ -16,17 +16,17 @@ use Rattle.soundness.proofs.claims_alone.Statement.{statement}
 use Rattle.soundness.proofs.claims_alone.Tie as tie
 
 abbrev Inv-loop : tie.InvT-loop
-Inv-loop h keepers spots sheet n actors named stand₀ i₀ stand i =
+Inv-loop version h keepers spots sheet n actors named stand₀ i₀ stand i =
     Asked (distinct (take (min h claimLimit) (actors .names)))
-    (λ j. aloneAt (claimAt sheet j) (foundAt actors keepers (named .first) (named .second) spots j)) n i stand
+    (λ j. aloneAt version (claimAt sheet j) (foundAt actors keepers (named .first) (named .second) spots j)) n i stand
 
 abbrev μ-loop : tie.MeasureT-loop
-μ-loop h keepers spots sheet n actors named stand₀ i₀ stand i = n - i
+μ-loop version h keepers spots sheet n actors named stand₀ i₀ stand i = n - i
 
 loop-holds : tie.Need-loop-holds Inv-loop μ-loop
 loop-holds c =
     let start = c .before .before .before .before .before .before .before .before .before in
-    asked-none (ids-told (start .args .t1) (start .args .h) (start .args .sheet .now) (start .args .n) (start .pre .0) (start .pre .1)
+    asked-none (ids-told (start .args .version) (start .args .t2) (start .args .h) (start .args .sheet .now) (start .args .n) (start .pre .0) (start .pre .1)
     (c .both-places .ensures ∙ rw (c .before .before .before .before .before .column .ensures, c .before .before .before .before .column2 .ensures)))
 
 cast-report : tie.Need-cast-report Inv-loop μ-loop
@@ -49,7 +49,7 @@ returns : tie.Need-returns Inv-loop μ-loop
 returns c =
     let start = c .before .before .before .before .before .before .before .before .before .before .before in
     asked-done (c .before .loop .inv) (c .loop-test .left)
-    ∙ alone-told (start .args .t1) (start .args .h) (start .args .sheet .now) (start .args .n) (start .pre .0) (start .pre .1)
+    ∙ alone-told (start .args .version) (start .args .t2) (start .args .h) (start .args .sheet .now) (start .args .n) (start .pre .0) (start .pre .1)
     (c .before .before .both-places .ensures ∙ rw (c .before .before .before .before .before .before .before .column .ensures, c .before .before .before .before .before .before .column2 .ensures)) (start .args .keepers .now) (start .args .spots .now)
 
 pub claims-alone-spec : {M : Type 1} → statement M

@@ -1,33 +1,33 @@
 -- `soundness::claims_over` meets its contract. The loop's invariant: the claims before place `i` are as they should be and their hops are
 -- kept, by the places of their parents (Climbing). The measure is what is left of the claims. Assumes nothing.
 use mathlib.Core.Path.{_≡_, sym, ap, _∙_}
-use Prim.Native.Nat.{_-_, _<_}
+use Prim.Native.Nat.{_+_, _-_, _<_}
 use native.Mathlib.Omega.{arith}
 use mir.Facts.{fits-below, fits-widen}
 use borrow.Author.Needs.{needs}
 use borrow.Author.Tests.{not-true, not-false}
 use lib.ListN.{getD, take}
-use Rattle.register.specs.Limits.{hopLimit}
+use Rattle.register.specs.Limits.{claimLimit}
 use Rattle.register.specs.Register.{noClaim}
 use Rattle.register.specs.Chain.{latest}
 use Rattle.columns.specs.Sheet.{claimsIn}
 use Rattle.claim_judging.specs.Over.{overAt, standOver}
-use Rattle.soundness.proofs.Climbing.{Tables, Climbed, sheet-tables, climbed-none, parent-read, over-read, root-passed, parent-failed, parent-low, over-failed, over-passed, steps-below}
+use Rattle.soundness.proofs.Climbing.{Tables, Climbed, sheet-tables, climbed-none, parent-read, over-read, root-passed, parent-failed, parent-low, over-failed, over-passed}
 use Rattle.soundness.proofs.claims_over.Statement.{statement}
 use Rattle.soundness.proofs.claims_over.Tie as tie
 
 abbrev Inv-loop : tie.InvT-loop
-Inv-loop ups sheet n grantors holders hops₀ i₀ hops i = Tables (claimsIn sheet) n grantors holders ups × Climbed (claimsIn sheet) n hops i
+Inv-loop version ups sheet n grantors holders hops₀ i₀ hops i = Tables version (claimsIn sheet) n grantors holders ups × Climbed version (claimsIn sheet) n hops i
 
 abbrev μ-loop : tie.MeasureT-loop
-μ-loop ups sheet n grantors holders hops₀ i₀ hops i = n - i
+μ-loop version ups sheet n grantors holders hops₀ i₀ hops i = n - i
 
 loop-holds : tie.Need-loop-holds Inv-loop μ-loop
 loop-holds c =
     let start = c .before .before .before .before in
     let asks = start .pre in (
-      sheet-tables (start .args .sheet .now) (start .args .n) (asks .0) (asks .1) (asks .2) (asks .3) (c .before .column .ensures) (c .column2 .ensures),
-      climbed-none (claimsIn (start .args .sheet .now)) (start .args .n) _ (search needs),
+      sheet-tables (start .args .version) (start .args .sheet .now) (start .args .n) (asks .0) (asks .1) (asks .2) (asks .3) (c .before .column .ensures) (c .column2 .ensures),
+      climbed-none (start .args .version) (claimsIn (start .args .sheet .now)) (start .args .n) _ (search needs),
     )
 
 loop-again : tie.Need-loop-again Inv-loop μ-loop
@@ -54,8 +54,11 @@ cast-steps : tie.Need-cast-steps Inv-loop μ-loop
 cast-steps c =
     let s = c .before .before .before .before .before .before .before .before .before .before .before .before .args .sheet .now in
     let turn = c .before .before .before .before .before .before .before in
-    fits-below tt (parent-low (turn .loop .inv .0) (c .before .before .before .before .before .before .loop-test .taken)
-    (λ root. c .before .before .before .if1 .left (sym (parent-read s (turn .loop .i) (c .before .before .before .before .before .claim-at .ensures)) ∙ root)) (c .before .if2 .left) (turn .loop .inv .1))
+    fits-below {n = claimLimit} tt (omega (
+      arith,
+      parent-low (turn .loop .inv .0) (c .before .before .before .before .before .before .loop-test .taken)
+          (λ root. c .before .before .before .if1 .left (sym (parent-read s (turn .loop .i) (c .before .before .before .before .before .claim-at .ensures)) ∙ root)) (c .before .if2 .left) (turn .loop .inv .1),
+    ))
 
 -- the claim is not a root, and what it is asked over its parent is asked of those in the sheet
 child : (e : tie.After-stands-over Inv-loop μ-loop) →
@@ -71,22 +74,22 @@ asked : (e : tie.After-stands-over Inv-loop μ-loop) →
     let ups = turn .before .before .before .before .before .args .ups .now in
     let up = getD ups (turn .loop .i) 0 in
     e .stands-over .result
-    ≡ overAt ups (turn .before .before .column .result .now) (turn .before .column2 .result .now) up (getD (turn .loop .hops) up 0)
+    ≡ overAt (turn .before .before .before .before .before .args .version) ups (turn .before .before .column .result .now) (turn .before .column2 .result .now) up (getD (turn .loop .hops) up 0)
     (getD (claimsIn s) up noClaim) (getD (claimsIn s) (turn .loop .i) noClaim)
 asked e =
     let turn = e .before .before .before .before .before .before .before .before in
     let s = turn .before .before .before .before .before .args .sheet .now in
     let ups = turn .before .before .before .before .before .args .ups .now in
     let up = getD ups (turn .loop .i) 0 in
-    over-read s ups (turn .before .before .column .result .now) (turn .before .column2 .result .now) up (getD (turn .loop .hops) up 0) (turn .loop .i)
+    over-read (turn .before .before .before .before .before .args .version) s ups (turn .before .before .column .result .now) (turn .before .column2 .result .now) up (getD (turn .loop .hops) up 0) (turn .loop .i)
     (e .before .claim-at2 .ensures) (e .before .before .before .before .before .before .claim-at .ensures) (e .stands-over .ensures)
 
 below : (e : tie.Else3 Inv-loop μ-loop) →
     let turn = e .before .before .before .before .before .before .before .before .before in
-    getD (turn .loop .hops) (getD (turn .before .before .before .before .before .args .ups .now) (turn .loop .i) 0) 0 < hopLimit
+    getD (turn .loop .hops) (getD (turn .before .before .before .before .before .args .ups .now) (turn .loop .i) 0) 0 + 1 < claimLimit
 below e =
     let turn = e .before .before .before .before .before .before .before .before .before in
-    steps-below (turn .loop .inv .0) (e .before .before .before .before .before .before .before .before .loop-test .taken) (child (e .before)) (e .before .before .before .if2 .left) (turn .loop .inv .1) (asked (e .before)) (not-false _ (e .if3 .left))
+    parent-low (turn .loop .inv .0) (e .before .before .before .before .before .before .before .before .loop-test .taken) (child (e .before)) (e .before .before .before .if2 .left) (turn .loop .inv .1)
 
 returns-2 : tie.Need-returns-2 Inv-loop μ-loop
 returns-2 c =
@@ -110,9 +113,9 @@ loop-again-2 c =
 returns-3 : tie.Need-returns-3 Inv-loop μ-loop
 returns-3 c =
     let end = c .before in
-    let s = c .before .before .before .before .before .before .args .sheet .now in
-    let whole : end .loop .i ≡ c .before .before .before .before .before .before .args .n = omega (arith, end .loop .inv .1 .within, c .loop-test .left) in
-    sym (ap (λ i. standOver (latest (take i (claimsIn s)))) (sym whole) ∙ end .loop .inv .1 .stands)
+    let given = c .before .before .before .before .before .before .args in
+    let whole : end .loop .i ≡ given .n = omega (arith, end .loop .inv .1 .within, c .loop-test .left) in
+    sym (ap (λ i. standOver (given .version) (latest (take i (claimsIn (given .sheet .now))))) (sym whole) ∙ end .loop .inv .1 .stands)
 
 pub claims-over-spec : {M : Type 1} → statement M
 claims-over-spec =

@@ -21,16 +21,16 @@ spots-long : (e : tie.After-looked-up) → length (e .looked-up .result .spots) 
 spots-long e = search needs
 
 -- nothing is against it so far
-begun-by : (e : tie.After-looked-up) → e .looked-up .result .sound ≡ true → let given = e .before .before .before .before .before .before .before .before .before .before .before .before .before .before .before .before .before .before .before .before .before .before .before .args in Begun (given .a) (given .o) (given .sheet .now) (given .n)
+begun-by : (e : tie.After-looked-up) → e .looked-up .result .sound ≡ true → let given = e .before .before .before .before .before .before .before .before .before .before .before .before .before .before .before .before .before .before .before .before .before .before .before .args in Begun (given .version) (given .a) (given .o) (given .sheet .now) (given .n)
 begun-by e h =
     let given = e .before .before .before .before .before .before .before .before .before .before .before .before .before .before .before .before .before .before .before .before .before .before .before .args in
-    begun-told (given .a) (given .o) (given .sheet .now) (given .n) (e .before .before .before .before .before .before .before .before .before .before .before .before .before .before .before .before .before .before .before .before .before .actor-columns .ensures) (e .before .before .before .before .before .before .before .before .before .before .before .before .before .before .before .before .before .before .before .before .resource-columns .ensures) (e .looked-up .ensures) h
+    begun-told (given .version) (given .a) (given .o) (given .sheet .now) (given .n) (e .before .before .before .before .before .before .before .before .before .before .before .before .before .before .before .before .before .before .before .before .before .actor-columns .ensures) (e .before .before .before .before .before .before .before .before .before .before .before .before .before .before .before .before .before .before .before .before .resource-columns .ensures) (e .looked-up .ensures) h
 
 returns : tie.Need-returns
 returns c =
     let looked = c .before in
     let given = looked .before .before .before .before .before .before .before .before .before .before .before .before .before .before .before .before .before .before .before .before .before .before .before .args in
-    refused-told (given .a) (given .o) (given .sheet .now) (given .n) (looked .before .before .before .before .before .before .before .before .before .before .before .before .before .before .before .before .before .before .before .before .before .actor-columns .ensures) (looked .before .before .before .before .before .before .before .before .before .before .before .before .before .before .before .before .before .before .before .before .resource-columns .ensures)
+    refused-told (given .version) (given .a) (given .o) (given .sheet .now) (given .n) (looked .before .before .before .before .before .before .before .before .before .before .before .before .before .before .before .before .before .before .before .before .before .actor-columns .ensures) (looked .before .before .before .before .before .before .before .before .before .before .before .before .before .before .before .before .before .before .before .before .resource-columns .ensures)
     (looked .looked-up .ensures) (not-true _ (c .if1 .taken))
 
 claims-over-requires : tie.Need-claims-over-requires
@@ -38,7 +38,7 @@ claims-over-requires c κs =
     let looked = c .before .before .before .before in
     let given = looked .before .before .before .before .before .before .before .before .before .before .before .before .before .before .before .before .before .before .before .before .before .before .before .args in
     let b = begun-by looked (not-false _ (c .before .before .before .if1 .left)) in
-    (b .short, b .long, b .single, ups-told (given .a) (given .o) (given .sheet .now) (given .n) (looked .before .before .before .before .before .before .before .before .before .before .before .before .before .before .before .before .before .before .before .before .before .actor-columns .ensures) (looked .before .before .before .before .before .before .before .before .before .before .before .before .before .before .before .before .before .before .before .before .resource-columns .ensures) (looked .looked-up .ensures))
+    (b .short, b .long, b .single, ups-told (given .version) (given .a) (given .o) (given .sheet .now) (given .n) (looked .before .before .before .before .before .before .before .before .before .before .before .before .before .before .before .before .before .before .before .before .before .actor-columns .ensures) (looked .before .before .before .before .before .before .before .before .before .before .before .before .before .before .before .before .before .before .before .before .resource-columns .ensures) (looked .looked-up .ensures))
 
 claims-alone-requires : tie.Need-claims-alone-requires
 claims-alone-requires c κs =
@@ -55,7 +55,7 @@ returns-2 c =
     let humans = actors .before .before .before .before .before .before .before .before in
     let things = humans .before .before .before .before .before .before in
     let start = things .before .before .before in
-    judged-told (start .args .a) (start .args .o) (start .args .sheet .now) (start .args .n) (things .before .actor-columns .ensures) (things .resource-columns .ensures)
+    judged-told (start .args .version) (start .args .a) (start .args .o) (start .args .sheet .now) (start .args .n) (things .before .actor-columns .ensures) (things .resource-columns .ensures)
     (looked .looked-up .ensures) (actors-long start) (resources-long start) (not-false _ (over .before .before .before .before .if1 .left)) (humans .human-ids .ensures)
     (actors .actors-fit .ensures) (resources .resources-fit .ensures) (over .claims-over .ensures) (c .claims-alone .ensures)
 

@@ -43,6 +43,7 @@ path-fits-spec =
     (tie.spec
     Inv-loop
     μ-loop
+    (λ c. search needs)
     (λ c κs. search needs)
     loop-holds
     (λ c. search needs)

@@ -55,6 +55,7 @@ resource-fits-spec =
     returns-2
     (λ c κs. search needs)
     returns-3
+    (λ c. search needs)
     returns-4
     returns-5
     (λ c κs. search needs)

@@ -103,7 +103,7 @@ fn nearby(random: &mut Random, resources: &[Resource], id: u32) -> u32 {
     let Some(outer) = resources.iter().find(|resource| resource.id == id) else {
         return random.pick(resources).id;
     };
-    let start = &outer.path[..outer.len.min(4)];
+    let start = &outer.path[..outer.len.min(4) as usize];
     let near: Vec<u32> =
         resources.iter().filter(|resource| resource.path.starts_with(start)).map(|resource| resource.id).collect();
     *random.pick(&near)

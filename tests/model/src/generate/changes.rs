@@ -2,7 +2,7 @@
 
 use super::actions::moment;
 use super::random::Random;
-use super::registers::standing;
+use super::registers::{some_left, standing};
 use crate::case::Call;
 use crate::pairs::Pair;
 use guvrendik_model::types::*;
@@ -21,6 +21,7 @@ pub fn grant(random: &mut Random, register: &Register, keep: bool) -> Call {
         resource: 1,
         rights: 1 + random.below(RIGHTS_MAX as usize) as u32,
         weight: random.below(1_001) as u32,
+        left: if register.version == VERSION_2 { random.below(17) as u32 } else { some_left(random) },
         expiry: if random.chance(50) { 0 } else { moment(random, register) },
     };
     let parents: Vec<usize> = (0..claims.len()).filter(|&at| claims[at].rights >> DELEGATE & 1 == 1).collect();
@@ -44,6 +45,9 @@ pub fn grant(random: &mut Random, register: &Register, keep: bool) -> Call {
             }
         }
         claim.weight = if random.chance(50) { parent.weight } else { random.below(parent.weight as usize + 1) as u32 };
+        if register.version == VERSION_2 && parent.left > 0 {
+            claim.left = if random.chance(60) { parent.left - 1 } else { random.below(parent.left as usize) as u32 };
+        }
         if random.chance(75) {
             // Before the parent's end.
             now = if parent.expiry == 0 { now } else { random.below(parent.expiry.min(1 << 20) as usize) as u64 };
@@ -64,7 +68,7 @@ pub fn grant(random: &mut Random, register: &Register, keep: bool) -> Call {
     Call::Grant { claim, now, keep }
 }
 
-/// The one with the longest chain above it: at its end the hops run out.
+/// The one with the longest chain above it: at its end the hops run out, and what is left.
 fn deepest<'c>(claims: &'c [Claim], parents: &[usize]) -> &'c Claim {
     let deepest = parents.iter().max_by_key(|&&at| chain(claims, claims[at].id).len());
     &claims[*deepest.expect("there are parents")]
@@ -90,7 +94,7 @@ fn twist(random: &mut Random, register: &Register, claim: &mut Claim, now: &mut 
     let parent = claims.iter().find(|parent| parent.id == claim.parent);
     let some_id = random.between(1, ID_MAX as usize) as u32;
     let odd = *random.pick(&[0, 65_536, u32::MAX]);
-    match random.below(28) {
+    match random.below(31) {
         0 => claim.id = odd,
         1 => claim.id = claim.id.wrapping_add(65_536),
         2 => claim.parent = claim.parent.wrapping_add(65_536),
@@ -117,7 +121,10 @@ fn twist(random: &mut Random, register: &Register, claim: &mut Claim, now: &mut 
         23 => claim.weight = parent.map_or(0, |parent| parent.weight).wrapping_add(1),
         24 => *now = parent.map_or(*now, |parent| parent.expiry),
         25 => claim.holder = claim.grantor,
-        26 => {
+        26 => claim.left = parent.map_or(LEFT_MAX, |parent| parent.left),
+        27 => claim.left = parent.map_or(LEFT_MAX, |parent| parent.left).wrapping_add(1),
+        28 => claim.left = some_left(random),
+        29 => {
             // The grantor of the root, or a holder on the way to it.
             let mut above = parent;
             for _ in 0..random.between(1, HOPS) {

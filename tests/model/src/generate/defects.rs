@@ -1,7 +1,7 @@
 //! Single defects of soundness, each put into a sound register.
 
 use super::random::Random;
-use super::registers::standing;
+use super::registers::{lay_version, standing};
 use guvrendik_model::types::*;
 
 /// Puts the defect in, or answers `false` where this register has no place for it and is left as it was.
@@ -49,7 +49,7 @@ fn byte(register: &mut Register, random: &mut Random, byte: u8) -> bool {
         &mut register.resources,
         random,
         |resource| resource.len > 0,
-        |resource, random| resource.path[random.below(resource.len)] = byte,
+        |resource, random| resource.path[random.below(resource.len as usize)] = byte,
     )
 }
 
@@ -195,6 +195,10 @@ pub const DEFECTS: &[(&str, Defect)] = &[
         register.claims.count = 1 << 32;
         true
     }),
+    ("version 0", |register, _| versioned(register, 0)),
+    ("version 3", |register, _| versioned(register, 3)),
+    ("version wraps", |register, _| versioned(register, register.version + (1 << 32))),
+    ("version without number", |register, _| versioned(register, u64::MAX)),
     ("actor id 0", |register, random| actor_of(register, random, MACHINE, |actor| actor.id = 0)),
     ("actor id 65536", |register, random| actor_of(register, random, MACHINE, |actor| actor.id = 65_536)),
     ("actor id wraps", |register, random| actor(register, random, |actor| actor.id += 65_536)),
@@ -261,9 +265,9 @@ pub const DEFECTS: &[(&str, Defect)] = &[
         };
         one(&mut register.resources, random, |_| true, |resource, _| resource.keeper = machine)
     }),
-    ("path of 65 bytes", |register, random| resource(register, random, |resource| resource.len = PATH + 1)),
-    ("path without length", |register, random| resource(register, random, |resource| resource.len = usize::MAX)),
-    ("path length wraps", |register, random| resource(register, random, |resource| resource.len += 1 << 32)),
+    ("path of 65 bytes", |register, random| resource(register, random, |resource| resource.len = PATH as u32 + 1)),
+    ("path without length", |register, random| resource(register, random, |resource| resource.len = u32::MAX)),
+    ("path length wraps", |register, random| resource(register, random, |resource| resource.len += 1 << 16)),
     ("blank in a path", |register, random| byte(register, random, 0x20)),
     ("DEL in a path", |register, random| byte(register, random, 0x7F)),
     ("NUL in a path", |register, random| byte(register, random, 0)),
@@ -412,6 +416,20 @@ pub const DEFECTS: &[(&str, Defect)] = &[
     ("17 hops", |register, random| {
         append_child(register, random, |register, at| above(register, at).len() == HOPS, |_| ())
     }),
+    ("left 17 at a root", |register, random| {
+        in_two(register, random, |register, random| {
+            one(&mut register.claims, random, |claim| claim.parent == 0, |claim, _| claim.left = LEFT_MAX + 1)
+        })
+    }),
+    ("left wraps", |register, random| {
+        in_two(register, random, |register, random| claim(register, random, |claim| claim.left += 65_536))
+    }),
+    ("as much left as the parent", |register, random| {
+        in_two(register, random, |register, random| left_over(register, random, 0))
+    }),
+    ("more left than the parent", |register, random| {
+        in_two(register, random, |register, random| left_over(register, random, 1))
+    }),
     ("held already higher on the chain", |register, random| {
         leaf_held_by(register, random, |register, above, random| register.claims.list[*random.pick(above)].holder)
     }),
@@ -443,6 +461,36 @@ pub const DEFECTS: &[(&str, Defect)] = &[
         true
     }),
 ];
+
+/// Gives the register another version.
+fn versioned(register: &mut Register, version: u64) -> bool {
+    register.version = version;
+    true
+}
+
+/// Puts a defect of version 2 in: a register of version 1 becomes one of version 2 first.
+fn in_two(register: &mut Register, random: &mut Random, defect: fn(&mut Register, &mut Random) -> bool) -> bool {
+    let before = register.clone();
+    if register.version == VERSION_1 {
+        lay_version(random, register, VERSION_2);
+    }
+    let fits = defect(register, random);
+    if !fits {
+        *register = before;
+    }
+    fits
+}
+
+/// Gives a claim so much more left than its parent has.
+fn left_over(register: &mut Register, random: &mut Random, more: u32) -> bool {
+    let pairs = pairs(register, |_, parent| parent.left + more <= LEFT_MAX);
+    if pairs.is_empty() {
+        return false;
+    }
+    let &(at, parent) = random.pick(&pairs);
+    register.claims.list[at].left = register.claims.list[parent].left + more;
+    true
+}
 
 /// Gives a claim that a machine granted, and the whole chain above it, a right that the machine may not grant.
 fn machine_grants(register: &mut Register, random: &mut Random, right: u32) -> bool {
@@ -480,6 +528,9 @@ mod tests {
             for round in 0..120 {
                 let shape = [SMALL, MEDIUM, FULL, Shape { claims: 200, ..FULL }][round % 4];
                 let mut register = registers::sound(&mut random, shape, round % 2 == 0);
+                if round % 8 < 4 {
+                    register = registers::as_two(&mut random, &register, round % 3 == 0);
+                }
                 let before = register.clone();
                 if defect(&mut register, &mut random) {
                     fitted += 1;

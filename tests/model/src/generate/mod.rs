@@ -38,12 +38,16 @@ impl Generator {
         scripts.push(paths::long());
         scripts.push(texts::neighbours(&register, Call::ReadRegister));
         scripts.push(texts::neighbours(&action, Call::ReadAction));
+        scripts.push(texts::neighbours(&texts::case_r_as_two(), Call::ReadRegister));
         scripts.push(texts::counts());
-        scripts.push(texts::large(&mut self.random));
-        scripts.push(Script {
-            register: Some(registers::longest()),
-            calls: [REGISTER_TEXT, 37_731, 37_730, 0].map(|room| Call::WriteRegister { room, fill: 0xEE }).to_vec(),
-        });
+        for (version, length) in [(VERSION_1, 37_731), (VERSION_2, 39_779)] {
+            scripts.push(texts::large(&mut self.random, version));
+            let rooms = [REGISTER_TEXT, length, length - 1, 0];
+            scripts.push(Script {
+                register: Some(registers::longest(version)),
+                calls: rooms.map(|room| Call::WriteRegister { room, fill: 0xEE }).to_vec(),
+            });
+        }
         scripts.push(Script::alone(Call::VerdictText { register, action, room: 100, fill: b'#' }));
         scripts.extend(json::fixed());
         scripts.push(trees::fixed());
@@ -61,10 +65,41 @@ impl Generator {
             self.trees(register.clone()),
             self.nested(),
             self.defect(round),
-            self.sequence(register),
+            self.sequence(register.clone()),
             Script { register: None, calls: (0..18).map(|_| paths::pair(&mut self.random)).collect() },
             self.json(),
         ]
+        .into_iter()
+        .chain(self.as_two(&register, round))
+        .collect()
+    }
+
+    /// The register as version 2: what the gate and plans say of it where each claim has what it had left, its text, changes of one that
+    /// says otherwise, each by itself and one after the other, and one with a defect.
+    fn as_two(&mut self, register: &Register, round: usize) -> Vec<Script> {
+        let random = &mut self.random;
+        let stored = registers::as_two(random, register, true);
+        let mut calls: Vec<Call> = (0..5).map(|_| Call::Gate(actions::action(random, register))).collect();
+        calls.push(Call::Plan(actions::plan(random, register)));
+        calls.extend(trees::calls(&mut self.trees, register, 1));
+        let scripts = [register, &stored]
+            .map(|register| Script { register: Some(Box::new(register.clone())), calls: calls.clone() });
+        let two = registers::as_two(random, register, false);
+        let texts = Script { register: None, calls: self.register_texts(&two, round, 6, 2) };
+        let others = [texts, self.changes(two.clone()), self.sequence(two), self.defect(round)];
+        scripts.into_iter().chain(others).collect()
+    }
+
+    /// Changes that leave the register as it was, and its text.
+    fn changes(&mut self, register: Box<Register>) -> Script {
+        let random = &mut self.random;
+        let mut calls = vec![Call::Sound];
+        calls.extend((0..10).map(|_| changes::grant(random, &register, false)));
+        calls.extend((0..2).map(|_| changes::revoke(random, &register, false)));
+        calls.push(changes::clear(random, &register, false));
+        let room = texts::room(random, texts::register_text(&register).len(), REGISTER_TEXT);
+        calls.push(Call::WriteRegister { room, fill: random.word() as u8 });
+        Script { register: Some(register), calls }
     }
 
     /// The pairs of withdrawals of one round: on a sound register, and now and then on one with a defect.
@@ -72,6 +107,9 @@ impl Generator {
         let shape = self.shape(round);
         let litter = self.random.chance(50);
         let mut registers = vec![registers::sound(&mut self.random, shape, litter)];
+        if round % 2 == 0 {
+            registers[0] = registers::as_two(&mut self.random, &registers[0], false);
+        }
         if round % 8 == 0 {
             registers.extend(self.defect(round).register);
         }
@@ -142,6 +180,9 @@ impl Generator {
             };
             let litter = random.chance(50);
             let mut register = registers::sound(random, shape, litter);
+            if random.chance(50) {
+                register = registers::as_two(random, &register, false);
+            }
             if defect(&mut register, random) {
                 break register;
             }
@@ -196,12 +237,10 @@ impl Generator {
 
     /// Readings and printings about the register's text.
     fn texts(&mut self, register: &Register, round: usize) -> Script {
-        let random = &mut self.random;
-        let base = texts::register_text(register);
         // Fewer of the long ones.
         let (readings, printings) = if standing(&register.claims).len() > 100 { (5, 2) } else { (13, 6) };
-        let mut calls = Vec::new();
-        calls.extend((0..readings).map(|_| Call::ReadRegister(texts::some_register(random, &base))));
+        let mut calls = self.register_texts(register, round, readings, printings);
+        let random = &mut self.random;
         for at in 0..8 {
             let mut action = texts::action_text(&actions::action(random, register));
             if at % 4 != 0 {
@@ -209,6 +248,15 @@ impl Generator {
             }
             calls.push(Call::ReadAction(action));
         }
+        Script { register: None, calls }
+    }
+
+    /// So many readings of the register's text, and so many printings of what the gate says by it.
+    fn register_texts(&mut self, register: &Register, round: usize, readings: usize, printings: usize) -> Vec<Call> {
+        let random = &mut self.random;
+        let base = texts::register_text(register);
+        let mut calls = Vec::new();
+        calls.extend((0..readings).map(|_| Call::ReadRegister(texts::some_register(random, &base))));
         for at in 0..printings {
             let mut action = texts::action_text(&actions::action(random, register));
             let mut text = base.clone();
@@ -219,6 +267,6 @@ impl Generator {
             }
             calls.push(texts::verdict_text(random, text, action));
         }
-        Script { register: None, calls }
+        calls
     }
 }

@@ -2,7 +2,7 @@
 
 use super::actions::moment;
 use super::random::Random;
-use super::registers::{add_actors, expiry, ids, scatter, standing, weight};
+use super::registers::{add_actors, expiry, ids, lay_version, scatter, standing, weight};
 use guvrendik_model::types::*;
 
 const FOLDERS: [&str; 5] = ["site", "lab", "a", "b", "ab"];
@@ -42,7 +42,7 @@ fn add_resources(random: &mut Random, register: &mut Register, humans: &[u32]) {
         resource.id = id;
         resource.is_public = random.chance(15).into();
         resource.keeper = *random.pick(humans);
-        resource.len = path.len();
+        resource.len = path.len() as u32;
         resource.path[..path.len()].copy_from_slice(&path);
         register.resources.count += 1;
     }
@@ -66,6 +66,7 @@ fn grant(random: &mut Random, register: &mut Register, humans: &[u32], resource:
             resource,
             rights: if last && random.chance(20) { random.between(1, 31) as u32 } else { RIGHTS_MAX },
             weight: if last { weight(random, WEIGHT_MAX) } else { WEIGHT_MAX },
+            left: 0,
             expiry: if last && random.chance(40) { expiry(random, false) } else { 0 },
         });
         (parent, grantor) = (id, next);
@@ -78,6 +79,7 @@ pub fn register(random: &mut Random, litter: bool) -> Box<Register> {
     if litter {
         scatter(random, &mut register);
     }
+    let version = *random.pick(&[VERSION_1, VERSION_2]);
     let actors = random.between(4, 10);
     add_actors(random, &mut register, actors);
     let humans: Vec<u32> =
@@ -96,6 +98,7 @@ pub fn register(random: &mut Random, litter: bool) -> Box<Register> {
             grant(random, &mut register, &humans, resource, keeper, reader.owner);
         }
     }
+    lay_version(random, &mut register, version);
     register
 }
 
@@ -136,7 +139,7 @@ mod tests {
     fn lengths(register: &Register, action: &Action, usage: &Usage) -> Vec<usize> {
         let path = |id: u32| {
             let found = standing(&register.resources).iter().find(|resource| resource.id == id);
-            found.map(|resource| &resource.path[..resource.len.min(PATH)])
+            found.map(|resource| &resource.path[..PATH.min(resource.len as usize)])
         };
         let Some(inner) = path(usage.resource) else {
             return Vec::new();

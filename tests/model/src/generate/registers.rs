@@ -18,7 +18,58 @@ pub fn sound(random: &mut Random, shape: Shape, litter: bool) -> Box<Register> {
     add_actors(random, &mut register, shape.actors);
     add_resources(random, &mut register, shape.resources);
     add_claims(random, &mut register, shape.claims);
+    lay_version(random, &mut register, VERSION_1);
     register
+}
+
+/// The same register as version 2. With `stored`, each claim has 16 less its hop count left, as a version 1 register has it.
+pub fn as_two(random: &mut Random, register: &Register, stored: bool) -> Box<Register> {
+    let mut two = Box::new(register.clone());
+    two.version = VERSION_2;
+    lay_lefts(random, &mut two, stored);
+    two
+}
+
+/// Gives a register its version, and its claims a `left`: in version 1 often rubbish, in version 2 one that is sound.
+pub fn lay_version(random: &mut Random, register: &mut Register, version: u64) {
+    register.version = version;
+    if version == VERSION_2 {
+        let stored = random.chance(20);
+        return lay_lefts(random, register, stored);
+    }
+    let rubbish = random.chance(60);
+    let count = register.claims.count;
+    register.claims.list[..count].iter_mut().for_each(|claim| claim.left = if rubbish { some_left(random) } else { 0 });
+}
+
+/// Any number at all, often a small one.
+pub fn some_left(random: &mut Random) -> u32 {
+    let any = random.word();
+    *random.pick(&[0, 1, 15, LEFT_MAX, LEFT_MAX + 1, u32::MAX, 65_536, any])
+}
+
+/// In register order: what each claim has left is below its parent's, and leaves enough for those drawn from it.
+fn lay_lefts(random: &mut Random, register: &mut Register, stored: bool) {
+    let count = register.claims.count;
+    let claims = &mut register.claims.list[..count];
+    let parents: Vec<Option<usize>> = (0..count)
+        .map(|at| claims[..at].iter().position(|parent| claims[at].parent != 0 && parent.id == claims[at].parent))
+        .collect();
+    let mut below = vec![0; count];
+    for at in (0..count).rev() {
+        if let Some(parent) = parents[at] {
+            below[parent] = below[parent].max(below[at] + 1);
+        }
+    }
+    for at in 0..count {
+        let most = parents[at].map_or(LEFT_MAX, |parent| claims[parent].left - 1);
+        claims[at].left = match random.below(6) {
+            _ if stored => most,
+            0..=2 => most,
+            3 => below[at],
+            _ => random.between(below[at] as usize, most as usize) as u32,
+        };
+    }
 }
 
 /// Some shape that is not larger than the given one.
@@ -38,7 +89,7 @@ pub fn scatter(random: &mut Random, register: &mut Register) {
         resource.id = random.word() >> 16;
         resource.is_public = random.word();
         resource.keeper = random.word();
-        resource.len = random.next() as usize;
+        resource.len = random.word();
         resource.path.fill_with(|| random.word() as u8);
     }
     for claim in &mut register.claims.list {
@@ -50,6 +101,7 @@ pub fn scatter(random: &mut Random, register: &mut Register) {
             resource: random.word(),
             rights: random.word() >> 15,
             weight: random.word(),
+            left: random.word(),
             expiry: random.next(),
         };
     }
@@ -110,7 +162,7 @@ fn add_resources(random: &mut Random, register: &mut Register, count: usize) {
         resource.id = id;
         resource.is_public = random.chance(25).into();
         resource.keeper = *random.pick(&keepers);
-        resource.len = path.len();
+        resource.len = path.len() as u32;
         resource.path[..path.len()].copy_from_slice(&path);
         register.resources.count += 1;
         paths.push(path);
@@ -203,6 +255,7 @@ fn root(random: &mut Random, register: &Register, id: u32, delegates: bool) -> C
         resource: resource.id,
         rights,
         weight,
+        left: 0,
         expiry: expiry(random, delegates),
     }
 }
@@ -255,6 +308,7 @@ fn child_of(random: &mut Random, register: &Register, parent: usize, id: u32, de
         rights,
         // A long chain is to stay alive.
         weight: if delegates && random.chance(90) { parent.weight } else { weight(random, parent.weight) },
+        left: 0,
         expiry: expiry(random, delegates),
     })
 }
@@ -281,9 +335,9 @@ pub fn expiry(random: &mut Random, delegates: bool) -> u64 {
     }
 }
 
-/// The register whose text is the longest that a sound one has: every number at its most digits.
-pub fn longest() -> Box<Register> {
-    let mut register = Box::new(Register::EMPTY);
+/// The register of a version whose text is the longest that a sound one has: every number at its most digits.
+pub fn longest(version: u64) -> Box<Register> {
+    let mut register = Box::new(Register { version, ..Register::EMPTY });
     let keeper = 10_000;
     register.actors.push(Actor { id: keeper, kind: HUMAN, owner: 0 });
     for id in 1..ACTORS as u32 {
@@ -291,7 +345,7 @@ pub fn longest() -> Box<Register> {
     }
     for id in 0..RESOURCES as u32 {
         let path: [u8; PATH] = std::array::from_fn(|at| 0x21 + ((at as u32 + id) % 94) as u8);
-        register.resources.push(Resource { id: 20_000 + id, is_public: id & 1, keeper, len: PATH, path });
+        register.resources.push(Resource { id: 20_000 + id, is_public: id & 1, keeper, len: PATH as u32, path });
     }
     for id in 0..CLAIMS as u32 {
         register.claims.push(Claim {
@@ -302,6 +356,7 @@ pub fn longest() -> Box<Register> {
             resource: 20_000,
             rights: if id == 0 { RIGHTS_MAX } else { 100_000 + id * 16 },
             weight: WEIGHT_MAX,
+            left: if id == 0 { LEFT_MAX } else { 10 + id % 6 },
             expiry: MOMENT_MAX - u64::from(id),
         });
     }
@@ -327,6 +382,8 @@ mod tests {
             };
             let register = sound(&mut random, shape, round % 2 == 0);
             let tables = Sound::of(&register).unwrap_or_else(|| panic!("round {round}: {register:?}"));
+            let two = as_two(&mut random, &register, round % 3 == 0);
+            assert!(Sound::of(&two).is_some(), "round {round}: {two:?}");
             deepest = (0..tables.claims.len()).map(|at| tables.hops(at)).fold(deepest, usize::max);
             if round % 6 == 0 {
                 assert_eq!((register.resources.count, register.claims.count), (RESOURCES, CLAIMS));
@@ -335,9 +392,28 @@ mod tests {
         assert_eq!(deepest, HOPS);
     }
 
+    /// Gate and plan ask the same of a register and of it as version 2, each claim with what it had left.
+    #[test]
+    fn verdicts_are_the_same_as_version_2() {
+        let (mut random, model) = (Random::new(5), Model::default());
+        for round in 0..300 {
+            let register = sound(&mut random, if round % 10 == 0 { FULL } else { MEDIUM }, round % 2 == 0);
+            let two = as_two(&mut random, &register, true);
+            for _ in 0..10 {
+                let action = super::super::actions::action(&mut random, &register);
+                assert_eq!(model.gate(&register, &action), model.gate(&two, &action));
+            }
+            let plan = super::super::actions::plan(&mut random, &register);
+            assert_eq!(model.judge_plan(&register, &plan), model.judge_plan(&two, &plan));
+            let text = super::super::trees::deepest(&mut random, &register);
+            assert_eq!(model.judge_plan_text(&register, &text), model.judge_plan_text(&two, &text));
+        }
+    }
+
     #[test]
     fn the_longest_text() {
         let mut buffer = vec![0; REGISTER_TEXT];
-        assert_eq!(Model::default().write_register(&longest(), &mut buffer), Ok(37_731));
+        assert_eq!(Model::default().write_register(&longest(VERSION_1), &mut buffer), Ok(37_731));
+        assert_eq!(Model::default().write_register(&longest(VERSION_2), &mut buffer), Ok(39_779));
     }
 }

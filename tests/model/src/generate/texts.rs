@@ -9,7 +9,7 @@ use std::io::Write as _;
 /// The text of a register whose counts are within the limits, sound or not.
 pub fn register_text(register: &Register) -> Vec<u8> {
     let mut out = Vec::with_capacity(REGISTER_TEXT);
-    let all = writeln!(out, "register=1\nactors={}", register.actors.count).and_then(|()| {
+    let all = writeln!(out, "register={}\nactors={}", register.version, register.actors.count).and_then(|()| {
         for Actor { id, kind, owner } in standing(&register.actors) {
             let kind = if *kind == HUMAN { "human" } else { "machine" };
             writeln!(out, "actor={id}\nkind={kind}\nowner={owner}")?;
@@ -17,16 +17,20 @@ pub fn register_text(register: &Register) -> Vec<u8> {
         writeln!(out, "resources={}", register.resources.count)?;
         for Resource { id, is_public, keeper, len, path } in standing(&register.resources) {
             write!(out, "resource={id}\npublic={is_public}\nkeeper={keeper}\nscope=")?;
-            out.extend_from_slice(&path[..*len.min(&PATH)]);
+            out.extend_from_slice(&path[..PATH.min(*len as usize)]);
             out.push(b'\n');
         }
         writeln!(out, "claims={}", register.claims.count)?;
-        for Claim { id, parent, grantor, holder, resource, rights, weight, expiry } in standing(&register.claims) {
+        for Claim { id, parent, grantor, holder, resource, rights, weight, left, expiry } in standing(&register.claims) {
             writeln!(
                 out,
                 "claim={id}\nparent={parent}\ngrantor={grantor}\nholder={holder}\nresource={resource}\nrights={rights}\n\
-                 weight={weight}\nexpiry={expiry}"
+                 weight={weight}"
             )?;
+            if register.version == VERSION_2 {
+                writeln!(out, "left={left}")?;
+            }
+            writeln!(out, "expiry={expiry}")?;
         }
         Ok(())
     });
@@ -63,6 +67,13 @@ pub fn case_r() -> (Vec<u8>, Vec<u8>) {
         ),
         lines("now=1999 actor=2 flags=0 uses=2 use=10 right=0 use=10 right=1 governs=0"),
     )
+}
+
+/// Case R's register as version 2: the root may pass through 16 hands more, the claim drawn from it through 15.
+pub fn case_r_as_two() -> Vec<u8> {
+    let text = String::from_utf8(case_r().0).expect("ASCII");
+    let two = text.replace("register=1", "register=2");
+    two.replace("weight=1000\n", "weight=1000\nleft=16\n").replace("weight=600\n", "weight=600\nleft=15\n").into_bytes()
 }
 
 /// The starts of the lines, and the end of the text.
@@ -134,6 +145,17 @@ fn recount(random: &mut Random, text: &mut Vec<u8>, value: &[u8]) {
     }
 }
 
+/// Puts something else in place of a line that begins so, where there is one.
+fn replace_line(random: &mut Random, text: &mut Vec<u8>, key: &[u8], other: impl FnOnce(&mut Random) -> Vec<u8>) {
+    let starts = line_starts(text);
+    let lines: Vec<&[usize]> = starts.windows(2).filter(|line| text[line[0]..line[1]].starts_with(key)).collect();
+    if !lines.is_empty() {
+        let line = *random.pick(&lines);
+        let (start, end) = (line[0], line[1]);
+        text.splice(start..end, other(random));
+    }
+}
+
 /// One thing wrong, or at an edge.
 pub fn spoil(random: &mut Random, text: &mut Vec<u8>) {
     if text.is_empty() {
@@ -143,7 +165,7 @@ pub fn spoil(random: &mut Random, text: &mut Vec<u8>) {
     let starts = line_starts(text);
     let line = random.below(starts.len() - 1);
     let range = starts[line]..starts[line + 1];
-    match random.below(24) {
+    match random.below(27) {
         0 => text[at] = random.word() as u8,
         1 => text[at] = *random.pick(b"0123456789=\n\r /.-+x"),
         2 => text[at] = text[at].wrapping_add(1),
@@ -224,6 +246,17 @@ pub fn spoil(random: &mut Random, text: &mut Vec<u8>) {
                 if plus { number.saturating_add(1) } else { number.saturating_sub(1) }.to_string().into_bytes()
             });
         }
+        23 => replace_line(random, text, b"register=", |random| {
+            random
+                .pick(&[&b"register=1\n"[..], b"register=2\n", b"register=3\n", b"register=0\n", b"register=02\n"])
+                .to_vec()
+        }),
+        24 => replace_line(random, text, b"left=", |random| {
+            random.pick(&[&b""[..], b"left=\n", b"left=0\n", b"left=16\n", b"left=17\n", b"left=016\n"]).to_vec()
+        }),
+        25 => replace_line(random, text, b"expiry=", |random| {
+            [*random.pick(&[&b"left=0\n"[..], b"left=16\n"]), b"expiry=0\n"].concat()
+        }),
         _ => text.splice(range.start..range.start, [b'\n']).for_each(drop),
     }
 }
@@ -308,9 +341,9 @@ pub fn room(random: &mut Random, length: usize, most: usize) -> usize {
     }
 }
 
-/// A full register's text cut and spoiled in some places, and the longest one whole.
-pub fn large(random: &mut Random) -> Script {
-    let longest = register_text(&registers::longest());
+/// A full register's text of a version cut and spoiled in some places, and the longest one whole.
+pub fn large(random: &mut Random, version: u64) -> Script {
+    let longest = register_text(&registers::longest(version));
     let mut calls = vec![Call::ReadRegister(longest.clone())];
     for _ in 0..60 {
         calls.push(Call::ReadRegister(longest[..random.below(longest.len())].to_vec()));

@@ -136,17 +136,17 @@ impl Model {
     /// Of the claims that cover a use of the resource, whose path does not climb: the position of the one with the longest
     /// trimmed path, the first of them on a tie, and that length.
     fn nearest(&self, sound: &Sound, holdings: &Holdings, used: &Resource, right: u32) -> Option<(usize, usize)> {
-        let inner = &used.path[..used.len];
+        let inner = &used.path[..used.len as usize];
         let mut nearest: Option<(usize, usize)> = None;
         for (claim, resource) in holdings.iter() {
             if !sound.claims[claim].has_right(right) {
                 continue;
             }
             let outer = &sound.resources[resource];
-            let Some(trimmed) = reach(&outer.path[..outer.len], inner) else {
+            let Some(trimmed) = reach(&outer.path[..outer.len as usize], inner) else {
                 continue;
             };
-            let length = if self.has(Fault::UntrimmedLength) { outer.len } else { trimmed };
+            let length = if self.has(Fault::UntrimmedLength) { outer.len as usize } else { trimmed };
             let nearer = match nearest {
                 None => true,
                 Some(_) if self.has(Fault::FirstCovering) => false,
@@ -188,7 +188,7 @@ impl Climbing {
         if self.known & bit == 0 {
             self.known |= bit;
             let resource = &sound.resources[position];
-            if climbs(&resource.path[..resource.len]) {
+            if climbs(&resource.path[..resource.len as usize]) {
                 self.climbs |= bit;
             }
         }

@@ -1,20 +1,23 @@
 //! Granting a claim.
 
-use super::{Model, Refusal, Sound};
+use super::{Fault, Model, Refusal, Sound};
 use crate::types::*;
 
 impl Model {
-    /// Grants the claim: it goes to the end of the list. Refused, the register is unchanged.
+    /// Grants the claim: it goes to the end of the list, with what it has left. Refused, the register is unchanged.
     pub fn grant(&self, register: &mut Register, claim: &Claim, now: u64) -> Result<(), Refusal> {
-        self.grantable(register, claim, now)?;
-        register.claims.push(*claim);
+        let left = self.grantable(register, claim, now)?;
+        register.claims.push(Claim { left, ..*claim });
+        if self.has(Fault::VersionLost) {
+            register.version = VERSION_1;
+        }
         Ok(())
     }
 
-    /// The first test that the grant fails.
-    pub fn grantable(&self, register: &Register, claim: &Claim, now: u64) -> Result<(), Refusal> {
+    /// How many more hands the claim may pass through once it is granted. Else the first test that the grant fails.
+    pub fn grantable(&self, register: &Register, claim: &Claim, now: u64) -> Result<u32, Refusal> {
         let sound = Sound::of(register).ok_or(Refusal::Unsound)?;
-        demand(claim.in_range() && now <= MOMENT_MAX, Refusal::Range)?;
+        demand(claim.in_range(sound.version) && now <= MOMENT_MAX, Refusal::Range)?;
         let grantor = sound.actor(claim.grantor).ok_or(Refusal::Absent)?;
         sound.actor(claim.holder).ok_or(Refusal::Absent)?;
         let resource = sound.resource(claim.resource).ok_or(Refusal::Absent)?;
@@ -27,7 +30,7 @@ impl Model {
             demand(claim.rights & NOT_BY_MACHINE == 0, Refusal::NotByMachine)?;
         }
         if is_root {
-            return Ok(());
+            return Ok(if sound.version == VERSION_1 { LEFT_MAX } else { claim.left });
         }
         let above = sound.claim_position(claim.parent).ok_or(Refusal::NoParent)?;
         let parent = &sound.claims[above];
@@ -36,8 +39,10 @@ impl Model {
         demand(parent.has_right(DELEGATE), Refusal::NoDelegate)?;
         demand(claim.rights & !parent.rights == 0, Refusal::RightLacking)?;
         demand(claim.weight <= parent.weight, Refusal::Weight)?;
-        demand(sound.hops(above) < HOPS, Refusal::Hops)?;
-        demand(!sound.circles(claim.holder, above), Refusal::Circle)
+        let equal = self.has(Fault::EqualLeft) && sound.version == VERSION_2 && claim.left == parent.left;
+        demand(sound.passes_on(above, claim.left) || equal, Refusal::Hops)?;
+        demand(!sound.circles(claim.holder, above), Refusal::Circle)?;
+        Ok(if sound.version == VERSION_1 { sound.left(above) - 1 } else { claim.left })
     }
 }
 

@@ -216,7 +216,7 @@ impl<'t> Reader<'t> {
                 ID => {
                     let id = reader.string()?;
                     demand(is_id(id))?;
-                    read.id_len = id.len();
+                    read.id_len = id.len() as u32;
                     read.id[..id.len()].copy_from_slice(id);
                 }
                 ACTOR => read.action.actor = reader.number()?,

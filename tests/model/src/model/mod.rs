@@ -53,7 +53,7 @@ pub enum Refusal {
     RightLacking = 13,
     /// The weight is above the parent's.
     Weight = 14,
-    /// More than 16 hops.
+    /// More than 16 hops, or in version 2 a `left` that is not below the parent's.
     Hops = 15,
     /// A circle.
     Circle = 16,
@@ -94,6 +94,10 @@ pub enum Fault {
     DrawnKept,
     /// A clearing of old claims takes claims of weight 0.
     WeightlessCleared,
+    /// In version 2 a claim is granted that has as much left as its parent.
+    EqualLeft,
+    /// What a grant leaves has version 1.
+    VersionLost,
     /// A number with a leading zero is read.
     LeadingZero,
     /// The hop count is that of the first covering claim, however near.
@@ -117,7 +121,7 @@ pub enum Fault {
 }
 
 impl Fault {
-    pub const ALL: [(&'static str, Fault); 17] = [
+    pub const ALL: [(&'static str, Fault); 19] = [
         ("expiry-equal-live", Fault::ExpiryEqualLive),
         ("source-unasked", Fault::SourceUnasked),
         ("direct-children", Fault::DirectChildren),
@@ -125,6 +129,8 @@ impl Fault {
         ("expiry-equal-kept", Fault::ExpiryEqualKept),
         ("drawn-kept", Fault::DrawnKept),
         ("weightless-cleared", Fault::WeightlessCleared),
+        ("equal-left", Fault::EqualLeft),
+        ("version-lost", Fault::VersionLost),
         ("leading-zero", Fault::LeadingZero),
         ("first-covering", Fault::FirstCovering),
         ("last-on-tie", Fault::LastOnTie),

@@ -45,7 +45,7 @@ impl Model {
                 Judgement { decision: CANCELLED, violations: 0 }
             } else {
                 let verdict = self.judge(sound, action, actor);
-                Judgement { decision: verdict.decision, violations: verdict.count }
+                Judgement { decision: verdict.decision, violations: verdict.count as u32 }
             };
             cancelled |= action.flags != 0;
         }

@@ -35,7 +35,7 @@ fn stopped(text: &str) -> (u32, usize, usize) {
 }
 
 /// The decisions, each with its number of violations.
-fn verdicts(text: &str) -> Vec<(u32, usize)> {
+fn verdicts(text: &str) -> Vec<(u32, u32)> {
     let verdict = judged(text);
     assert_eq!((verdict.accepted, verdict.refusal, verdict.line, verdict.position), (1, 0, 0, 0));
     assert!(verdict.list[verdict.count..].iter().all(|past| *past == Judgement { decision: 0, violations: 0 }));

@@ -6,6 +6,7 @@ use crate::types::*;
 
 /// A register that was found sound, with its tables.
 pub struct Sound<'r> {
+    pub version: u64,
     pub actors: &'r [Actor],
     pub resources: &'r [Resource],
     pub claims: &'r [Claim],
@@ -21,7 +22,7 @@ pub struct Sound<'r> {
 impl Resource {
     /// The path, or `None` where its length is above the limit.
     pub fn path(&self) -> Option<&[u8]> {
-        self.path.get(..self.len)
+        self.path.get(..self.len as usize)
     }
 }
 
@@ -30,8 +31,9 @@ impl Claim {
         self.rights >> right & 1 == 1
     }
 
-    /// Whether every number is in its range. Of a claim in a register and of one to be granted.
-    pub fn in_range(&self) -> bool {
+    /// Whether every number is in its range. Of a claim in a register of this version and of one to be granted there: in version 1
+    /// `left` may be any number.
+    pub fn in_range(&self, version: u64) -> bool {
         is_id(self.id)
             && self.parent <= ID_MAX
             && is_id(self.grantor)
@@ -39,6 +41,7 @@ impl Claim {
             && is_id(self.resource)
             && (1..=RIGHTS_MAX).contains(&self.rights)
             && self.weight <= WEIGHT_MAX
+            && (version == VERSION_1 || self.left <= LEFT_MAX)
             && self.expiry <= MOMENT_MAX
     }
 }
@@ -68,10 +71,12 @@ impl Model {
 impl<'r> Sound<'r> {
     /// The register's tables, or `None` where it is not sound.
     pub fn of(register: &'r Register) -> Option<Self> {
+        let version = Some(register.version).filter(|version| (VERSION_1..=VERSION_2).contains(version))?;
         let actors = register.actors.entries()?;
         let resources = register.resources.entries()?;
         let claims = register.claims.entries()?;
         let mut sound = Sound {
+            version,
             actors,
             resources,
             claims,
@@ -106,6 +111,24 @@ impl<'r> Sound<'r> {
     /// The steps from the claim at a position up to its root.
     pub fn hops(&self, position: usize) -> usize {
         usize::from(self.hops[position])
+    }
+
+    /// How many more hands the claim at a position may pass through: in version 1 16 less its hop count, in version 2 as it says.
+    pub fn left(&self, position: usize) -> u32 {
+        if self.version == VERSION_1 {
+            LEFT_MAX - u32::from(self.hops[position])
+        } else {
+            self.claims[position].left
+        }
+    }
+
+    /// Whether the claim at a position may be passed on with so much left: in version 1 whatever it says, up to 16 hops.
+    pub fn passes_on(&self, position: usize, left: u32) -> bool {
+        if self.version == VERSION_1 {
+            self.hops(position) < HOPS
+        } else {
+            left < self.claims[position].left
+        }
     }
 
     /// The parent's position, `None` for a root.
@@ -144,7 +167,7 @@ impl<'r> Sound<'r> {
         else {
             return false;
         };
-        if !claim.in_range() || !may_grant(grantor, claim) {
+        if !claim.in_range(self.version) || !may_grant(grantor, claim) {
             return false;
         }
         if claim.parent == 0 {
@@ -154,15 +177,14 @@ impl<'r> Sound<'r> {
             return false;
         };
         let parent = &self.claims[above];
-        let hops = self.hops[above] + 1;
         self.parents[position] = above as u8;
-        self.hops[position] = hops;
+        self.hops[position] = self.hops[above] + 1;
         parent.holder == claim.grantor
             && parent.resource == claim.resource
             && parent.has_right(DELEGATE)
             && claim.rights & !parent.rights == 0
             && claim.weight <= parent.weight
-            && usize::from(hops) <= HOPS
+            && self.passes_on(above, claim.left)
             && !self.circles(claim.holder, above)
     }
 

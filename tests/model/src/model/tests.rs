@@ -61,7 +61,8 @@ fn chain(hops: u32) -> Register {
 /// The claim at a hop of `chain`: its id is one more than the hop.
 fn link(hop: u32) -> Claim {
     let grantor = hop.max(1);
-    Claim { id: hop + 1, parent: hop, grantor, holder: hop + 1, resource: 10, rights: 17, weight: 5, expiry: 0 }
+    let left = LEFT_MAX.saturating_sub(hop);
+    Claim { id: hop + 1, parent: hop, grantor, holder: hop + 1, resource: 10, rights: 17, weight: 5, left, expiry: 0 }
 }
 
 #[test]
@@ -101,6 +102,7 @@ fn line(ends: [(u32, u64); 3]) -> Box<Register> {
             resource: 1,
             rights,
             weight,
+            left: 0,
             expiry,
         });
     }
@@ -129,7 +131,7 @@ fn liveness() {
 #[test]
 fn a_grant_asks_the_whole_chain() {
     let claim =
-        Claim { id: 4, parent: 3, grantor: 4, holder: 1, resource: 1, rights: 1 << READ, weight: 600, expiry: 0 };
+        Claim { id: 4, parent: 3, grantor: 4, holder: 1, resource: 1, rights: 1 << READ, weight: 600, ..Claim::ZERO };
     let granted = |ends, now| MODEL.grantable(&line(ends), &claim, now);
     assert_eq!(granted([(600, 2000), (600, 0), (600, 0)], 2000), Err(Refusal::NotLive));
     assert_eq!(granted([(600, 2000), (600, 0), (600, 0)], 1999), Err(Refusal::Circle));
@@ -186,7 +188,7 @@ fn claim_257_is_refused() {
 
 #[test]
 fn grant_tests_in_order() {
-    let root = Claim { id: 3, parent: 0, grantor: 1, holder: 2, resource: 10, rights: 1, weight: 9, expiry: 0 };
+    let root = Claim { id: 3, parent: 0, grantor: 1, holder: 2, resource: 10, rights: 1, weight: 9, ..Claim::ZERO };
     let child = Claim { parent: 1, ..root };
     let unsound = |edit: fn(&mut Register)| {
         let mut register = case_r();
@@ -339,7 +341,7 @@ fn hops_among(paths: &[&str], used: &str) -> usize {
     register.claims.count = 0;
     register.resources.count = 0;
     for (at, path) in (0..).zip(paths.iter().chain(&[used])) {
-        let mut resource = Resource { id: 20 + at, is_public: 0, keeper: 1, len: path.len(), path: [0; PATH] };
+        let mut resource = Resource { id: 20 + at, keeper: 1, len: path.len() as u32, ..Resource::ZERO };
         resource.path[..path.len()].copy_from_slice(path.as_bytes());
         register.resources.push(resource);
         let root = Claim {
@@ -350,7 +352,7 @@ fn hops_among(paths: &[&str], used: &str) -> usize {
             resource: 20 + at,
             rights: 1,
             weight: 9,
-            expiry: 0,
+            ..Claim::ZERO
         };
         if at as usize == paths.len() {
             continue;
@@ -377,4 +379,100 @@ fn the_nearest_claim_speaks() {
     assert_eq!(hops_among(&["", "/"], "/x"), 0);
     assert_eq!(hops_among(&["/", ""], "/x"), 0);
     assert_eq!(hops_among(&["", "a/.."], "a/b"), 0);
+}
+
+/// Case R as version 2, with so much left at the root and at the claim drawn from it.
+fn case_r_as_two(root: &str, drawn: &str) -> String {
+    let text = lines(CASE_R).replace("register=1", "register=2");
+    text.replace("weight=1000\n", &format!("weight=1000\n{root}"))
+        .replace("weight=600\n", &format!("weight=600\n{drawn}"))
+}
+
+#[test]
+fn version_lines() {
+    let text = lines(CASE_R);
+    for line in ["register=02\n", "register=0\n", "register=3\n", "register=12\n", "register=\n", "register=1 \n"] {
+        assert_eq!(read(&text.replacen("register=1\n", line, 1)), Err((19, 1)), "{line}");
+    }
+    assert_eq!(read("register=2"), Err((19, 1)));
+    // Version 2 asks for a line that case R does not have; version 1 has no place for it.
+    assert_eq!(read(&text.replacen("register=1", "register=2", 1)), Err((19, 22)));
+    assert_eq!(read(&case_r_as_two("left=16\n", "left=15\n").replacen("register=2", "register=1", 1)), Err((19, 22)));
+}
+
+#[test]
+fn lines_of_left() {
+    for (root, drawn, expected) in [
+        ("left=17\n", "left=15\n", (19, 22)),
+        ("left=016\n", "left=15\n", (19, 22)),
+        ("left=\n", "left=15\n", (19, 22)),
+        ("left=16\n", "", (19, 31)),
+        ("left=16\n", "left=16\n", (1, 0)),
+        ("left=3\n", "left=3\n", (1, 0)),
+        ("left=3\n", "left=4\n", (1, 0)),
+        ("left=0\n", "left=0\n", (1, 0)),
+    ] {
+        assert_eq!(read(&case_r_as_two(root, drawn)), Err(expected), "{root}{drawn}");
+    }
+    for (root, drawn) in [(16, 15), (16, 0), (1, 0), (7, 3)] {
+        let text = case_r_as_two(&format!("left={root}\n"), &format!("left={drawn}\n"));
+        let register = read(&text).expect("sound");
+        assert_eq!((register.version, register.claims.list[0].left, register.claims.list[1].left), (2, root, drawn));
+        let mut buffer = vec![0; text.len()];
+        assert_eq!(MODEL.write_register(&register, &mut buffer), Ok(text.len()));
+        assert_eq!(buffer, text.as_bytes());
+    }
+}
+
+#[test]
+fn version_1_gives_what_is_left_and_asks_nothing_of_it() {
+    let register = case_r();
+    assert_eq!((register.version, register.claims.list[0].left, register.claims.list[1].left), (1, 16, 15));
+    let mut rubbish = register.clone();
+    rubbish.claims.list[0].left = 0;
+    rubbish.claims.list[1].left = u32::MAX;
+    assert!(MODEL.sound(&rubbish));
+    let (mut one, mut two) = (vec![0; 500], vec![0; 500]);
+    assert_eq!(MODEL.write_register(&rubbish, &mut one), MODEL.write_register(&register, &mut two));
+    assert_eq!(one, two);
+    let child = Claim { id: 3, parent: 1, grantor: 1, holder: 2, resource: 10, rights: 1, weight: 9, ..Claim::ZERO };
+    assert_eq!(MODEL.grant(&mut rubbish, &Claim { left: u32::MAX, ..child }, 0), Ok(()));
+    assert_eq!(rubbish.claims.list.map(|claim| claim.left)[..4], [0, u32::MAX, 15, 0]);
+    assert_eq!(MODEL.grant(&mut rubbish, &Claim { id: 4, parent: 0, left: 3, ..child }, 0), Ok(()));
+    assert_eq!(rubbish.claims.list[3].left, 16);
+    assert_eq!(MODEL.revoke(&mut rubbish, 1, 3), Ok(1));
+    assert_eq!(rubbish.claims.list.map(|claim| claim.left)[..4], [0, u32::MAX, 16, 0]);
+}
+
+#[test]
+fn version_2_grants_less_than_the_parent_has_left() {
+    let register = read(&case_r_as_two("left=4\n", "left=2\n")).expect("sound");
+    let child = Claim { id: 3, parent: 1, grantor: 1, holder: 2, resource: 10, rights: 1, weight: 9, ..Claim::ZERO };
+    let granted = |claim: Claim| MODEL.grantable(&register, &claim, 0);
+    assert_eq!(granted(Claim { left: 3, ..child }), Ok(3));
+    assert_eq!(granted(child), Ok(0));
+    assert_eq!(granted(Claim { left: 4, ..child }), Err(Refusal::Hops));
+    assert_eq!(granted(Claim { left: 16, ..child }), Err(Refusal::Hops));
+    assert_eq!(granted(Claim { left: 17, ..child }), Err(Refusal::Range));
+    // A root may have any; 14 comes before 15, and 15 before 16.
+    assert_eq!(granted(Claim { left: 16, parent: 0, ..child }), Ok(16));
+    assert_eq!(granted(Claim { left: 4, holder: 1, ..child }), Err(Refusal::Hops));
+    assert_eq!(granted(Claim { left: 3, holder: 1, ..child }), Err(Refusal::Circle));
+    let mut light = register.clone();
+    light.claims.list[0].weight = 600;
+    assert_eq!(MODEL.grantable(&light, &Claim { left: 4, weight: 601, ..child }, 0), Err(Refusal::Weight));
+    let mut after = register.clone();
+    assert_eq!(MODEL.grant(&mut after, &Claim { left: 3, ..child }, 0), Ok(()));
+    assert_eq!((after.version, after.claims.list[2].left), (2, 3));
+    assert_eq!(MODEL.revoke(&mut after, 1, 3), Ok(1));
+    assert_eq!(after, register);
+}
+
+#[test]
+fn no_other_version_is_sound() {
+    for version in [0, 3, 12, (1 << 32) + 1, (1 << 32) + 2, u64::MAX] {
+        assert!(!MODEL.sound(&Register { version, ..Register::EMPTY }));
+        assert_eq!(refusal(MODEL.write_register(&Register { version, ..case_r() }, &mut [])), 1);
+    }
+    assert!([1, 2].iter().all(|&version| MODEL.sound(&Register { version, ..Register::EMPTY })));
 }

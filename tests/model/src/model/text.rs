@@ -1,6 +1,6 @@
 //! The texts of a register, an action, a plan and a verdict.
 
-use super::{Fault, Model, Refusal};
+use super::{Fault, Model, Refusal, Sound};
 use crate::types::*;
 use std::ops::RangeInclusive;
 
@@ -111,12 +111,13 @@ impl<'t> Lines<'t> {
         if scope.len() > PATH || !scope.iter().all(|byte| (0x21..=0x7E).contains(byte)) {
             return self.fail(Refusal::Form);
         }
-        resource.len = scope.len();
+        resource.len = scope.len() as u32;
         resource.path[..scope.len()].copy_from_slice(scope);
         Ok(())
     }
 
-    fn claim(&mut self) -> Result<Claim, Unread> {
+    /// A claim of a register of this version. One of version 1 says nothing of what it has left.
+    fn claim(&mut self, version: u64) -> Result<Claim, Unread> {
         Ok(Claim {
             id: self.id("claim", REAL_ID)?,
             parent: self.id("parent", ANY_ID)?,
@@ -125,15 +126,14 @@ impl<'t> Lines<'t> {
             resource: self.id("resource", REAL_ID)?,
             rights: self.id("rights", 1..=RIGHTS_MAX.into())?,
             weight: self.id("weight", 0..=WEIGHT_MAX.into())?,
+            left: if version == VERSION_2 { self.id("left", 0..=LEFT_MAX.into())? } else { 0 },
             expiry: self.number("expiry", 0..=MOMENT_MAX)?,
         })
     }
 
     /// Reads into an empty register.
     fn register(&mut self, register: &mut Register) -> Result<(), Unread> {
-        if self.value("register")? != b"1" {
-            return self.fail(Refusal::Form);
-        }
+        register.version = self.number("register", VERSION_1..=VERSION_2)?;
         register.actors.count = self.count("actors", ACTORS)?;
         for actor in &mut register.actors.list[..register.actors.count] {
             *actor = self.actor()?;
@@ -144,7 +144,7 @@ impl<'t> Lines<'t> {
         }
         register.claims.count = self.count("claims", CLAIMS)?;
         for claim in &mut register.claims.list[..register.claims.count] {
-            *claim = self.claim()?;
+            *claim = self.claim(register.version)?;
         }
         self.end()
     }
@@ -277,7 +277,7 @@ pub trait Text {
 /// Of a sound register.
 impl Text for Register {
     fn text(&self, out: &mut impl Sink) {
-        out.line("register", 1);
+        out.line("register", self.version);
         out.line("actors", self.actors.count as u64);
         for actor in &self.actors.list[..self.actors.count] {
             out.line("actor", actor.id.into());
@@ -289,7 +289,7 @@ impl Text for Register {
             out.line("resource", resource.id.into());
             out.line("public", resource.is_public.into());
             out.line("keeper", resource.keeper.into());
-            out.words("scope", &resource.path[..resource.len]);
+            out.words("scope", &resource.path[..resource.len as usize]);
         }
         out.line("claims", self.claims.count as u64);
         for claim in &self.claims.list[..self.claims.count] {
@@ -300,6 +300,9 @@ impl Text for Register {
             out.line("resource", claim.resource.into());
             out.line("rights", claim.rights.into());
             out.line("weight", claim.weight.into());
+            if self.version == VERSION_2 {
+                out.line("left", claim.left.into());
+            }
             out.line("expiry", claim.expiry);
         }
     }
@@ -331,11 +334,14 @@ impl Model {
         }
     }
 
-    /// Reads a register's text into an empty register. Refused, the register is left empty.
+    /// Reads a register's text into an empty register, each claim with what it has left. Refused, the register is left empty.
     pub fn read_register(&self, text: &[u8], register: &mut Register) -> Result<(), Unread> {
-        let read = self.lines(text).register(register).and_then(|()| match self.sound(register) {
-            true => Ok(()),
-            false => Err(Unread { refusal: Refusal::Unsound, line: 0 }),
+        let read = self.lines(text).register(register).and_then(|()| {
+            let sound = Sound::of(register).ok_or(Unread { refusal: Refusal::Unsound, line: 0 })?;
+            let lefts: [u32; CLAIMS] =
+                std::array::from_fn(|at| if at < sound.claims.len() { sound.left(at) } else { 0 });
+            register.claims.list.iter_mut().zip(lefts).for_each(|(claim, left)| claim.left = left);
+            Ok(())
         });
         if read.is_err() {
             *register = Register::EMPTY;

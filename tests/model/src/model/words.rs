@@ -56,7 +56,7 @@ fn refusal(number: u32) -> &'static str {
         12 => "parent lacks DELEGATE",
         13 => "a right the parent lacks",
         14 => "weight above the parent's",
-        15 => "more than 16 hops",
+        15 => "more than 16 hops, or left not below the parent's",
         16 => "circle: the holder holds a claim higher on the chain, or granted its root",
         17 => "claim to revoke does not stand",
         18 => "revoker is no grantor on that claim's chain, or caller is not the keeper or not human",

@@ -1,0 +1,85 @@
+-- `register_reading::read_listed` meets its contract: the array is filled from the front, one thing read in each turn. Assumes nothing.
+use Prim.Native.Nat.{ℕ, _-_, _≤_}
+use borrow.Author.Needs.{needs}
+use native.Mathlib.Omega.{arith}
+use mathlib.Core.Path.{_≡_, refl}
+use mathlib.Core.List.{List, _++_}
+use lib.ListN.{length, replicate}
+use Rattle.register.specs.Limits.{claimLimit}
+use Rattle.register.specs.Register.{noClaim}
+use Rattle.text_rules.specs.Keys.{claimsKey}
+use Rattle.text_rules.specs.Records.{many}
+use Rattle.register.specs.declared.Claim.{Claim}
+use Rattle.refusals.specs.declared.Refusal.the-variants.{Count}
+use Rattle.lines.specs.Answers.{stateOf}
+use Rattle.text_rules.specs.Registers.{readClaim, heldClaims}
+use Rattle.register_reading.specs.Runs.{field-bound}
+use Rattle.register_reading.specs.Filling.{Listing, listing-start, listing-next, listing-done}
+use Rattle.register_reading.proofs.read_listed.Statement.{statement}
+use Rattle.register_reading.proofs.read_listed.Tie as tie
+
+abbrev Inv-loop : tie.InvT-loop
+Inv-loop version s count list₀ cursor₀ i₀ list cursor i = Listing s (readClaim version) claimLimit noClaim (stateOf s cursor₀) count list cursor i
+
+abbrev μ-loop : tie.MeasureT-loop
+μ-loop version s count list₀ cursor₀ i₀ list cursor i = count - i
+
+-- no more than the array has places
+count-bound : (c : tie.After-read-count Inv-loop μ-loop) → c .read-count .result .value ≤ claimLimit
+count-bound c =
+    let args = c .before .before .before .args in
+    field-bound (args .s .now) claimsKey 0 claimLimit Count (stateOf (args .s .now) (args .c)) (c .read-count .result) (c .read-count .ensures)
+
+loop-holds : tie.Need-loop-holds Inv-loop μ-loop
+loop-holds c = rw (c .before .none .ensures) (listing-start _ _ refl refl)
+
+mul-list : tie.Need-mul-list Inv-loop μ-loop
+mul-list c = omega (arith, count-bound (c .before .before .before .before .before .before .before), c .before .before .before .loop-test .taken)
+
+array-set-from-list : tie.Need-array-set-from-list Inv-loop μ-loop
+array-set-from-list c = omega (arith, count-bound (c .before .before .before .before .before .before .before), c .before .before .before .loop-test .taken)
+
+add-i : tie.Need-add-i Inv-loop μ-loop
+add-i c = omega (arith, count-bound (c .before .before .before .before .before .before .before), c .before .before .before .loop-test .taken)
+
+loop-less : tie.Need-loop-less Inv-loop μ-loop
+loop-less c = omega (arith, c .before .before .before .loop-test .taken)
+
+loop-again : tie.Need-loop-again Inv-loop μ-loop
+loop-again c =
+    let before = c .before .before .before .before .loop in
+    let one = c .before .before .read-claim in
+    listing-next (before .list) (before .cursor) (before .i) (one .result .claim) (one .result .cursor) (before .inv) (c .before .before .before .loop-test .taken) (count-bound (c .before .before .before .before .before .before .before)) (one .ensures)
+
+-- a list with its count as the answer holds it
+held : (list : List Claim) (n : ℕ) (things : List Claim) → list ≡ things ++ replicate (claimLimit - length things) noClaim → n ≡ length things →
+    record { list = list; count = n } ≡ heldClaims things
+held list n things filled many = rw (filled, many)
+
+returns : tie.Need-returns Inv-loop μ-loop
+returns c =
+    let end = c .before .loop in
+    let counted = c .before .before .before .before .read-count in
+    let given = c .before .before .before .before .before .before .before .args in
+    let s = given .s .now in
+    let things = many (readClaim (given .version)) (counted .result .value) (stateOf s (counted .result .cursor)) .value in
+    let all = listing-done (end .list) (end .cursor) (end .i) (end .inv) (c .loop-test .left) in
+    (count-bound (c .before .before .before .before), rw (← counted .ensures .value, ← counted .ensures .state) (held (end .list) (counted .result .value) things (all .0) (all .1), all .2))
+
+pub read-listed-spec : {M : Type 1} → statement M
+read-listed-spec =
+    tie.close
+    (tie.spec
+    Inv-loop
+    μ-loop
+    (λ c. search needs)
+    (λ c κs. search needs)
+    (λ c κs. search needs)
+    loop-holds
+    (λ c κs. search needs)
+    mul-list
+    array-set-from-list
+    add-i
+    loop-less
+    loop-again
+    returns)

@@ -1,0 +1,4 @@
+pub mod Rewriting
+pub mod Reading
+pub mod Theorems
+pub mod Cases
