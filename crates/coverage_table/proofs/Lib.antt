@@ -1,0 +1,7 @@
+pub mod Remarks
+pub mod Filling
+pub mod Cells
+pub mod Uses
+pub mod Sameness
+pub mod Theorems
+pub mod Cases
