@@ -24,6 +24,7 @@ use Rattle.refusals.specs.declared.Refusal.the-variants.{Unsound, Form, Count}
 use Rattle.refusals.specs.declared.Outcome.the-variants.{Accepted, Refused}
 use Rattle.decimals.specs.Decimals.{digits, digitsWith, after, value, canonical, parse, digitRun}
 use Rattle.lines.specs.Lines.{begins, ended, parseLimited, atLeast, decimalLine, parseWord, wordLine, pathOn, parseScope, scopeLine}
+use Rattle.text_rules.specs.FirstLines.{firstLines}
 use Rattle.text_rules.specs.Records.{values, passed, linesText, many, texts}
 use Rattle.text_rules.specs.Registers.{readActors, readResources, readClaims, registerFrom, registerText, registerRead}
 use Rattle.actions.specs.Actions.{noUse, noAction}
@@ -156,3 +157,16 @@ action-case-refused : map actionRead (
     ∷ actionRefusedAt Count 5 ∷ actionRefusedAt Form 6 ∷ actionRefusedAt Form 10 ∷ [])
 unfolding actionRead actionOf readAction readUses readGoverns values passed many parseLimited atLeast begins ended parse canonical digitRun after value
 action-case-refused = refl
+
+-- no line, two of three, all and more than there are; a last line without its LF; an empty line
+first-lines-told : map (λ n. firstLines n (lined "ab c d")) (0 ∷ 2 ∷ 3 ∷ 4 ∷ []) ≡ ([] ∷ lined "ab c" ∷ lined "ab c d" ∷ lined "ab c d" ∷ [])
+unfolding firstLines
+first-lines-told = refl
+
+first-lines-unended : map (λ n. firstLines n (unended "ab c d")) (1 ∷ 2 ∷ 3 ∷ []) ≡ (lined "ab" ∷ lined "ab c" ∷ unended "ab c d" ∷ [])
+unfolding firstLines
+first-lines-unended = refl
+
+first-lines-empty : map (λ n. firstLines n (10 ∷ 10 ∷ 97 ∷ [])) (1 ∷ 2 ∷ []) ≡ ((10 ∷ []) ∷ (10 ∷ 10 ∷ []) ∷ [])
+unfolding firstLines
+first-lines-empty = refl

@@ -4,7 +4,10 @@ pub mod RegisterLaws
 pub mod ActionLaws
 pub mod Sameness
 pub mod Naming
+pub mod Agreeing
+pub mod Failing
 pub mod Theorems
 pub mod Cases
 pub mod CasesVersions
 pub mod TheoremsActions
+pub mod TheoremsLines

@@ -11,3 +11,4 @@ pub mod Holding
 pub mod ActionCodec
 pub mod ActionTexts
 pub mod Telling
+pub mod FirstLines
