@@ -447,7 +447,7 @@ typedef struct guvrendik_register_read {
  * Refusals: the first failing line decides between 19, not of the form or a number or path outside its field's range, and 20, a
  * count above its limit, whatever its length; a text that ends early, and bytes after the end, fail as the next line with 19.
  * Soundness comes last, with 1.
- * Stack: 109,000 bytes. */
+ * Stack: 92,000 bytes. */
 guvrendik_register_read guvrendik_read_register(const uint8_t *text, size_t text_len);
 
 /* The answer of a call that writes a text. */
@@ -512,7 +512,7 @@ guvrendik_plan_text_verdict guvrendik_judge_plan_text(guvrendik_register r, cons
  *                              are enough for every verdict.
  * Refusal: 21 buffer too short. Then the buffer keeps every byte. A text that is not read is no refusal of this call: its answer
  * is the text with verdict=stopped.
- * Stack: 98,000 bytes. */
+ * Stack: 80,000 bytes. */
 guvrendik_written guvrendik_verdict_text(const uint8_t *register_text, size_t register_len, const uint8_t *action_text,
                                          size_t action_len, uint8_t *buffer, size_t buffer_len);
 

@@ -1,27 +1,24 @@
--- Claims of a sheet stored one after the other: each with the hands that it has left, by the hops that are kept of those before it. Assumes nothing.
+-- Claims of a list stored one after the other, where they stand: each with the hands that it has left, by the hops that are kept of those before it. Assumes nothing.
 use mathlib.Core.Path.{_≡_, refl, sym, ap, _∙_}
 use mathlib.Core.Bool.{cond}
-use mathlib.Core.List.{List, [], _∷_, _++_, map}
+use mathlib.Core.List.{List, [], _∷_, _++_, map, append-assoc}
 use Prim.Native.Nat.{ℕ, suc, _+_, _-_, _≤_, _<_}
 use native.Mathlib.Numerals.{add-one}
 use native.Mathlib.Omega.{arith}
 use borrow.Author.Tests.{eqb-true, eqb-false, lt-leb}
 use lib.Dec.{eqb, leb}
-use lib.ListN.{length, take, getD, set, replicate, length-map, length-set, length-take, length-reverse}
-use lib.Seq.{take-suc, getD-set-same, getD-set-other}
+use lib.ListN.{length, take, drop, getD, set, length-map, length-set, length-take, length-drop, length-append, length-reverse, List·getD-map}
+use lib.Seq.{take-suc, drop-cons, set-at, getD-append-seam, getD-set-same, getD-set-other}
 use Rattle.lists.specs.Tests.{cases}
-use Rattle.lists.specs.Fills.{put-first}
 use Rattle.register.specs.Limits.{claimLimit}
 use Rattle.register.specs.Register.{withLeft, noClaim}
 use Rattle.register.specs.Laws.{bare}
-use Rattle.register.specs.Chain.{latest, hopsOf}
+use Rattle.register.specs.Chain.{latest}
 use Rattle.register.specs.declared.Claim.{Claim}
 use Rattle.register.specs.declared.Claims.{Claims}
 use Rattle.columns.specs.Columns.{claimId, parentOf, latestPlace, chainPlaces}
 use Rattle.columns.specs.Laws.{place-cases, place-found, chain-places-at, chain-places-nowhere, chain-places-zero}
 use Rattle.columns.specs.Laws as column-laws
-use Rattle.columns.specs.Sheet.{sheetLimit, columnOf, claimAt, claimsIn, idColumn, parentColumn}
-use Rattle.columns.specs.SheetLaws.{column-length, claims-in-length, claims-in-at, column-natural}
 use Rattle.columns.specs.declared.Place.{Place}
 use Rattle.lookup.specs.Finding.{placeNumber, earlierPlaces, earlierFound}
 use Rattle.lookup.specs.declared.Found.{Found}
@@ -29,14 +26,14 @@ use Rattle.lookup.specs.Laws.{earlier-at}
 use Rattle.soundness_rules.specs.Sound.{stored, eachStored}
 use Rattle.soundness_rules.specs.Alike.{each-stored-bare, stored-claims-next}
 use Rattle.claim_judging.specs.Over.{handsAt}
-use Rattle.text_rules.specs.Registers.{heldClaims}
-use Rattle.register_reading.specs.Lefts.{hopsBy}
+use Rattle.register_reading.specs.Lefts.{hopsBy, linksOf, storedIn}
+use Rattle.register_reading.specs.declared.Links.{Links}
 
--- the places of the parents, by the columns of a sheet
-pub places-told : (s : List ℕ) (n : ℕ) {ids parents : List ℕ} {e : Found} → ids ≡ columnOf idColumn s → parents ≡ columnOf parentColumn s
-    → e ≡ earlierFound ids parents n → e .places ≡ earlierPlaces (columnOf idColumn s) (columnOf parentColumn s) n
+-- the places of the parents, by the ids and the parents of the claims
+pub places-told : (cs : List Claim) (n : ℕ) {l : Links} {e : Found} → l ≡ linksOf cs → e ≡ earlierFound (l .ids) (l .parents) n
+    → e .places ≡ earlierPlaces (map claimId cs) (map parentOf cs) n
 unfolding earlierFound
-places-told s n of-ids of-parents found = ap (λ f. f .places) found ∙ rw (of-ids, of-parents)
+places-told cs n linked found = ap (λ f. f .places) found ∙ ap (λ m. earlierPlaces (m .ids) (m .parents) n) linked
 
 -- the hops of a claim before place i, by those that are kept
 module _ (ids parents hops : List ℕ) (i p : ℕ) (few : i ≤ claimLimit)
@@ -69,30 +66,28 @@ module _ (ids parents hops : List ℕ) (i p : ℕ) (few : i ≤ claimLimit)
       omega (arith, ap length (chain-places-at ids parents i p k (eqb-false p 0 e) q), kept k (found .0), low k (found .0), found .0))
       (λ q. omega (arith, ap length (chain-places-nowhere ids parents i p q))))
 
--- the claims before place i are stored, and their hops are kept
-pub record Storing (version : ℕ) (s : List ℕ) (n : ℕ) (list : List Claim) (hops : List ℕ) (i : ℕ) : Type 0 where
+-- the claims before place i are stored, those from there on are as they came, and the hops of those stored are kept
+pub record Storing (version : ℕ) (cs : List Claim) (n : ℕ) (list : List Claim) (hops : List ℕ) (i : ℕ) : Type 0 where
   pub within : i ≤ n
   pub room : length hops ≡ claimLimit
-  pub kept : (j : ℕ) → j < i
-      → getD hops j 0 ≡ length (chainPlaces (columnOf idColumn s) (columnOf parentColumn s) j (getD (columnOf parentColumn s) j 0))
+  pub kept : (j : ℕ) → j < i → getD hops j 0 ≡ length (chainPlaces (map claimId cs) (map parentOf cs) j (getD (map parentOf cs) j 0))
   pub low : (j : ℕ) → j < i → getD hops j 0 ≤ j
-  pub put : list ≡ latest (eachStored version (latest (take i (claimsIn s)))) ++ replicate (claimLimit - i) noClaim
+  pub put : list ≡ latest (eachStored version (latest (take i cs))) ++ drop i cs
 
 none-stored : (version : ℕ) → latest (eachStored version (latest [])) ≡ []
 unfolding eachStored
 none-stored version = refl
 
-pub storing-start : (version : ℕ) (s : List ℕ) (n : ℕ) (list : List Claim) (hops : List ℕ) → list ≡ replicate claimLimit noClaim → length hops ≡ claimLimit
-    → Storing version s n list hops 0
-storing-start version s n list hops empty room = record {
+pub storing-start : (version : ℕ) (cs : List Claim) (n : ℕ) (hops : List ℕ) → length hops ≡ claimLimit → Storing version cs n cs hops 0
+storing-start version cs n hops room = record {
   within = omega arith;
   room = room;
   kept = λ j h. absurd (omega arith);
   low = λ j h. absurd (omega arith);
-  put = empty ∙ sym (ap (λ l. l ++ replicate claimLimit noClaim) (none-stored version));
+  put = sym (ap (λ l. l ++ cs) (none-stored version));
 }
 
-stored-length : (version : ℕ) (cs : List Claim) → length (latest (eachStored version (latest cs))) ≡ length cs
+pub stored-length : (version : ℕ) (cs : List Claim) → length (latest (eachStored version (latest cs))) ≡ length cs
 stored-length version cs =
     length-reverse (eachStored version (latest cs))
     ∙ sym (length-map (eachStored version (latest cs)) bare)
@@ -100,48 +95,60 @@ stored-length version cs =
     ∙ length-map (latest cs) bare
     ∙ length-reverse cs
 
-module _ {version : ℕ} {s : List ℕ} {n : ℕ} {list : List Claim} {hops : List ℕ} {i : ℕ} (p : Storing version s n list hops i) (short : n ≤ claimLimit)
-    (long : length s ≡ sheetLimit) (inside : i < n) {ups : List ℕ} (of-ups : ups ≡ earlierPlaces (columnOf idColumn s) (columnOf parentColumn s) n) where
+-- the list has as many places as it came with
+pub storing-long : {version : ℕ} {cs : List Claim} {n : ℕ} {list : List Claim} {hops : List ℕ} {i : ℕ} → Storing version cs n list hops i → n ≤ claimLimit
+    → length cs ≡ claimLimit → length list ≡ claimLimit
+storing-long {version} {cs} {n} {list} {hops} {i} p short long =
+    omega (arith, ap length (p .put), length-append (latest (eachStored version (latest (take i cs)))) (drop i cs), stored-length version (take i cs), length-take i cs, length-drop i cs, long, short, p .within)
+
+module _ {version : ℕ} {cs : List Claim} {n : ℕ} {list : List Claim} {hops : List ℕ} {i : ℕ} (p : Storing version cs n list hops i) (short : n ≤ claimLimit)
+    (long : length cs ≡ claimLimit) (inside : i < n) {ups : List ℕ} (of-ups : ups ≡ earlierPlaces (map claimId cs) (map parentOf cs) n) where
   abbrev ids : List ℕ
-  ids = columnOf idColumn s
+  ids = map claimId cs
 
   abbrev parents : List ℕ
-  parents = columnOf parentColumn s
+  parents = map parentOf cs
 
-  abbrev cs : List Claim
-  cs = claimsIn s
+  abbrev before : List Claim
+  before = latest (eachStored version (latest (take i cs)))
+
+  many : length before ≡ i
+  many = omega (arith, stored-length version (take i cs), length-take i cs, long, inside, short)
 
   up-told : getD ups i 0 ≡ placeNumber claimLimit (latestPlace ids i (getD parents i 0))
-  up-told = ap (λ l. getD l i 0) of-ups ∙ earlier-at ids parents n i 0 (omega (arith, inside, short, column-length s 1 long (omega arith)))
+  up-told = ap (λ l. getD l i 0) of-ups ∙ earlier-at ids parents n i 0 (omega (arith, inside, short, length-map cs parentOf, long))
 
-  module _ {c : Claim} (read : c ≡ claimAt s i) {steps : ℕ} (counted : steps ≡ hopsBy hops (c .parent) (getD ups i 0)) where
+  standing : list ≡ before ++ (getD cs i noClaim ∷ drop (suc i) cs)
+  standing = p .put ∙ ap (λ l. before ++ l) (drop-cons cs i noClaim (omega (arith, long, inside, short)))
+
+  -- the claim at place i is as it came
+  pub here : getD list i noClaim ≡ getD cs i noClaim
+  here =
+      ap (λ l. getD l i noClaim) standing
+      ∙ ap (λ m. getD (before ++ (getD cs i noClaim ∷ drop (suc i) cs)) m noClaim) (sym many)
+      ∙ getD-append-seam before (getD cs i noClaim) (drop (suc i) cs) noClaim
+
+  module _ {c : Claim} (read : c ≡ getD list i noClaim) {steps : ℕ} (counted : steps ≡ hopsBy hops (c .parent) (getD ups i 0)) where
+    came : c ≡ getD cs i noClaim
+    came = read ∙ here
+
     pub steps-told : steps ≡ length (chainPlaces ids parents i (getD parents i 0))
     steps-told =
         counted
-        ∙ ap (λ d. hopsBy hops (d .parent) (getD ups i 0)) read
+        ∙ ap (λ d. hopsBy hops (d .parent) (getD ups i 0)) came
+        ∙ ap (λ d. hopsBy hops d (getD ups i 0)) (sym (List·getD-map parentOf cs i noClaim))
         ∙ ap (hopsBy hops (getD parents i 0)) up-told
         ∙ hops-chain ids parents hops i (getD parents i 0) (omega (arith, inside, short)) (p .kept)
 
     pub steps-low : steps ≤ i
     steps-low = omega (arith, steps-told, hops-low ids parents hops i (getD parents i 0) (omega (arith, inside, short)) (p .kept) (p .low))
 
-    steps-natural : steps ≡ hopsOf (latest (take i cs)) (getD cs i noClaim)
-    steps-natural =
-        steps-told
-        ∙ ap (λ l. length (chainPlaces l parents i (getD parents i 0))) (column-natural s long claimId idColumn (omega arith) (λ g. refl))
-        ∙ ap (λ l. length (chainPlaces (map claimId cs) l i (getD l i 0))) (column-natural s long parentOf parentColumn (omega arith) (λ g. refl))
-        ∙ column-laws.hops-natural cs i
-
-    here : c ≡ getD cs i noClaim
-    here = read ∙ sym (claims-in-at s i)
-
     stored-here : withLeft (handsAt version steps c) c ≡ stored version (latest (take i cs)) (getD cs i noClaim)
-    stored-here = ap (λ d. withLeft (handsAt version steps d) d) here ∙ ap (λ m. withLeft (handsAt version m (getD cs i noClaim)) (getD cs i noClaim)) steps-natural
+    stored-here =
+        ap (λ d. withLeft (handsAt version steps d) d) came
+        ∙ ap (λ m. withLeft (handsAt version m (getD cs i noClaim)) (getD cs i noClaim)) (steps-told ∙ column-laws.hops-natural cs i)
 
-    many : length (latest (eachStored version (latest (take i cs)))) ≡ i
-    many = omega (arith, stored-length version (take i cs), length-take i cs, claims-in-length s, inside, short)
-
-    pub storing-next : {d : Claim} → d ≡ withLeft (handsAt version steps c) c → Storing version s n (set list i d) (set hops i steps) (i + 1)
+    pub storing-next : {d : Claim} → d ≡ withLeft (handsAt version steps c) c → Storing version cs n (set list i d) (set hops i steps) (i + 1)
     storing-next {d} made = record {
       within = omega (arith, inside);
       room = length-set hops i steps ∙ p .room;
@@ -152,24 +159,20 @@ module _ {version : ℕ} {s : List ℕ} {n : ℕ} {list : List Claim} {hops : Li
           (λ t. let same : j ≡ i = eqb-true j i t in rw (same, getD-set-same hops i steps 0 (omega (arith, p .room, inside, short))) steps-low)
           (λ t. let other : (j ≡ i → ⊥) = eqb-false j i t in rw (getD-set-other hops i j steps 0 other) (p .low j (omega arith)));
       put =
-          ap (λ l. set l i d) (p .put)
-          ∙ put-first (latest (eachStored version (latest (take i cs)))) claimLimit i noClaim d many (omega (arith, inside, short))
-          ∙ ap (λ x. (latest (eachStored version (latest (take i cs))) ++ (x ∷ [])) ++ replicate (claimLimit - (i + 1)) noClaim) (made ∙ stored-here)
-          ∙ ap (λ l. l ++ replicate (claimLimit - (i + 1)) noClaim)
-          (sym (ap (λ l. latest (eachStored version (latest l))) (ap (λ m. take m cs) (add-one i) ∙ take-suc cs i noClaim (omega (arith, claims-in-length s, inside, short)))
-          ∙ stored-claims-next version (take i cs) (getD cs i noClaim)));
+          ap (λ l. set l i d) standing
+          ∙ set-at before (getD cs i noClaim) (drop (suc i) cs) d i many
+          ∙ sym (append-assoc before (d ∷ []) (drop (suc i) cs))
+          ∙ ap (λ x. (before ++ (x ∷ [])) ++ drop (suc i) cs) (made ∙ stored-here)
+          ∙ ap (λ l. l ++ drop (suc i) cs)
+          (sym (ap (λ l. latest (eachStored version (latest l))) (take-suc cs i noClaim (omega (arith, long, inside, short)))
+          ∙ stored-claims-next version (take i cs) (getD cs i noClaim)))
+          ∙ ap (λ m. latest (eachStored version (latest (take m cs))) ++ drop m cs) (sym (add-one i));
     }
 
 -- all are stored
-pub storing-done : {version : ℕ} {s : List ℕ} {n : ℕ} {list : List Claim} {hops : List ℕ} {i : ℕ} → Storing version s n list hops i → n ≤ claimLimit → n ≤ i
-    → _≡_ {A = Claims} (record { list = list; count = n }) (heldClaims (latest (eachStored version (latest (take n (claimsIn s))))))
-storing-done {version} {s} {n} {list} {hops} {i} p short done =
-    let whole : i ≡ n = omega (arith, p .within, done) in
-    let told = latest (eachStored version (latest (take n (claimsIn s)))) in
-    let many : length told ≡ n = omega (arith, stored-length version (take n (claimsIn s)), length-take n (claimsIn s), claims-in-length s, short) in
-    let filled : list ≡ told ++ replicate (claimLimit - n) noClaim = p .put ∙ ap (λ m. latest (eachStored version (latest (take m (claimsIn s)))) ++ replicate (claimLimit - m) noClaim) whole in
-    held list n told filled (sym many)
-  where
-    held : (list : List Claim) (n : ℕ) (things : List Claim) → list ≡ things ++ replicate (claimLimit - n) noClaim → n ≡ length things →
-        record { list = list; count = n } ≡ heldClaims things
-    held list n things filled many = rw (filled, many)
+pub storing-done : {version : ℕ} {k : Claims} {list : List Claim} {hops : List ℕ} {i : ℕ} → Storing version (k .list) (k .count) list hops i → k .count ≤ i
+    → _≡_ {A = Claims} (record { list = list; count = k .count }) (storedIn version k)
+storing-done {version} {k} {list} {hops} {i} p done =
+    let whole : i ≡ k .count = omega (arith, p .within, done) in
+    ap (λ l. record { list = l; count = k .count })
+    (p .put ∙ ap (λ m. latest (eachStored version (latest (take m (k .list)))) ++ drop m (k .list)) whole)

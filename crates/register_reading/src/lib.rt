@@ -3,12 +3,9 @@
 // the hands that they have left, also in version 1, where the text does not.
 ghost use mathlib.Core.Path.{_≡_};
 ghost use Prim.Native.Nat.{_≤_};
-ghost use lib.ListN.{length, take};
+ghost use lib.ListN.{length};
 ghost use Rattle.register.specs.Limits.{claimLimit};
 ghost use Rattle.register.specs.Register.{emptyRegister};
-ghost use Rattle.register.specs.Chain.{latest};
-ghost use Rattle.columns.specs.Sheet.{sheetLimit, claimsIn};
-ghost use Rattle.soundness_rules.specs.Sound.{eachStored};
 ghost use Rattle.lines.specs.Answers.{FieldSays};
 ghost use Rattle.text_rules.specs.Keys.{claimsKey};
 ghost use Rattle.text_rules.specs.Records.{section};
@@ -16,7 +13,7 @@ ghost use Rattle.lines.specs.Answers.{stateOf};
 ghost use Rattle.text_rules.specs.Registers.{readActor, readResource, readClaim, readActors, readResources, readClaims, heldActors, heldResources, heldClaims, registerRead};
 ghost use Rattle.text_rules.specs.Registers.{registerEnding, registerFrom};
 ghost use Rattle.register_reading.specs.Reads.{Reads};
-ghost use Rattle.register_reading.specs.Lefts.{readLeft, hopsBy};
+ghost use Rattle.register_reading.specs.Lefts.{readLeft, hopsBy, linksOf, storedIn};
 use lines::Cursor;
 use lines::Field;
 use refusals::Outcome;
@@ -66,6 +63,12 @@ struct ResourcesRead {
 struct ClaimsRead {
     claims: Claims,
     cursor: Cursor,
+}
+
+// Who is drawn from whom: the ids and the parents of the claims.
+struct Links {
+    ids: [u32; Register::CLAIMS],
+    parents: [u32; Register::CLAIMS],
 }
 
 // The register that a text's lines say, and where the reading then stands: at the end of the text, or where it failed.
@@ -246,21 +249,37 @@ fn hops_by(hops: &[u8], parent: u32, up: usize) -> usize
     hops[up] as usize + 1
 }
 
-// The first `n` claims of a sheet as a register holds them, each with the hands that it has left, and the zero claim in every place behind
-// them. The hops of the claims that were passed are kept.
-fn stored_claims(version: u64, sheet: &[u32], n: usize) -> Claims
-    requires { ⌜ (n ≤ claimLimit) × (length (now sheet) ≡ sheetLimit) ⌝ }
-    ensures { λ r. ⌜ r ≡ heldClaims (latest (eachStored version (latest (take n (claimsIn (now (sheet .entry))))))) ⌝ }
+// The ids and the parents of claims, each at its claim's place.
+fn links_of(k: Claims) -> Links
+    ensures { λ r. ⌜ r ≡ linksOf (k .list) ⌝ }
 {
-    let ids = columns::column(sheet, columns::IDS);
-    let parents = columns::column(sheet, columns::PARENTS);
-    let earlier = lookup::earlier_places(ids, parents, n);
-    let none = Claim::none();
-    let mut list = [none; Register::CLAIMS];
+    let mut found = Links {
+        ids: [0; Register::CLAIMS],
+        parents: [0; Register::CLAIMS],
+    };
+    let mut i: usize = 0;
+    while i < Register::CLAIMS {
+        found.ids[i] = k.list[i].id;
+        found.parents[i] = k.list[i].parent;
+        i += 1;
+    }
+    found
+}
+
+// Claims as a register holds them, each with the hands that it has left, in the list that they came in. The hops of the claims that were passed
+// are kept.
+fn stored_claims(version: u64, k: Claims) -> Claims
+    requires { ⌜ k .count ≤ claimLimit ⌝ }
+    ensures { λ r. ⌜ r ≡ storedIn version k ⌝ }
+{
+    let n = k.count;
+    let drawn = links_of(k);
+    let earlier = lookup::earlier_places(&drawn.ids, &drawn.parents, n);
+    let mut list = k.list;
     let mut hops = [0u8; Register::CLAIMS];
     let mut i: usize = 0;
     while i < n {
-        let c = columns::claim_at(sheet, i);
+        let c = list[i];
         let steps = hops_by(&hops, c.parent, earlier.places[i] as usize);
         list[i] = claim_judging::stored(version, steps, c);
         hops[i] = steps as u8;
@@ -276,9 +295,7 @@ fn read_claims(version: u64, s: &[u8], c: Cursor) -> ClaimsRead
 {
     let listed = read_listed(version, s, c);
     let cursor = listed.cursor;
-    let mut sheet = [0u32; columns::SHEET];
-    columns::put_claims(&mut sheet, listed.claims);
-    let claims = stored_claims(version, &sheet, listed.claims.count);
+    let claims = stored_claims(version, listed.claims);
     ClaimsRead { claims, cursor }
 }
 
