@@ -1,21 +1,36 @@
-/* Guvrendik: a proved authority gate, for x86-64. `./install PREFIX` puts libguvrendik.a and libguvrendik.so.2, this header and
+/* Guvrendik: a proved authority gate, for x86-64. `./install PREFIX` puts libguvrendik.a and libguvrendik.so.3, this header and
  * guvrendik.pc in place; `pkg-config --cflags --libs guvrendik` says how to build with them.
  *
  * No call allocates, keeps a pointer, writes a global or touches errno: any number of threads may call at once, also on the same
- * register. Structs pass by value; a register is 16,160 bytes. No struct has bytes between or behind its fields, so an
- * answer holds nothing but the answer. What a call lends with a pointer and a length belongs to the caller, is used during the call
- * only, and may be NULL where the length is 0.
+ * register. Structs pass by value; a register is 16,160 bytes. Each call has a twin that takes and answers its structs by pointer, for
+ * languages that cannot pass them by value: guvrendik_gate_at of guvrendik_gate, and so on, all at the end of this header. No struct has
+ * bytes between or behind its fields, so an answer holds nothing but the answer. What a call lends with a pointer and a length belongs
+ * to the caller, is used during the call only, and may be NULL where the length is 0.
  *
  * Every input is answered: a number out of range, a count above its limit and a register that is not sound are refused, by the
  * numbers below. Entries past a count are ignored, and so are the bytes of a path past its length. An answer is determined whole,
  * also past its counts. An answer that was never written, all zeros, reads as a no.
  *
  * Stack: each call says how many bytes of stack it needs, the caller's copies of the structs included: the most that was measured
- * over registers from small to full, rounded up. The test command measures it again and fails where a call takes more.
+ * over registers from small to full, rounded up. The test command measures it again and fails where a call takes more. A twin needs the
+ * size of its answer beside it, and 128 bytes.
  *
  * Proved, of every call: it equals a definition in the rule book's words, for all inputs (docs/CONTRACTS.md names each one); it
  * never reads or writes out of range, overflows or runs on for ever. Not proved: that the caller's pointers and lengths are good,
- * and how C and the library pass structs to each other; the second is tested.
+ * how C and the library pass structs to each other, and the twins, each one line of C around its call (native/calls.c); the last two are
+ * tested.
+ *
+ * A moment is a number of seconds. Which second is 0 the portal chooses, the same one in every call and every text; no call reads a clock.
+ * Seconds of the Unix clock fit until the year 2106. Milliseconds do not fit: a call refuses such a moment with 2, a reading of a
+ * register's or an action's text with 19.
+ *
+ * Each family of numbers has its own prefix, and no name of one family goes into the field of another:
+ *  LIMIT_ how many at most, TEXT_ bytes of the longest text, MAX_ the largest number of a field, SIZE_ bytes of a struct
+ *  REGISTER_ a register's version, ACTOR_ an actor's kind, DECISION_ of a verdict and of a judgement
+ *  RIGHT_ the number of one right: of a use, and of a JSON action's kind
+ *  CAN_ the part of one right in the sum that a claim's rights are: c.rights = GUVRENDIK_CAN_READ | GUVRENDIK_CAN_DELEGATE
+ *  SETS_ the part of one flag in the sum that an action's flags are: a.flags |= GUVRENDIK_SETS_COERCES
+ *  REFUSAL_ why a call refuses, VIOLATION_ the kind of a violation
  *
  * What your portal must do (docs/PORTAL.md says why and how):
  *  - Serialise changes. A grant or revocation answers a new register: one that was computed on an old copy and stored after
@@ -38,112 +53,140 @@ extern "C" {
 
 /* The version of this header. guvrendik_version answers that of the library; the shared object is named by the first number. That one
  * changes where a caller must be changed or compiled anew, the second where a call is new. */
-#define GUVRENDIK_VERSION_MAJOR 2
+#define GUVRENDIK_VERSION_MAJOR 3
 #define GUVRENDIK_VERSION_MINOR 0
 #define GUVRENDIK_VERSION_PATCH 0
 
-/* Limits. */
-#define GUVRENDIK_ACTORS 64
-#define GUVRENDIK_RESOURCES 64
-#define GUVRENDIK_CLAIMS 256
-#define GUVRENDIK_HOPS 16 /* steps from a claim up to its root */
-#define GUVRENDIK_PATH 64 /* bytes of a path */
-#define GUVRENDIK_USES 32
-#define GUVRENDIK_GOVERNS 8
-#define GUVRENDIK_ACTIONS 16
-#define GUVRENDIK_LEVELS 8        /* plans in each other in a plan's text, the outermost counted */
-#define GUVRENDIK_STEPS 64        /* steps of one plan in a plan's text */
-#define GUVRENDIK_TEXT_ACTIONS 64 /* actions of a plan's text, in all its plans together */
-#define GUVRENDIK_VIOLATIONS 51
-#define GUVRENDIK_REGISTER_TEXT 39789 /* no register's text is longer; of version 1 none is longer than 37,741 */
-#define GUVRENDIK_VERDICT_TEXT 1103   /* no verdict's text is longer */
-#define GUVRENDIK_JSON_TEXT 807       /* no action that is written as JSON is longer */
-#define GUVRENDIK_JSON_ID 64          /* bytes of a JSON action's id */
-#define GUVRENDIK_WORD_TEXT 128       /* no text of a number is longer */
+/* How many at most. */
+#define GUVRENDIK_LIMIT_ACTORS 64
+#define GUVRENDIK_LIMIT_RESOURCES 64
+#define GUVRENDIK_LIMIT_CLAIMS 256
+#define GUVRENDIK_LIMIT_HOPS 16 /* steps from a claim up to its root */
+#define GUVRENDIK_LIMIT_PATH 64 /* bytes of a path */
+#define GUVRENDIK_LIMIT_USES 32
+#define GUVRENDIK_LIMIT_GOVERNS 8
+#define GUVRENDIK_LIMIT_ACTIONS 16
+#define GUVRENDIK_LIMIT_LEVELS 8        /* plans in each other in a plan's text, the outermost counted */
+#define GUVRENDIK_LIMIT_STEPS 64        /* steps of one plan in a plan's text */
+#define GUVRENDIK_LIMIT_TEXT_ACTIONS 64 /* actions of a plan's text, in all its plans together */
+#define GUVRENDIK_LIMIT_VIOLATIONS 51
+#define GUVRENDIK_LIMIT_JSON_ID 64 /* bytes of a JSON action's id */
+#define GUVRENDIK_LIMIT_RIGHTS 17  /* a right's number is below it */
+#define GUVRENDIK_LIMIT_FLAGS 10   /* a flag's number is below it */
+
+/* The bytes of the longest text of its kind. */
+#define GUVRENDIK_TEXT_REGISTER 39789 /* of version 1 none is longer than 37,741 */
+#define GUVRENDIK_TEXT_VERDICT 1103   /* by guvrendik_verdict_text and guvrendik_json_verdict_text */
+#define GUVRENDIK_TEXT_PLAN_VERDICT 1944
+#define GUVRENDIK_TEXT_JSON 807  /* an action that is written as JSON */
+#define GUVRENDIK_TEXT_WORDS 128 /* the words for a number */
 
 /* The largest numbers of the fields. */
-#define GUVRENDIK_ID_MAX UINT32_C(65535)
-#define GUVRENDIK_RIGHTS_MAX UINT32_C(131071)
-#define GUVRENDIK_WEIGHT_MAX UINT32_C(1000)
-#define GUVRENDIK_LEFT_MAX UINT32_C(16)
-#define GUVRENDIK_MOMENT_MAX UINT64_C(4294967295)
-#define GUVRENDIK_FLAGS_MAX UINT32_C(1023)
+#define GUVRENDIK_MAX_ID 65535
+#define GUVRENDIK_MAX_RIGHTS 131071 /* all seventeen */
+#define GUVRENDIK_MAX_WEIGHT 1000
+#define GUVRENDIK_MAX_LEFT 16
+#define GUVRENDIK_MAX_MOMENT 4294967295
+#define GUVRENDIK_MAX_FLAGS 1023 /* all ten */
 
 /* Versions of a register. In version 1 a claim has at most 16 hops. In version 2 each claim says how many more hands it may pass through,
  * its left, and one with a parent says less than its parent. Any other version is not sound. */
-#define GUVRENDIK_REGISTER_1 UINT64_C(1)
-#define GUVRENDIK_REGISTER_2 UINT64_C(2)
+#define GUVRENDIK_REGISTER_1 1
+#define GUVRENDIK_REGISTER_2 2
 
 /* Kinds of actor. */
-#define GUVRENDIK_HUMAN UINT32_C(1)
-#define GUVRENDIK_MACHINE UINT32_C(2)
+#define GUVRENDIK_ACTOR_HUMAN 1
+#define GUVRENDIK_ACTOR_MACHINE 2
 
-/* The seventeen rights. Right b is worth 2^b in a rights number: GUVRENDIK_WORTH(b). */
-#define GUVRENDIK_READ 0
-#define GUVRENDIK_WRITE 1
-#define GUVRENDIK_EXECUTE 2
-#define GUVRENDIK_DELETE 3
-#define GUVRENDIK_DELEGATE 4
-#define GUVRENDIK_NETWORK_EGRESS 5
-#define GUVRENDIK_NETWORK_INGRESS 6
-#define GUVRENDIK_FILE_SYSTEM 7
-#define GUVRENDIK_PROCESS_SPAWN 8
-#define GUVRENDIK_MEMORY_WRITE 9
-#define GUVRENDIK_CREDENTIAL_READ 10
-#define GUVRENDIK_CREDENTIAL_WRITE 11
-#define GUVRENDIK_AUDIT_READ 12
-#define GUVRENDIK_AUDIT_WRITE 13 /* not granted by a machine */
-#define GUVRENDIK_POLICY_READ 14
-#define GUVRENDIK_REGISTRY_MODIFY 15 /* not granted by a machine */
-#define GUVRENDIK_POLICY_MODIFY 16   /* not granted by a machine */
-#define GUVRENDIK_RIGHTS 17
-#define GUVRENDIK_WORTH(right) (UINT32_C(1) << (right))
+/* The seventeen rights by number: of a use, and of a JSON action's kind. guvrendik_right_name has their names. */
+typedef enum guvrendik_right {
+    GUVRENDIK_RIGHT_READ = 0,
+    GUVRENDIK_RIGHT_WRITE = 1,
+    GUVRENDIK_RIGHT_EXECUTE = 2,
+    GUVRENDIK_RIGHT_DELETE = 3,
+    GUVRENDIK_RIGHT_DELEGATE = 4,
+    GUVRENDIK_RIGHT_NETWORK_EGRESS = 5,
+    GUVRENDIK_RIGHT_NETWORK_INGRESS = 6,
+    GUVRENDIK_RIGHT_FILE_SYSTEM = 7,
+    GUVRENDIK_RIGHT_PROCESS_SPAWN = 8,
+    GUVRENDIK_RIGHT_MEMORY_WRITE = 9,
+    GUVRENDIK_RIGHT_CREDENTIAL_READ = 10,
+    GUVRENDIK_RIGHT_CREDENTIAL_WRITE = 11,
+    GUVRENDIK_RIGHT_AUDIT_READ = 12,
+    GUVRENDIK_RIGHT_AUDIT_WRITE = 13,
+    GUVRENDIK_RIGHT_POLICY_READ = 14,
+    GUVRENDIK_RIGHT_REGISTRY_MODIFY = 15,
+    GUVRENDIK_RIGHT_POLICY_MODIFY = 16
+} guvrendik_right;
 
-/* The ten flags of an action. Flag i is bit i of its flags: GUVRENDIK_WORTH(i). */
-#define GUVRENDIK_INCREASES_SOVEREIGNTY 0
-#define GUVRENDIK_RESISTS_CORRECTION 1
-#define GUVRENDIK_BYPASSES_VERIFIER 2
-#define GUVRENDIK_WEAKENS_VERIFIER 3
-#define GUVRENDIK_DISABLES_CORRIGIBILITY 4
-#define GUVRENDIK_COALITION_DOMINION 5
-#define GUVRENDIK_COERCES 6
-#define GUVRENDIK_DECEIVES 7
-#define GUVRENDIK_SELF_MODIFICATION 8
-#define GUVRENDIK_COALITION_REDUCES_FREEDOM 9
-#define GUVRENDIK_FLAGS 10
+/* The same as parts of a claim's rights: right b has the part 2^b, and the rights are the sum of the parts. */
+#define GUVRENDIK_CAN_READ 1
+#define GUVRENDIK_CAN_WRITE 2
+#define GUVRENDIK_CAN_EXECUTE 4
+#define GUVRENDIK_CAN_DELETE 8
+#define GUVRENDIK_CAN_DELEGATE 16
+#define GUVRENDIK_CAN_NETWORK_EGRESS 32
+#define GUVRENDIK_CAN_NETWORK_INGRESS 64
+#define GUVRENDIK_CAN_FILE_SYSTEM 128
+#define GUVRENDIK_CAN_PROCESS_SPAWN 256
+#define GUVRENDIK_CAN_MEMORY_WRITE 512
+#define GUVRENDIK_CAN_CREDENTIAL_READ 1024
+#define GUVRENDIK_CAN_CREDENTIAL_WRITE 2048
+#define GUVRENDIK_CAN_AUDIT_READ 4096
+#define GUVRENDIK_CAN_AUDIT_WRITE 8192 /* not granted by a machine */
+#define GUVRENDIK_CAN_POLICY_READ 16384
+#define GUVRENDIK_CAN_REGISTRY_MODIFY 32768 /* not granted by a machine */
+#define GUVRENDIK_CAN_POLICY_MODIFY 65536   /* not granted by a machine */
+
+/* The ten flags as parts of an action's flags: flag i has the part 2^i, and the flags are the sum of the parts. Only a violation's value
+ * is a flag's number: guvrendik_flag_part answers its part, guvrendik_flag_name its name. */
+#define GUVRENDIK_SETS_INCREASES_SOVEREIGNTY 1
+#define GUVRENDIK_SETS_RESISTS_CORRECTION 2
+#define GUVRENDIK_SETS_BYPASSES_VERIFIER 4
+#define GUVRENDIK_SETS_WEAKENS_VERIFIER 8
+#define GUVRENDIK_SETS_DISABLES_CORRIGIBILITY 16
+#define GUVRENDIK_SETS_COALITION_DOMINION 32
+#define GUVRENDIK_SETS_COERCES 64
+#define GUVRENDIK_SETS_DECEIVES 128
+#define GUVRENDIK_SETS_SELF_MODIFICATION 256
+#define GUVRENDIK_SETS_COALITION_REDUCES_FREEDOM 512
 
 /* The numbers that a call refuses with. guvrendik_refusal_text has words for them. */
-#define GUVRENDIK_UNSOUND 1         /* register not sound */
-#define GUVRENDIK_RANGE 2           /* field or count of the call out of range */
-#define GUVRENDIK_ABSENT 3          /* grantor, holder, resource, revoker, caller or acting actor not in the register */
-#define GUVRENDIK_STANDS 4          /* claim id already stands */
-#define GUVRENDIK_FULL 5            /* 256 claims stand */
-#define GUVRENDIK_NOT_KEEPER 6      /* root grant by anyone but the keeper */
-#define GUVRENDIK_OWNERLESS 7       /* grantor is a machine without owner */
-#define GUVRENDIK_NOT_BY_MACHINE 8  /* grantor is a machine and right 13, 15 or 16 is asked */
-#define GUVRENDIK_NO_PARENT 9       /* parent does not stand */
-#define GUVRENDIK_NOT_HELD 10       /* parent not held by the grantor, or on another resource */
-#define GUVRENDIK_NOT_LIVE 11       /* parent, or a claim above it, not live at the moment */
-#define GUVRENDIK_NO_DELEGATE 12    /* parent lacks DELEGATE */
-#define GUVRENDIK_RIGHT_LACKING 13  /* a right the parent lacks */
-#define GUVRENDIK_WEIGHT_ABOVE 14   /* weight above the parent's */
-#define GUVRENDIK_TOO_MANY_HOPS 15  /* more than 16 hops, or left not below the parent's */
-#define GUVRENDIK_CIRCLE 16         /* circle: the holder holds a claim higher on the chain, or granted its root */
-#define GUVRENDIK_NO_CLAIM 17       /* claim to revoke does not stand */
-#define GUVRENDIK_NO_GRANTOR 18     /* revoker is no grantor on that claim's chain, or caller is not the keeper or not human */
-#define GUVRENDIK_FORM 19           /* text not of the form */
-#define GUVRENDIK_COUNT 20          /* a count line above its limit */
-#define GUVRENDIK_BUFFER 21         /* buffer too short for the text */
-#define GUVRENDIK_TOO_DEEP 22       /* plan deeper than 8 levels */
-#define GUVRENDIK_TOO_MANY_ACTIONS 23 /* more than 64 actions in a plan text */
-#define GUVRENDIK_JSON_FORM 24      /* JSON action of another form, with a number out of range or with more than 32 uses */
-#define GUVRENDIK_JSON_LACKS 25     /* a right above 2 or a governed entry, for which a JSON action has no place */
-
+#define GUVRENDIK_REFUSAL_UNSOUND 1           /* register not sound */
+#define GUVRENDIK_REFUSAL_RANGE 2             /* field or count of the call out of range */
+#define GUVRENDIK_REFUSAL_ABSENT 3            /* grantor, holder, resource, revoker, caller or acting actor not in the register */
+#define GUVRENDIK_REFUSAL_STANDS 4            /* claim id already stands */
+#define GUVRENDIK_REFUSAL_FULL 5              /* 256 claims stand */
+#define GUVRENDIK_REFUSAL_NOT_KEEPER 6        /* root grant by anyone but the keeper */
+#define GUVRENDIK_REFUSAL_OWNERLESS 7         /* grantor is a machine without owner */
+#define GUVRENDIK_REFUSAL_NOT_BY_MACHINE 8    /* grantor is a machine and right 13, 15 or 16 is asked */
+#define GUVRENDIK_REFUSAL_NO_PARENT 9         /* parent does not stand */
+#define GUVRENDIK_REFUSAL_NOT_HELD 10         /* parent not held by the grantor, or on another resource */
+#define GUVRENDIK_REFUSAL_NOT_LIVE 11         /* parent, or a claim above it, not live at the moment */
+#define GUVRENDIK_REFUSAL_NO_DELEGATE 12      /* parent lacks DELEGATE */
+#define GUVRENDIK_REFUSAL_RIGHT_LACKING 13    /* a right the parent lacks */
+#define GUVRENDIK_REFUSAL_WEIGHT_ABOVE 14     /* weight above the parent's */
+#define GUVRENDIK_REFUSAL_TOO_MANY_HOPS 15    /* more than 16 hops, or left not below the parent's */
+#define GUVRENDIK_REFUSAL_CIRCLE 16           /* circle: the holder holds a claim higher on the chain, or granted its root */
+#define GUVRENDIK_REFUSAL_NO_CLAIM 17         /* claim to revoke does not stand */
+#define GUVRENDIK_REFUSAL_NO_GRANTOR 18       /* revoker is no grantor on that claim's chain, or caller is not the keeper or not human */
+#define GUVRENDIK_REFUSAL_FORM 19             /* text not of the form */
+#define GUVRENDIK_REFUSAL_COUNT 20            /* a count line above its limit */
+#define GUVRENDIK_REFUSAL_BUFFER 21           /* buffer too short for the text */
+#define GUVRENDIK_REFUSAL_TOO_DEEP 22         /* plan deeper than 8 levels */
+#define GUVRENDIK_REFUSAL_TOO_MANY_ACTIONS 23 /* more than 64 actions in a plan text */
+#define GUVRENDIK_REFUSAL_JSON_FORM 24        /* JSON action of another form, with a number out of range or with more than 32 uses */
+#define GUVRENDIK_REFUSAL_JSON_LACKS 25       /* a right above 2 or a governed entry, for which a JSON action has no place */
+#define GUVRENDIK_REFUSAL_NO_PROPOSAL 26      /* no single grant by one of the signers would permit the use */
+#define GUVRENDIK_REFUSAL_NOT_PERMITTED 27    /* action not permitted */
+#define GUVRENDIK_REFUSAL_NO_ENTRY 28         /* no fingerprint is attached to the resource's number */
+#define GUVRENDIK_REFUSAL_BOOK_FULL 29        /* 64 entries stand, and none of the resource's number */
+#define GUVRENDIK_REFUSAL_BAD_BOOK 30         /* book with more than 64 entries or with two for one number */
 /* ---- The register ---- */
 
 typedef struct guvrendik_actor {
     uint32_t id;    /* 1 to 65,535, distinct among the actors */
-    uint32_t kind;  /* GUVRENDIK_HUMAN or GUVRENDIK_MACHINE */
+    uint32_t kind;  /* GUVRENDIK_ACTOR_HUMAN or GUVRENDIK_ACTOR_MACHINE */
     uint32_t owner; /* of a machine: a human of the register, or 0 for none. Of a human: 0 */
 } guvrendik_actor;
 
@@ -152,7 +195,7 @@ typedef struct guvrendik_resource {
     uint32_t is_public; /* 1 public, 0 not */
     uint32_t keeper;    /* a human of the register */
     uint32_t len;       /* bytes of the path, 0 to 64 */
-    uint8_t path[GUVRENDIK_PATH]; /* each 0x21 to 0x7E */
+    uint8_t path[GUVRENDIK_LIMIT_PATH]; /* each 0x21 to 0x7E */
 } guvrendik_resource;
 
 /* A claim is live at a moment when every claim on its chain, the claim itself, its parent and so on up to the root, has weight above 0 and
@@ -163,25 +206,47 @@ typedef struct guvrendik_claim {
     uint32_t grantor;  /* an actor: of a root the resource's keeper, else the parent's holder */
     uint32_t holder;   /* an actor */
     uint32_t resource; /* a resource: the parent's, where there is one */
-    uint32_t rights;   /* 1 to 131,071, the sum of the worths; none that the parent lacks */
+    uint32_t rights;   /* 1 to 131,071, a sum of parts GUVRENDIK_CAN_READ .., and no right's number; none that the parent lacks */
     uint32_t weight;   /* 0 to 1,000; at most the parent's */
     uint32_t left;     /* version 2: 0 to 16; below the parent's, where there is one. Version 1: not asked, any number; 16 less the hop count
                         * in claims that a grant or a reading made */
     uint64_t expiry;   /* a moment in seconds, below 2^32; 0 for never */
 } guvrendik_claim;
 
+/* A claim, each field by its place in the struct, which is that of its line in a register's text: none is left out and none is guessed.
+ * Part of this header and not of the library, as every function that is static inline: tested, not proved. */
+static inline guvrendik_claim guvrendik_make_claim(uint32_t id, uint32_t parent, uint32_t grantor, uint32_t holder, uint32_t resource,
+                                                   uint32_t rights, uint32_t weight, uint32_t left, uint64_t expiry) {
+    guvrendik_claim c;
+    c.id = id;
+    c.parent = parent;
+    c.grantor = grantor;
+    c.holder = holder;
+    c.resource = resource;
+    c.rights = rights;
+    c.weight = weight;
+    c.left = left;
+    c.expiry = expiry;
+    return c;
+}
+
+/* The part of a right's number in a claim's rights: GUVRENDIK_CAN_READ of GUVRENDIK_RIGHT_READ. 0 of a number that is no right's. */
+static inline uint32_t guvrendik_right_part(uint32_t right) {
+    return right < GUVRENDIK_LIMIT_RIGHTS ? (uint32_t)1 << right : 0;
+}
+
 typedef struct guvrendik_actors {
-    guvrendik_actor list[GUVRENDIK_ACTORS];
+    guvrendik_actor list[GUVRENDIK_LIMIT_ACTORS];
     size_t count; /* 0 to 64 */
 } guvrendik_actors;
 
 typedef struct guvrendik_resources {
-    guvrendik_resource list[GUVRENDIK_RESOURCES];
+    guvrendik_resource list[GUVRENDIK_LIMIT_RESOURCES];
     size_t count; /* 0 to 64 */
 } guvrendik_resources;
 
 typedef struct guvrendik_claims {
-    guvrendik_claim list[GUVRENDIK_CLAIMS];
+    guvrendik_claim list[GUVRENDIK_LIMIT_CLAIMS];
     size_t count; /* 0 to 256 */
 } guvrendik_claims;
 
@@ -193,8 +258,7 @@ typedef struct guvrendik_register {
     uint64_t version; /* GUVRENDIK_REGISTER_1 or GUVRENDIK_REGISTER_2. No call changes it */
 } guvrendik_register;
 
-/* Makes *r the empty register of this version: all zeros but for the version. With 1 or 2 it is sound. Part of this header, as the three
- * functions below. */
+/* Makes *r the empty register of this version: all zeros but for the version. With 1 or 2 it is sound. */
 static inline void guvrendik_begin(guvrendik_register *r, uint64_t version) {
     uint8_t *bytes = (uint8_t *)r;
     size_t i;
@@ -203,11 +267,10 @@ static inline void guvrendik_begin(guvrendik_register *r, uint64_t version) {
 }
 
 /* The three functions below put an entry at the end of its list in a register that is being built, and answer 1; or 0, and change
- * nothing, where the list is full or the path is longer than 64 bytes. They judge nothing else: guvrendik_sound does. They are part
- * of this header and not of the library: tested, not proved. */
+ * nothing, where the list is full or the path is longer than 64 bytes. They judge nothing else: guvrendik_sound does. */
 static inline int guvrendik_put_actor(guvrendik_register *r, uint32_t id, uint32_t kind, uint32_t owner) {
     guvrendik_actor *a;
-    if (r->actors.count >= GUVRENDIK_ACTORS) return 0;
+    if (r->actors.count >= GUVRENDIK_LIMIT_ACTORS) return 0;
     a = &r->actors.list[r->actors.count++];
     a->id = id;
     a->kind = kind;
@@ -221,19 +284,19 @@ static inline int guvrendik_put_resource(guvrendik_register *r, uint32_t id, uin
     const uint8_t *bytes = (const uint8_t *)path;
     guvrendik_resource *o;
     size_t i;
-    if (r->resources.count >= GUVRENDIK_RESOURCES || path_len > GUVRENDIK_PATH) return 0;
+    if (r->resources.count >= GUVRENDIK_LIMIT_RESOURCES || path_len > GUVRENDIK_LIMIT_PATH) return 0;
     o = &r->resources.list[r->resources.count++];
     o->id = id;
     o->is_public = is_public;
     o->keeper = keeper;
     o->len = (uint32_t)path_len;
-    for (i = 0; i < GUVRENDIK_PATH; i++) o->path[i] = (uint8_t)(i < path_len ? bytes[i] : 0);
+    for (i = 0; i < GUVRENDIK_LIMIT_PATH; i++) o->path[i] = (uint8_t)(i < path_len ? bytes[i] : 0);
     return 1;
 }
 
 /* To a register in use, claims come by guvrendik_grant alone. */
 static inline int guvrendik_put_claim(guvrendik_register *r, guvrendik_claim c) {
-    if (r->claims.count >= GUVRENDIK_CLAIMS) return 0;
+    if (r->claims.count >= GUVRENDIK_LIMIT_CLAIMS) return 0;
     r->claims.list[r->claims.count++] = c;
     return 1;
 }
@@ -263,7 +326,7 @@ typedef struct guvrendik_granted {
 /* Grants the claim c at the moment.
  *  r       the register before
  *  c       the claim, every field in the range that guvrendik_claim gives; its left is not asked where the register has version 1
- *  moment  in seconds, below 2^32
+ *  moment  in seconds, 0 to GUVRENDIK_MAX_MOMENT
  * Refusals, the first that applies: 1 register not sound; 2 a field of the claim or the moment out of range; 3 grantor, holder
  * or resource not in the register; 4 the id stands; 5 256 claims stand; 6 a root not granted by the keeper; 7 and 8 what a machine
  * may not grant; and where there is a parent: 9 it does not stand; 10 it is not held by the grantor or is on another resource;
@@ -323,25 +386,53 @@ guvrendik_revoked guvrendik_clear_expired(guvrendik_register r, uint32_t caller,
 /* One right on one resource. */
 typedef struct guvrendik_usage {
     uint32_t resource; /* 0 to 65,535; need not stand */
-    uint32_t right;    /* 0 to 16 */
+    uint32_t right;    /* a right's number, GUVRENDIK_RIGHT_READ .., 0 to 16, and no part of a sum */
 } guvrendik_usage;
 
 typedef struct guvrendik_action {
     uint32_t actor; /* 0 to 65,535 */
-    uint32_t flags; /* 0 to 1,023 */
+    uint32_t flags; /* 0 to 1,023, a sum of parts GUVRENDIK_SETS_COERCES .., and no flag's number */
     uint64_t now;   /* a moment in seconds, below 2^32 */
-    guvrendik_usage uses[GUVRENDIK_USES];
-    size_t used;                         /* 0 to 32 */
-    uint32_t governs[GUVRENDIK_GOVERNS]; /* actor numbers, each 0 to 65,535; not looked up */
-    size_t governed;                     /* 0 to 8 */
+    guvrendik_usage uses[GUVRENDIK_LIMIT_USES];
+    size_t used;                               /* 0 to 32 */
+    uint32_t governs[GUVRENDIK_LIMIT_GOVERNS]; /* actor numbers, each 0 to 65,535; not looked up */
+    size_t governed;                           /* 0 to 8 */
 } guvrendik_action;
 
+/* A use of a right on a resource. */
+static inline guvrendik_usage guvrendik_make_usage(uint32_t resource, guvrendik_right right) {
+    guvrendik_usage u;
+    u.resource = resource;
+    u.right = (uint32_t)right;
+    return u;
+}
+
+/* An action of one use at a moment, with no flag set and nothing governed. */
+static inline guvrendik_action guvrendik_make_action(uint32_t actor, guvrendik_usage use, uint64_t now) {
+    guvrendik_action a;
+    uint8_t *bytes = (uint8_t *)&a;
+    size_t i;
+    for (i = 0; i < sizeof a; i++) bytes[i] = 0;
+    a.actor = actor;
+    a.now = now;
+    a.uses[0] = use;
+    a.used = 1;
+    return a;
+}
+
+/* The part of a flag's number in an action's flags: GUVRENDIK_SETS_COERCES of 6, which a violation of kind GUVRENDIK_VIOLATION_FLAG has as
+ * its value. 0 of a number that is no flag's. */
+static inline uint32_t guvrendik_flag_part(uint32_t flag) {
+    return flag < GUVRENDIK_LIMIT_FLAGS ? (uint32_t)1 << flag : 0;
+}
+
 /* Kinds of violation, in the order of a verdict's list. guvrendik_violation_text has words for them. */
-#define GUVRENDIK_FLAG 1               /* flag set. Value: the flag, lowest first */
-#define GUVRENDIK_MACHINE_OWNERLESS 2  /* machine without owner. Value: the actor's id */
-#define GUVRENDIK_MACHINE_GOVERNS 3    /* machine that governs. Value: the governed entry's position, from 0 */
-#define GUVRENDIK_NOT_COVERED 4        /* use that the actor does not cover. Value: the use's position, from 0. Kinds 4 and 5 come by use position */
-#define GUVRENDIK_OWNER_NOT_COVERED 5  /* use that the machine's owner does not cover. Value: the use's position */
+#define GUVRENDIK_VIOLATION_FLAG 1              /* flag set. Value: the flag's number, lowest first */
+#define GUVRENDIK_VIOLATION_MACHINE_OWNERLESS 2 /* machine without owner. Value: the actor's id */
+#define GUVRENDIK_VIOLATION_MACHINE_GOVERNS 3   /* machine that governs. Value: the governed entry's position, from 0 */
+#define GUVRENDIK_VIOLATION_NOT_COVERED 4       /* use that the actor does not cover. Value: the use's position, from 0. Kinds 4 and 5 come
+                                                 * by use position */
+#define GUVRENDIK_VIOLATION_OWNER_NOT_COVERED 5 /* use that the machine's owner does not cover. Value: the use's position */
 /* 6 is not used and will not be: a register with a claim whose parent does not stand is not sound, and refused with 1. */
 
 typedef struct guvrendik_violation {
@@ -349,21 +440,21 @@ typedef struct guvrendik_violation {
     uint32_t value;
 } guvrendik_violation;
 
-/* Decisions. */
-#define GUVRENDIK_PERMITTED UINT32_C(1)
-#define GUVRENDIK_REFUSED UINT32_C(2)   /* there are violations */
-#define GUVRENDIK_STOPPED UINT32_C(3)   /* of a verdict: the call was refused. The same number as CANCELLED */
-#define GUVRENDIK_CANCELLED UINT32_C(3) /* of a judgement: an action before it has a flag set. The same number as STOPPED */
+/* Decisions, of a verdict and of a judgement. No number means two of them. */
+#define GUVRENDIK_DECISION_PERMITTED 1
+#define GUVRENDIK_DECISION_REFUSED 2   /* there are violations */
+#define GUVRENDIK_DECISION_STOPPED 3   /* of a verdict: the call was refused */
+#define GUVRENDIK_DECISION_CANCELLED 4 /* of a judgement: an action before it has a flag set */
 
 /* The answer of guvrendik_gate. */
 typedef struct guvrendik_verdict {
-    uint32_t decision;                                    /* PERMITTED, REFUSED or STOPPED */
-    uint32_t refusal;                                     /* of a stopped one the number, else 0 */
-    guvrendik_violation violations[GUVRENDIK_VIOLATIONS]; /* past the count {0, 0} */
-    size_t count;                                         /* 0 where permitted or stopped */
-    size_t hops[GUVRENDIK_USES]; /* by use: the hop count of the nearest claim by which the actor covers it, which is the one whose
-                                  * path has the greatest length by guvrendik_contains, the first in the list on a tie; 0 where
-                                  * there is none, past the uses, and where stopped */
+    uint32_t decision; /* PERMITTED, REFUSED or STOPPED */
+    uint32_t refusal;  /* of a stopped one the number, else 0 */
+    guvrendik_violation violations[GUVRENDIK_LIMIT_VIOLATIONS]; /* past the count {0, 0} */
+    size_t count;                                               /* 0 where permitted or stopped */
+    size_t hops[GUVRENDIK_LIMIT_USES]; /* by use: the hop count of the nearest claim by which the actor covers it, which is the one whose
+                                        * path has the greatest length by guvrendik_contains, the first in the list on a tie; 0 where
+                                        * there is none, past the uses, and where stopped */
 } guvrendik_verdict;
 
 /* Judges one action. An actor covers a use when the resource stands and it is public and the right is READ, or the actor holds a
@@ -377,7 +468,7 @@ typedef struct guvrendik_verdict {
 guvrendik_verdict guvrendik_gate(guvrendik_register r, guvrendik_action a);
 
 typedef struct guvrendik_plan {
-    guvrendik_action actions[GUVRENDIK_ACTIONS];
+    guvrendik_action actions[GUVRENDIK_LIMIT_ACTIONS];
     size_t count; /* 0 to 16 */
 } guvrendik_plan;
 
@@ -388,12 +479,11 @@ typedef struct guvrendik_judgement {
 
 /* The answer of guvrendik_judge_plan. */
 typedef struct guvrendik_plan_verdict {
-    uint32_t accepted;                           /* 1 or 0 */
-    uint32_t refusal;                            /* 0 where accepted, else the number */
-    size_t position;                             /* of the action that stopped the plan, from 0; 0 for 1, a bad count, and
-                                                  * where accepted */
-    guvrendik_judgement list[GUVRENDIK_ACTIONS]; /* past the count {0, 0} */
-    size_t count;                                /* the plan's; 0 where refused */
+    uint32_t accepted; /* 1 or 0 */
+    uint32_t refusal;  /* 0 where accepted, else the number */
+    size_t position;   /* of the action that stopped the plan, from 0; 0 for 1, a bad count, and where accepted */
+    guvrendik_judgement list[GUVRENDIK_LIMIT_ACTIONS]; /* past the count {0, 0} */
+    size_t count;                                      /* the plan's; 0 where refused */
 } guvrendik_plan_verdict;
 
 /* Judges a plan, its actions in order. Every action after the first with a flag set is cancelled.
@@ -459,7 +549,7 @@ typedef struct guvrendik_written {
 
 /* Writes the register's text. Reading that text gives the same register.
  *  r                  the register
- *  buffer/buffer_len  where to. The caller owns it; written during the call only. GUVRENDIK_REGISTER_TEXT bytes are enough for
+ *  buffer/buffer_len  where to. The caller owns it; written during the call only. GUVRENDIK_TEXT_REGISTER bytes are enough for
  *                     every register. May be NULL where buffer_len is 0.
  * Refusals, the first that applies: 1 register not sound; 21 buffer too short. Then the buffer keeps every byte.
  * Accepted, the buffer keeps its bytes past the text. No zero byte is added.
@@ -486,16 +576,16 @@ typedef struct guvrendik_plan_text_verdict {
     uint32_t refusal;  /* 0 where accepted, else the number */
     size_t line;       /* of 19, 20, 22 and 23: the first failing line, from 1. Else 0 */
     size_t position;   /* of 3: the first action whose actor is not in the register, in reading order from 0. Else 0 */
-    guvrendik_judgement list[GUVRENDIK_TEXT_ACTIONS]; /* of each action, in reading order; past the count {0, 0} */
-    size_t count;                                     /* the actions of the text; 0 where refused */
+    guvrendik_judgement list[GUVRENDIK_LIMIT_TEXT_ACTIONS]; /* of each action, in reading order; past the count {0, 0} */
+    size_t count;                                           /* the actions of the text; 0 where refused */
 } guvrendik_plan_text_verdict;
 
 /* Judges a plan's text, whose steps are actions or plans of their own. The verdicts are those of the flat list of its actions in reading
  * order: every action after the first with a flag set is cancelled, in whatever plan of the text it stands.
  *  r              the register
- *  text/text_len  as for guvrendik_read_register. A plan has 0 to GUVRENDIK_STEPS steps, the text 1 to GUVRENDIK_LEVELS levels of plans,
- *                 the outermost being 1, and 0 to GUVRENDIK_TEXT_ACTIONS actions in all. Plans may be empty, at every level, so no
- *                 length is enough for every text.
+ *  text/text_len  as for guvrendik_read_register. A plan has 0 to GUVRENDIK_LIMIT_STEPS steps, the text 1 to GUVRENDIK_LIMIT_LEVELS
+ *                 levels of plans, the outermost being 1, and 0 to GUVRENDIK_LIMIT_TEXT_ACTIONS actions in all. Plans may be empty, at
+ *                 every level, so no length is enough for every text.
  * Refusals: first the text, whose first failing line decides between 19, not of the form or a number outside its field's range; 20, a
  * count above its limit, 64 of plan=, 32 of uses=, 8 of governs=; 22, a line step=plan that would open a ninth level; and 23, a line
  * step=action that would begin the 65th action. Then 1 register not sound. Then 3, the first action whose actor is not in the
@@ -508,13 +598,40 @@ guvrendik_plan_text_verdict guvrendik_judge_plan_text(guvrendik_register r, cons
  * value; or verdict=stopped and refusal= with the first refusal of reading the register, reading the action and the gate.
  *  register_text/register_len  as for guvrendik_read_register. Judged whole: it is the program that reads no more than the first
  *  action_text/action_len      65,536 bytes of a file.
- *  buffer/buffer_len           where to, as for guvrendik_write_register. It overlaps neither text. GUVRENDIK_VERDICT_TEXT bytes
+ *  buffer/buffer_len           where to, as for guvrendik_write_register. It overlaps neither text. GUVRENDIK_TEXT_VERDICT bytes
  *                              are enough for every verdict.
  * Refusal: 21 buffer too short. Then the buffer keeps every byte. A text that is not read is no refusal of this call: its answer
  * is the text with verdict=stopped.
  * Stack: 80,000 bytes. */
 guvrendik_written guvrendik_verdict_text(const uint8_t *register_text, size_t register_len, const uint8_t *action_text,
                                          size_t action_len, uint8_t *buffer, size_t buffer_len);
+
+/* Writes the lines that the printing program for JSON actions prints, of the same form, for a register's text, a clock's text, which is
+ * one line now= with the moment, and a JSON action. Stopped, the refusal is the first of reading the register; of reading the clock, 19,
+ * or 2 for a moment out of range; of reading the action, 24; and of the gate.
+ *  register_text/register_len  the three texts, as for guvrendik_verdict_text. Each is judged whole.
+ *  clock_text/clock_len
+ *  action_text/action_len
+ *  buffer/buffer_len           where to, as for guvrendik_write_register. It overlaps none of the texts. GUVRENDIK_TEXT_VERDICT bytes are
+ *                              enough for every verdict.
+ * Refusal: 21 buffer too short. Then the buffer keeps every byte.
+ * Stack: 98,000 bytes. */
+guvrendik_written guvrendik_json_verdict_text(const uint8_t *register_text, size_t register_len, const uint8_t *clock_text,
+                                              size_t clock_len, const uint8_t *action_text, size_t action_len, uint8_t *buffer,
+                                              size_t buffer_len);
+
+/* Writes the lines that the printing program for plan texts prints for a register's text and a plan's text: plan=judged, verdicts= with
+ * their number, and for each action verdict=permitted, or verdict=refused and violations= with their number, or verdict=cancelled; or
+ * plan=stopped and refusal= with the first refusal of reading the register and of guvrendik_judge_plan_text. Behind one of the second
+ * stands line= with the failing line of the plan's text, behind a 3 position= of the action.
+ *  register_text/register_len  the two texts, as for guvrendik_verdict_text. Each is judged whole.
+ *  plan_text/plan_len
+ *  buffer/buffer_len           where to, as for guvrendik_write_register. It overlaps neither text. GUVRENDIK_TEXT_PLAN_VERDICT bytes are
+ *                              enough for every answer.
+ * Refusal: 21 buffer too short. Then the buffer keeps every byte.
+ * Stack: 98,000 bytes. */
+guvrendik_written guvrendik_plan_verdict_text(const uint8_t *register_text, size_t register_len, const uint8_t *plan_text,
+                                              size_t plan_len, uint8_t *buffer, size_t buffer_len);
 
 /* ---- JSON actions ----
  * The portal builder's ActionWire form, version 2: one object with the keys, in the order of writing, id, actor, capability_kind,
@@ -539,7 +656,7 @@ typedef struct guvrendik_json_read {
     uint32_t refusal;        /* 0 where accepted, else the number */
     uint32_t kind;           /* the right that capability_kind names; 0 where refused */
     uint32_t id_len;         /* bytes of the id; 0 where refused */
-    uint8_t id[GUVRENDIK_JSON_ID]; /* zeros past its length */
+    uint8_t id[GUVRENDIK_LIMIT_JSON_ID]; /* zeros past its length */
 } guvrendik_json_read;
 
 /* Reads a JSON action.
@@ -558,7 +675,7 @@ guvrendik_json_read guvrendik_read_json(const uint8_t *text, size_t text_len, ui
  *  id/id_len          the id, 0 to 64 bytes as above. The caller owns it; read during the call only, never written. It does not
  *                     overlap the buffer. May be NULL where id_len is 0.
  *  kind               the right that capability_kind is to name, 0 to 16
- *  buffer/buffer_len  where to, as for guvrendik_write_register. GUVRENDIK_JSON_TEXT bytes are enough for every action.
+ *  buffer/buffer_len  where to, as for guvrendik_write_register. GUVRENDIK_TEXT_JSON bytes are enough for every action.
  * Refusals, the first that applies: 2 a field or count of the action, the id or the kind out of range; 25 a right above 2 or a
  * governed entry; 21 buffer too short. Then the buffer keeps every byte.
  * Accepted, the buffer keeps its bytes past the text. No zero byte is added.
@@ -568,7 +685,7 @@ guvrendik_written guvrendik_write_json(guvrendik_action a, const uint8_t *id, si
 
 /* ---- Words ----
  * Each call writes the words for a number, any number: one that stands for nothing has its own, `unknown refusal` and the like.
- *  buffer/buffer_len  where to, as for guvrendik_write_register. GUVRENDIK_WORD_TEXT bytes are enough for every number.
+ *  buffer/buffer_len  where to, as for guvrendik_write_register. GUVRENDIK_TEXT_WORDS bytes are enough for every number.
  * Refusal: 21 buffer too short. Then the buffer keeps every byte. No zero byte is added. */
 
 /* What a refusal's number says. 0 is `not refused`.
@@ -599,6 +716,102 @@ typedef struct guvrendik_version_numbers {
 /* The version of the library. With this header it is GUVRENDIK_VERSION_MAJOR, _MINOR and _PATCH.
  * Stack: 128 bytes. */
 guvrendik_version_numbers guvrendik_version(void);
+
+/* ---- By pointer ----
+ * The twin of each call, for languages whose foreign calls pass no struct by value: guvrendik_gate_at is guvrendik_gate, and so on. First
+ * comes where the answer goes, then what the call takes, each struct by pointer, everything else as the call has it. A twin answers and
+ * refuses what its call does, and decides nothing: it copies what it takes, calls, and stores the whole answer.
+ *  answer  where to. The caller owns it; written during the call only, whole, whatever it held. It overlaps nothing that the call takes.
+ * No pointer to a struct is NULL; each is aligned as its struct is, by 8 bytes where it has a field of 64 bits, else by 4. */
+void guvrendik_sound_at(guvrendik_soundness *answer, const guvrendik_register *r);
+void guvrendik_grant_at(guvrendik_granted *answer, const guvrendik_register *r, const guvrendik_claim *c, uint64_t moment);
+void guvrendik_revoke_at(guvrendik_revoked *answer, const guvrendik_register *r, uint32_t revoker, uint32_t claim);
+void guvrendik_clear_resource_at(guvrendik_revoked *answer, const guvrendik_register *r, uint32_t caller, uint32_t resource);
+void guvrendik_clear_expired_at(guvrendik_revoked *answer, const guvrendik_register *r, uint32_t caller, uint64_t moment);
+void guvrendik_gate_at(guvrendik_verdict *answer, const guvrendik_register *r, const guvrendik_action *a);
+void guvrendik_judge_plan_at(guvrendik_plan_verdict *answer, const guvrendik_register *r, const guvrendik_plan *p);
+void guvrendik_contains_at(guvrendik_containment *answer, const uint8_t *outer, size_t outer_len, const uint8_t *inner,
+                           size_t inner_len);
+void guvrendik_read_register_at(guvrendik_register_read *answer, const uint8_t *text, size_t text_len);
+void guvrendik_write_register_at(guvrendik_written *answer, const guvrendik_register *r, uint8_t *buffer, size_t buffer_len);
+void guvrendik_read_action_at(guvrendik_action_read *answer, const uint8_t *text, size_t text_len);
+void guvrendik_judge_plan_text_at(guvrendik_plan_text_verdict *answer, const guvrendik_register *r, const uint8_t *text,
+                                  size_t text_len);
+void guvrendik_verdict_text_at(guvrendik_written *answer, const uint8_t *register_text, size_t register_len, const uint8_t *action_text,
+                               size_t action_len, uint8_t *buffer, size_t buffer_len);
+void guvrendik_json_verdict_text_at(guvrendik_written *answer, const uint8_t *register_text, size_t register_len,
+                                    const uint8_t *clock_text, size_t clock_len, const uint8_t *action_text, size_t action_len,
+                                    uint8_t *buffer, size_t buffer_len);
+void guvrendik_plan_verdict_text_at(guvrendik_written *answer, const uint8_t *register_text, size_t register_len,
+                                    const uint8_t *plan_text, size_t plan_len, uint8_t *buffer, size_t buffer_len);
+void guvrendik_read_json_at(guvrendik_json_read *answer, const uint8_t *text, size_t text_len, uint64_t moment);
+void guvrendik_write_json_at(guvrendik_written *answer, const guvrendik_action *a, const uint8_t *id, size_t id_len, uint32_t kind,
+                             uint8_t *buffer, size_t buffer_len);
+void guvrendik_refusal_text_at(guvrendik_written *answer, uint32_t number, uint8_t *buffer, size_t buffer_len);
+void guvrendik_violation_text_at(guvrendik_written *answer, uint32_t kind, uint8_t *buffer, size_t buffer_len);
+void guvrendik_right_name_at(guvrendik_written *answer, uint32_t right, uint8_t *buffer, size_t buffer_len);
+void guvrendik_flag_name_at(guvrendik_written *answer, uint32_t flag, uint8_t *buffer, size_t buffer_len);
+void guvrendik_version_at(guvrendik_version_numbers *answer);
+
+/* ---- Sizes ----
+ * The bytes of each struct, for a binding to hold itself to. C11 and C++11 hold this header to them. */
+#define GUVRENDIK_SIZE_ACTOR 12
+#define GUVRENDIK_SIZE_RESOURCE 80
+#define GUVRENDIK_SIZE_CLAIM 40
+#define GUVRENDIK_SIZE_ACTORS 776
+#define GUVRENDIK_SIZE_RESOURCES 5128
+#define GUVRENDIK_SIZE_CLAIMS 10248
+#define GUVRENDIK_SIZE_REGISTER 16160
+#define GUVRENDIK_SIZE_SOUNDNESS 4
+#define GUVRENDIK_SIZE_GRANTED 16168
+#define GUVRENDIK_SIZE_REVOKED 16176
+#define GUVRENDIK_SIZE_USAGE 8
+#define GUVRENDIK_SIZE_ACTION 320
+#define GUVRENDIK_SIZE_VIOLATION 8
+#define GUVRENDIK_SIZE_VERDICT 680
+#define GUVRENDIK_SIZE_PLAN 5128
+#define GUVRENDIK_SIZE_JUDGEMENT 8
+#define GUVRENDIK_SIZE_PLAN_VERDICT 152
+#define GUVRENDIK_SIZE_CONTAINMENT 16
+#define GUVRENDIK_SIZE_REGISTER_READ 16176
+#define GUVRENDIK_SIZE_WRITTEN 16
+#define GUVRENDIK_SIZE_ACTION_READ 336
+#define GUVRENDIK_SIZE_PLAN_TEXT_VERDICT 544
+#define GUVRENDIK_SIZE_JSON_READ 400
+#define GUVRENDIK_SIZE_VERSION_NUMBERS 12
+
+#if defined(__cplusplus) && __cplusplus >= 201103L
+#define GUVRENDIK_HOLD(type, size) static_assert(sizeof(type) == (size), "the size of " #type)
+#elif defined(__STDC_VERSION__) && __STDC_VERSION__ >= 201112L
+#define GUVRENDIK_HOLD(type, size) _Static_assert(sizeof(type) == (size), "the size of " #type)
+#endif
+#ifdef GUVRENDIK_HOLD
+GUVRENDIK_HOLD(guvrendik_actor, GUVRENDIK_SIZE_ACTOR);
+GUVRENDIK_HOLD(guvrendik_resource, GUVRENDIK_SIZE_RESOURCE);
+GUVRENDIK_HOLD(guvrendik_claim, GUVRENDIK_SIZE_CLAIM);
+GUVRENDIK_HOLD(guvrendik_actors, GUVRENDIK_SIZE_ACTORS);
+GUVRENDIK_HOLD(guvrendik_resources, GUVRENDIK_SIZE_RESOURCES);
+GUVRENDIK_HOLD(guvrendik_claims, GUVRENDIK_SIZE_CLAIMS);
+GUVRENDIK_HOLD(guvrendik_register, GUVRENDIK_SIZE_REGISTER);
+GUVRENDIK_HOLD(guvrendik_soundness, GUVRENDIK_SIZE_SOUNDNESS);
+GUVRENDIK_HOLD(guvrendik_granted, GUVRENDIK_SIZE_GRANTED);
+GUVRENDIK_HOLD(guvrendik_revoked, GUVRENDIK_SIZE_REVOKED);
+GUVRENDIK_HOLD(guvrendik_usage, GUVRENDIK_SIZE_USAGE);
+GUVRENDIK_HOLD(guvrendik_action, GUVRENDIK_SIZE_ACTION);
+GUVRENDIK_HOLD(guvrendik_violation, GUVRENDIK_SIZE_VIOLATION);
+GUVRENDIK_HOLD(guvrendik_verdict, GUVRENDIK_SIZE_VERDICT);
+GUVRENDIK_HOLD(guvrendik_plan, GUVRENDIK_SIZE_PLAN);
+GUVRENDIK_HOLD(guvrendik_judgement, GUVRENDIK_SIZE_JUDGEMENT);
+GUVRENDIK_HOLD(guvrendik_plan_verdict, GUVRENDIK_SIZE_PLAN_VERDICT);
+GUVRENDIK_HOLD(guvrendik_containment, GUVRENDIK_SIZE_CONTAINMENT);
+GUVRENDIK_HOLD(guvrendik_register_read, GUVRENDIK_SIZE_REGISTER_READ);
+GUVRENDIK_HOLD(guvrendik_written, GUVRENDIK_SIZE_WRITTEN);
+GUVRENDIK_HOLD(guvrendik_action_read, GUVRENDIK_SIZE_ACTION_READ);
+GUVRENDIK_HOLD(guvrendik_plan_text_verdict, GUVRENDIK_SIZE_PLAN_TEXT_VERDICT);
+GUVRENDIK_HOLD(guvrendik_json_read, GUVRENDIK_SIZE_JSON_READ);
+GUVRENDIK_HOLD(guvrendik_version_numbers, GUVRENDIK_SIZE_VERSION_NUMBERS);
+#undef GUVRENDIK_HOLD
+#endif
 
 #ifdef __cplusplus
 }

@@ -51,9 +51,9 @@ static guvrendik_action load_action(void) {
 static guvrendik_verdict ask(guvrendik_register r, guvrendik_action a) {
     guvrendik_verdict verdict = guvrendik_gate(r, a);
     switch (verdict.decision) {
-    case GUVRENDIK_PERMITTED: printf("verdict=permitted\n"); break;
-    case GUVRENDIK_REFUSED: printf("verdict=refused\n"); break;
-    case GUVRENDIK_STOPPED: printf("verdict=stopped\nrefusal=%u\n", (unsigned)verdict.refusal); return verdict;
+    case GUVRENDIK_DECISION_PERMITTED: printf("verdict=permitted\n"); break;
+    case GUVRENDIK_DECISION_REFUSED: printf("verdict=refused\n"); break;
+    case GUVRENDIK_DECISION_STOPPED: printf("verdict=stopped\nrefusal=%u\n", (unsigned)verdict.refusal); return verdict;
     default: demand(0, "a verdict has one of three decisions");
     }
     printf("violations=%zu\n", verdict.count);
@@ -68,7 +68,7 @@ static guvrendik_verdict ask(guvrendik_register r, guvrendik_action a) {
 
 /* Writes the register's text, prints it, and reads it back to the same text. */
 static void print_text(guvrendik_register r) {
-    static uint8_t text[GUVRENDIK_REGISTER_TEXT], again[GUVRENDIK_REGISTER_TEXT];
+    static uint8_t text[GUVRENDIK_TEXT_REGISTER], again[GUVRENDIK_TEXT_REGISTER];
     guvrendik_written written = guvrendik_write_register(r, text, sizeof text);
     demand(written.accepted == 1 && written.refusal == 0, "a sound register is written");
     guvrendik_register_read read = guvrendik_read_register(text, written.length);
@@ -86,10 +86,10 @@ int main(void) {
 
     printf("-- the gate\n");
     guvrendik_verdict verdict = ask(r, a);
-    demand(verdict.decision == GUVRENDIK_REFUSED && verdict.count == 1, "case R is refused for one violation");
+    demand(verdict.decision == GUVRENDIK_DECISION_REFUSED && verdict.count == 1, "case R is refused for one violation");
 
     printf("-- the printing program\n");
-    uint8_t lines[GUVRENDIK_VERDICT_TEXT];
+    uint8_t lines[GUVRENDIK_TEXT_VERDICT];
     guvrendik_written printed = guvrendik_verdict_text((const uint8_t *)register_text, strlen(register_text),
                                                        (const uint8_t *)action_text, strlen(action_text), lines, sizeof lines);
     demand(printed.accepted == 1, "a verdict's text has room");
@@ -102,7 +102,7 @@ int main(void) {
         .grantor = 1,
         .holder = 2,
         .resource = 10,
-        .rights = GUVRENDIK_WORTH(GUVRENDIK_WRITE),
+        .rights = GUVRENDIK_CAN_WRITE,
         .weight = 500,
         .left = 0, /* not asked in version 1 */
         .expiry = 3000,
@@ -112,7 +112,7 @@ int main(void) {
     r = granted.state;
     printf("claims=%zu\n", r.claims.count);
     verdict = ask(r, a);
-    demand(verdict.decision == GUVRENDIK_PERMITTED, "both uses are covered");
+    demand(verdict.decision == GUVRENDIK_DECISION_PERMITTED, "both uses are covered");
 
     printf("-- the same claim a second time\n");
     granted = guvrendik_grant(r, claim, a.now);
@@ -121,14 +121,14 @@ int main(void) {
 
     printf("-- a grant of DELETE that the parent lacks\n");
     claim.id = 4;
-    claim.rights = GUVRENDIK_WORTH(GUVRENDIK_DELETE);
+    claim.rights = GUVRENDIK_CAN_DELETE;
     granted = guvrendik_grant(r, claim, a.now);
     demand(granted.accepted == 0 && granted.state.claims.count == 3, "refused, and the register as it was");
     printf("refusal=%u\n", (unsigned)granted.refusal);
 
     printf("-- a plan: the action, a flagged one, the action\n");
     guvrendik_plan plan = {.actions = {a, a, a}, .count = 3};
-    plan.actions[1].flags = GUVRENDIK_WORTH(GUVRENDIK_DECEIVES);
+    plan.actions[1].flags = GUVRENDIK_SETS_DECEIVES;
     guvrendik_plan_verdict judged = guvrendik_judge_plan(r, plan);
     demand(judged.accepted == 1 && judged.count == 3, "the plan is judged");
     for (size_t i = 0; i < judged.count; i++) {
@@ -146,7 +146,7 @@ int main(void) {
     r = revoked.state;
     printf("removed=%zu\n", revoked.removed);
     verdict = ask(r, a);
-    demand(verdict.decision == GUVRENDIK_REFUSED, "READ is gone");
+    demand(verdict.decision == GUVRENDIK_DECISION_REFUSED, "READ is gone");
 
     printf("-- the register's text\n");
     print_text(r);

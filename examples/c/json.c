@@ -54,8 +54,8 @@ static guvrendik_json_read read_json(const char *text, uint64_t now) {
 /* Asks the gate and prints the verdict in the lines of the printing program. */
 static guvrendik_verdict ask(guvrendik_register r, guvrendik_action a) {
     guvrendik_verdict verdict = guvrendik_gate(r, a);
-    demand(verdict.decision == GUVRENDIK_PERMITTED || verdict.decision == GUVRENDIK_REFUSED, "the gate judges the action");
-    printf("verdict=%s\n", verdict.decision == GUVRENDIK_PERMITTED ? "permitted" : "refused");
+    demand(verdict.decision == GUVRENDIK_DECISION_PERMITTED || verdict.decision == GUVRENDIK_DECISION_REFUSED, "the gate judges the action");
+    printf("verdict=%s\n", verdict.decision == GUVRENDIK_DECISION_PERMITTED ? "permitted" : "refused");
     printf("violations=%zu\n", verdict.count);
     for (size_t i = 0; i < verdict.count; i++) {
         printf("violation=%u\nat=%u\n", (unsigned)verdict.violations[i].kind, (unsigned)verdict.violations[i].value);
@@ -65,7 +65,7 @@ static guvrendik_verdict ask(guvrendik_register r, guvrendik_action a) {
 
 /* Writes the action as JSON, prints it on a line, and reads it back to the same action. */
 static void print_json(const guvrendik_json_read *read) {
-    uint8_t text[GUVRENDIK_JSON_TEXT];
+    uint8_t text[GUVRENDIK_TEXT_JSON];
     guvrendik_written written = guvrendik_write_json(read->action, read->id, read->id_len, read->kind, text, sizeof text);
     demand(written.accepted == 1 && written.refusal == 0, "what was read is written");
     guvrendik_json_read again = guvrendik_read_json(text, written.length, read->action.now);
@@ -90,13 +90,13 @@ int main(void) {
 
     printf("-- the gate\n");
     guvrendik_verdict verdict = ask(loaded.state, read.action);
-    demand(verdict.decision == GUVRENDIK_REFUSED && verdict.count == 1, "case R is refused for one violation");
+    demand(verdict.decision == GUVRENDIK_DECISION_REFUSED && verdict.count == 1, "case R is refused for one violation");
 
     printf("-- the action written back\n");
     print_json(&read);
 
     printf("-- a moment that is none\n");
-    guvrendik_json_read late = read_json(json_text, GUVRENDIK_MOMENT_MAX + 1);
+    guvrendik_json_read late = read_json(json_text, GUVRENDIK_MAX_MOMENT + 1);
     demand(late.accepted == 0 && late.action.used == 0, "nothing is read");
     printf("refusal=%u\n", (unsigned)late.refusal);
 
@@ -107,8 +107,8 @@ int main(void) {
 
     printf("-- a use of DELETE, which JSON has no place for\n");
     guvrendik_action deleting = read.action;
-    deleting.uses[0].right = GUVRENDIK_DELETE;
-    uint8_t text[GUVRENDIK_JSON_TEXT];
+    deleting.uses[0].right = GUVRENDIK_RIGHT_DELETE;
+    uint8_t text[GUVRENDIK_TEXT_JSON];
     guvrendik_written lacking = guvrendik_write_json(deleting, read.id, read.id_len, read.kind, text, sizeof text);
     demand(lacking.accepted == 0 && lacking.length == 0, "nothing is written");
     printf("refusal=%u\n", (unsigned)lacking.refusal);

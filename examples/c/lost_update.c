@@ -4,7 +4,6 @@
 
 #include <stdio.h>
 #include <stdlib.h>
-#include <string.h>
 
 /* The portal's register. */
 static guvrendik_register stored;
@@ -16,26 +15,18 @@ static void demand(int holds, const char *what) {
     }
 }
 
+/* A claim on report 10 that human 1 grants, of full weight, and that never runs out. */
 static guvrendik_claim claim(uint32_t id, uint32_t parent, uint32_t holder, uint32_t rights) {
-    guvrendik_claim c;
-    memset(&c, 0, sizeof c);
-    c.id = id;
-    c.parent = parent;
-    c.grantor = 1;
-    c.holder = holder;
-    c.resource = 10;
-    c.rights = rights;
-    c.weight = GUVRENDIK_WEIGHT_MAX;
-    return c;
+    return guvrendik_make_claim(id, parent, 1, holder, 10, rights, GUVRENDIK_MAX_WEIGHT, 0, 0);
 }
 
 /* Human 1 keeps report 10 and has a root on it, from which its machine 2 may read. */
 static void begin(void) {
     guvrendik_begin(&stored, GUVRENDIK_REGISTER_1);
-    demand(guvrendik_put_actor(&stored, 1, GUVRENDIK_HUMAN, 0) && guvrendik_put_actor(&stored, 2, GUVRENDIK_MACHINE, 1) &&
-               guvrendik_put_actor(&stored, 3, GUVRENDIK_HUMAN, 0) && guvrendik_put_resource(&stored, 10, 0, 1, "site/a", 6) &&
-               guvrendik_put_claim(&stored, claim(1, 0, 1, GUVRENDIK_WORTH(GUVRENDIK_READ) | GUVRENDIK_WORTH(GUVRENDIK_DELEGATE))) &&
-               guvrendik_put_claim(&stored, claim(2, 1, 2, GUVRENDIK_WORTH(GUVRENDIK_READ))),
+    demand(guvrendik_put_actor(&stored, 1, GUVRENDIK_ACTOR_HUMAN, 0) && guvrendik_put_actor(&stored, 2, GUVRENDIK_ACTOR_MACHINE, 1) &&
+               guvrendik_put_actor(&stored, 3, GUVRENDIK_ACTOR_HUMAN, 0) && guvrendik_put_resource(&stored, 10, 0, 1, "site/a", 6) &&
+               guvrendik_put_claim(&stored, claim(1, 0, 1, GUVRENDIK_CAN_READ | GUVRENDIK_CAN_DELEGATE)) &&
+               guvrendik_put_claim(&stored, claim(2, 1, 2, GUVRENDIK_CAN_READ)),
            "there is room");
     demand(guvrendik_sound(stored).sound == 1, "the register is sound");
 }
@@ -47,23 +38,18 @@ static guvrendik_register without_claim_2(guvrendik_register read) {
 }
 
 static guvrendik_register with_claim_3(guvrendik_register read) {
-    guvrendik_granted answer = guvrendik_grant(read, claim(3, 1, 3, GUVRENDIK_WORTH(GUVRENDIK_READ)), 0);
+    guvrendik_granted answer = guvrendik_grant(read, claim(3, 1, 3, GUVRENDIK_CAN_READ), 0);
     demand(answer.accepted == 1, "human 1 grants claim 3");
     return answer.state;
 }
 
 static void show(const char *how) {
-    guvrendik_action reads;
-    memset(&reads, 0, sizeof reads);
-    reads.actor = 2;
-    reads.uses[0].resource = 10;
-    reads.uses[0].right = GUVRENDIK_READ;
-    reads.used = 1;
+    guvrendik_action reads = guvrendik_make_action(2, guvrendik_make_usage(10, GUVRENDIK_RIGHT_READ), 0);
     printf("%s: claims", how);
     for (size_t i = 0; i < stored.claims.count; i++) {
         printf(" %u", (unsigned)stored.claims.list[i].id);
     }
-    printf(", machine 2 %s\n", guvrendik_gate(stored, reads).decision == GUVRENDIK_PERMITTED ? "may read" : "may not read");
+    printf(", machine 2 %s\n", guvrendik_gate(stored, reads).decision == GUVRENDIK_DECISION_PERMITTED ? "may read" : "may not read");
 }
 
 int main(void) {

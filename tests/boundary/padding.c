@@ -7,7 +7,7 @@
 #include <stdio.h>
 #include <string.h>
 
-#define CLAIMS (GUVRENDIK_CLAIMS - 1)
+#define CLAIMS (GUVRENDIK_LIMIT_CLAIMS - 1)
 
 static unsigned passed, failed;
 static size_t differing;
@@ -74,8 +74,8 @@ static guvrendik_register state, second, unsound;
 static guvrendik_claim claim, wide;
 static guvrendik_action action, uncovered, absent;
 static guvrendik_plan plan, long_plan;
-static uint8_t register_text[GUVRENDIK_REGISTER_TEXT], second_text[GUVRENDIK_REGISTER_TEXT], json_text[GUVRENDIK_JSON_TEXT];
-static uint8_t buffer[GUVRENDIK_REGISTER_TEXT];
+static uint8_t register_text[GUVRENDIK_TEXT_REGISTER], second_text[GUVRENDIK_TEXT_REGISTER], json_text[GUVRENDIK_TEXT_JSON];
+static uint8_t buffer[GUVRENDIK_TEXT_REGISTER];
 static size_t register_length, second_length, json_length;
 static const uint8_t action_text[] = "now=1\nactor=1\nflags=0\nuses=1\nuse=1\nright=0\ngoverns=0\n", path[] = "site/a/b";
 static const uint8_t plan_text[] = "plan=2\nstep=action\nnow=1\nactor=1\nflags=0\nuses=1\nuse=1\nright=0\ngoverns=0\n"
@@ -85,11 +85,11 @@ enum { ACTION_LENGTH = sizeof action_text - 1, PLAN_LENGTH = sizeof plan_text - 
 /* Actor 1 keeps every resource; claims come in pairs, a root and one drawn from it by actor 2. */
 static void fill(guvrendik_register *r, uint64_t version) {
     guvrendik_begin(r, version);
-    for (uint32_t i = 1; i <= GUVRENDIK_ACTORS; i++) guvrendik_put_actor(r, i, GUVRENDIK_HUMAN, 0);
-    for (uint32_t i = 1; i <= GUVRENDIK_RESOURCES; i++) guvrendik_put_resource(r, i, i % 2, 1, path, i % 9);
+    for (uint32_t i = 1; i <= GUVRENDIK_LIMIT_ACTORS; i++) guvrendik_put_actor(r, i, GUVRENDIK_ACTOR_HUMAN, 0);
+    for (uint32_t i = 1; i <= GUVRENDIK_LIMIT_RESOURCES; i++) guvrendik_put_resource(r, i, i % 2, 1, path, i % 9);
     for (uint32_t i = 1; i <= CLAIMS; i++) {
-        guvrendik_claim c = {.id = i, .grantor = 1, .holder = 2, .resource = 1 + i / 2 % GUVRENDIK_RESOURCES, .rights = 17, .weight = 1};
-        c.left = GUVRENDIK_LEFT_MAX;
+        guvrendik_claim c = {.id = i, .grantor = 1, .holder = 2, .resource = 1 + i / 2 % GUVRENDIK_LIMIT_RESOURCES, .rights = 17, .weight = 1};
+        c.left = GUVRENDIK_MAX_LEFT;
         c.expiry = i % 3;
         if (i % 2 == 1 && i > 1) c.parent = i - 1, c.grantor = 2, c.holder = 3, c.left = 5;
         guvrendik_put_claim(r, c);
@@ -102,20 +102,20 @@ static void prepare(void) {
     unsound = state;
     unsound.version = 0;
     claim = state.claims.list[1];
-    claim.id = GUVRENDIK_CLAIMS;
+    claim.id = GUVRENDIK_LIMIT_CLAIMS;
     wide = claim;
-    wide.weight = GUVRENDIK_WEIGHT_MAX + 1;
+    wide.weight = GUVRENDIK_MAX_WEIGHT + 1;
     action.actor = absent.actor = 1;
     action.used = 1;
-    action.uses[0] = (guvrendik_usage){1, GUVRENDIK_READ};
+    action.uses[0] = (guvrendik_usage){1, GUVRENDIK_RIGHT_READ};
     uncovered = action;
-    uncovered.uses[0].resource = GUVRENDIK_ID_MAX;
-    absent.actor = GUVRENDIK_ID_MAX;
+    uncovered.uses[0].resource = GUVRENDIK_MAX_ID;
+    absent.actor = GUVRENDIK_MAX_ID;
     plan.count = 3;
     plan.actions[0] = action;
     plan.actions[1] = plan.actions[2] = uncovered;
     long_plan = plan;
-    long_plan.count = GUVRENDIK_ACTIONS + 1;
+    long_plan.count = GUVRENDIK_LIMIT_ACTIONS + 1;
     register_length = guvrendik_write_register(state, register_text, sizeof register_text).length;
     second_length = guvrendik_write_register(second, second_text, sizeof second_text).length;
     json_length = guvrendik_write_json(action, path, 8, 0, json_text, sizeof json_text).length;
@@ -126,25 +126,25 @@ static void changes(void) {
     TWICE(guvrendik_soundness, guvrendik_sound(unsound), sound, 0);
     TWICE(guvrendik_granted, guvrendik_grant(state, claim, 0), refusal, 0);
     TWICE(guvrendik_granted, guvrendik_grant(second, claim, 0), refusal, 0);
-    TWICE(guvrendik_granted, guvrendik_grant(second, wide, 0), refusal, GUVRENDIK_RANGE);
-    TWICE(guvrendik_granted, guvrendik_grant(unsound, claim, 0), refusal, GUVRENDIK_UNSOUND);
+    TWICE(guvrendik_granted, guvrendik_grant(second, wide, 0), refusal, GUVRENDIK_REFUSAL_RANGE);
+    TWICE(guvrendik_granted, guvrendik_grant(unsound, claim, 0), refusal, GUVRENDIK_REFUSAL_UNSOUND);
     TWICE(guvrendik_revoked, guvrendik_revoke(state, 1, 2), removed, 2);
     TWICE(guvrendik_revoked, guvrendik_revoke(second, 1, 2), removed, 2);
-    TWICE(guvrendik_revoked, guvrendik_revoke(state, 1, 0), refusal, GUVRENDIK_NO_CLAIM);
+    TWICE(guvrendik_revoked, guvrendik_revoke(state, 1, 0), refusal, GUVRENDIK_REFUSAL_NO_CLAIM);
     TWICE(guvrendik_revoked, guvrendik_clear_resource(second, 1, 2), refusal, 0);
-    TWICE(guvrendik_revoked, guvrendik_clear_resource(state, 2, 2), refusal, GUVRENDIK_NO_GRANTOR);
+    TWICE(guvrendik_revoked, guvrendik_clear_resource(state, 2, 2), refusal, GUVRENDIK_REFUSAL_NO_GRANTOR);
     TWICE(guvrendik_revoked, guvrendik_clear_expired(second, 2, 1), refusal, 0);
-    TWICE(guvrendik_revoked, guvrendik_clear_expired(state, 2, UINT64_MAX), refusal, GUVRENDIK_RANGE);
+    TWICE(guvrendik_revoked, guvrendik_clear_expired(state, 2, UINT64_MAX), refusal, GUVRENDIK_REFUSAL_RANGE);
 }
 
 static void verdicts(void) {
-    TWICE(guvrendik_verdict, guvrendik_gate(state, action), decision, GUVRENDIK_PERMITTED);
-    TWICE(guvrendik_verdict, guvrendik_gate(second, uncovered), decision, GUVRENDIK_REFUSED);
-    TWICE(guvrendik_verdict, guvrendik_gate(state, absent), decision, GUVRENDIK_STOPPED);
+    TWICE(guvrendik_verdict, guvrendik_gate(state, action), decision, GUVRENDIK_DECISION_PERMITTED);
+    TWICE(guvrendik_verdict, guvrendik_gate(second, uncovered), decision, GUVRENDIK_DECISION_REFUSED);
+    TWICE(guvrendik_verdict, guvrendik_gate(state, absent), decision, GUVRENDIK_DECISION_STOPPED);
     TWICE(guvrendik_plan_verdict, guvrendik_judge_plan(second, plan), count, 3);
-    TWICE(guvrendik_plan_verdict, guvrendik_judge_plan(state, long_plan), refusal, GUVRENDIK_RANGE);
+    TWICE(guvrendik_plan_verdict, guvrendik_judge_plan(state, long_plan), refusal, GUVRENDIK_REFUSAL_RANGE);
     TWICE(guvrendik_plan_text_verdict, guvrendik_judge_plan_text(second, plan_text, PLAN_LENGTH), count, 2);
-    TWICE(guvrendik_plan_text_verdict, guvrendik_judge_plan_text(state, plan_text, PLAN_LENGTH - 1), refusal, GUVRENDIK_FORM);
+    TWICE(guvrendik_plan_text_verdict, guvrendik_judge_plan_text(state, plan_text, PLAN_LENGTH - 1), refusal, GUVRENDIK_REFUSAL_FORM);
     TWICE(guvrendik_containment, guvrendik_contains(path, 6, path, 8), contained, 1);
     TWICE(guvrendik_containment, guvrendik_contains(path, 3, path, 8), contained, 0);
 }
@@ -152,20 +152,23 @@ static void verdicts(void) {
 static void texts(void) {
     TWICE(guvrendik_register_read, guvrendik_read_register(register_text, register_length), refusal, 0);
     TWICE(guvrendik_register_read, guvrendik_read_register(second_text, second_length), refusal, 0);
-    TWICE(guvrendik_register_read, guvrendik_read_register(register_text, register_length / 2), refusal, GUVRENDIK_FORM);
-    TWICE(guvrendik_register_read, guvrendik_read_register(register_text, 1), refusal, GUVRENDIK_FORM);
+    TWICE(guvrendik_register_read, guvrendik_read_register(register_text, register_length / 2), refusal, GUVRENDIK_REFUSAL_FORM);
+    TWICE(guvrendik_register_read, guvrendik_read_register(register_text, 1), refusal, GUVRENDIK_REFUSAL_FORM);
     TWICE(guvrendik_written, guvrendik_write_register(second, buffer, sizeof buffer), refusal, 0);
-    TWICE(guvrendik_written, guvrendik_write_register(state, buffer, 1), refusal, GUVRENDIK_BUFFER);
+    TWICE(guvrendik_written, guvrendik_write_register(state, buffer, 1), refusal, GUVRENDIK_REFUSAL_BUFFER);
     TWICE(guvrendik_action_read, guvrendik_read_action(action_text, ACTION_LENGTH), refusal, 0);
-    TWICE(guvrendik_action_read, guvrendik_read_action(action_text, ACTION_LENGTH - 1), refusal, GUVRENDIK_FORM);
+    TWICE(guvrendik_action_read, guvrendik_read_action(action_text, ACTION_LENGTH - 1), refusal, GUVRENDIK_REFUSAL_FORM);
     TWICE(guvrendik_written, guvrendik_verdict_text(second_text, second_length, action_text, ACTION_LENGTH, buffer, sizeof buffer), refusal, 0);
-    TWICE(guvrendik_written, guvrendik_verdict_text(path, 1, path, 1, buffer, 1), refusal, GUVRENDIK_BUFFER);
+    TWICE(guvrendik_written, guvrendik_verdict_text(path, 1, path, 1, buffer, 1), refusal, GUVRENDIK_REFUSAL_BUFFER);
+    TWICE(guvrendik_written, guvrendik_json_verdict_text(register_text, register_length, action_text, 6, json_text, json_length, buffer, 40), refusal, 0);
+    TWICE(guvrendik_written, guvrendik_plan_verdict_text(second_text, second_length, plan_text, PLAN_LENGTH, buffer, 64), refusal, 0);
+    TWICE(guvrendik_written, guvrendik_plan_verdict_text(path, 1, path, 1, buffer, 1), refusal, GUVRENDIK_REFUSAL_BUFFER);
     TWICE(guvrendik_json_read, guvrendik_read_json(json_text, json_length, 1), refusal, 0);
-    TWICE(guvrendik_json_read, guvrendik_read_json(json_text, json_length - 1, 1), refusal, GUVRENDIK_JSON_FORM);
+    TWICE(guvrendik_json_read, guvrendik_read_json(json_text, json_length - 1, 1), refusal, GUVRENDIK_REFUSAL_JSON_FORM);
     TWICE(guvrendik_written, guvrendik_write_json(action, path, 8, 0, buffer, sizeof buffer), refusal, 0);
-    TWICE(guvrendik_written, guvrendik_write_json(action, path, 8, 17, buffer, sizeof buffer), refusal, GUVRENDIK_RANGE);
+    TWICE(guvrendik_written, guvrendik_write_json(action, path, 8, 17, buffer, sizeof buffer), refusal, GUVRENDIK_REFUSAL_RANGE);
     TWICE(guvrendik_written, guvrendik_refusal_text(15, buffer, sizeof buffer), refusal, 0);
-    TWICE(guvrendik_written, guvrendik_violation_text(4, buffer, 1), refusal, GUVRENDIK_BUFFER);
+    TWICE(guvrendik_written, guvrendik_violation_text(4, buffer, 1), refusal, GUVRENDIK_REFUSAL_BUFFER);
     TWICE(guvrendik_written, guvrendik_right_name(0, buffer, sizeof buffer), refusal, 0);
     TWICE(guvrendik_written, guvrendik_flag_name(0, buffer, sizeof buffer), refusal, 0);
     TWICE(guvrendik_version_numbers, guvrendik_version(), major, GUVRENDIK_VERSION_MAJOR);

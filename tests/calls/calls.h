@@ -4,6 +4,7 @@
 #define CALLS_H
 
 #include "guvrendik.h"
+#include "twins.h"
 
 #include <stdio.h>
 #include <string.h>
@@ -14,11 +15,11 @@ typedef guvrendik_action Action;
 typedef guvrendik_plan Plan;
 
 static inline guvrendik_actor human(uint32_t id) {
-    return (guvrendik_actor){.id = id, .kind = GUVRENDIK_HUMAN};
+    return (guvrendik_actor){.id = id, .kind = GUVRENDIK_ACTOR_HUMAN};
 }
 
 static inline guvrendik_actor machine(uint32_t id, uint32_t owner) {
-    return (guvrendik_actor){.id = id, .kind = GUVRENDIK_MACHINE, .owner = owner};
+    return (guvrendik_actor){.id = id, .kind = GUVRENDIK_ACTOR_MACHINE, .owner = owner};
 }
 
 /* A resource with a path of up to 64 bytes. */
@@ -155,14 +156,14 @@ static inline Action flagged(Action a, uint32_t flags) {
 /* Ten flags, a machine without owner that governs eight, thirty-two uses that it does not cover. */
 static inline Action most(void) {
     Action a = governing(flagged(action(4, 0), 1023), 8);
-    while (a.used < GUVRENDIK_USES) a = using(a, 10, 0);
+    while (a.used < GUVRENDIK_LIMIT_USES) a = using(a, 10, 0);
     return a;
 }
 
 /* A plan of one action, so many times. */
 static inline Plan alike(Action a, size_t count) {
     Plan p = {.count = count};
-    for (size_t i = 0; i < GUVRENDIK_ACTIONS; i++) p.actions[i] = a;
+    for (size_t i = 0; i < GUVRENDIK_LIMIT_ACTIONS; i++) p.actions[i] = a;
     return p;
 }
 
@@ -190,5 +191,7 @@ void plan_lines(void);
 void plan_text_lines(void);
 void word_lines(void);
 void version_lines(void);
+void text_lines(void);
+void twin_lines(void);
 
 #endif

@@ -17,8 +17,8 @@
 static void ask(const char *label, Register r, Action a) {
     static const char *const decisions[] = {"", "permitted", "refused", "stopped"};
     guvrendik_verdict v = guvrendik_gate(r, a);
-    printf("%s: %s", label, v.decision <= GUVRENDIK_STOPPED ? decisions[v.decision] : "");
-    if (v.decision == GUVRENDIK_STOPPED) printf(" %u", (unsigned)v.refusal);
+    printf("%s: %s", label, v.decision <= GUVRENDIK_DECISION_STOPPED ? decisions[v.decision] : "");
+    if (v.decision == GUVRENDIK_DECISION_STOPPED) printf(" %u", (unsigned)v.refusal);
     for (size_t i = 0; i < v.count; i++) printf(" %u/%u", (unsigned)v.violations[i].kind, (unsigned)v.violations[i].value);
     printf(" hops");
     for (size_t i = 0; i < a.used; i++) printf(" %zu", v.hops[i]);

@@ -36,7 +36,7 @@ static guvrendik_revoked made(Register r, Withdrawal w) {
 
 /* The id in the first place behind the claims, 0 where all places are taken. */
 static uint32_t behind(Register r) {
-    return r.claims.count < GUVRENDIK_CLAIMS ? r.claims.list[r.claims.count].id : 0;
+    return r.claims.count < GUVRENDIK_LIMIT_CLAIMS ? r.claims.list[r.claims.count].id : 0;
 }
 
 static void in_turn(Register r, Withdrawal first, Withdrawal second) {

@@ -57,7 +57,7 @@ static void print_verdicts(const guvrendik_plan_text_verdict *v) {
         if (end - i > 1) printf(" x%zu", end - i);
         i = end;
     }
-    for (size_t i = v->count; i < GUVRENDIK_TEXT_ACTIONS; i++) {
+    for (size_t i = v->count; i < GUVRENDIK_LIMIT_TEXT_ACTIONS; i++) {
         if (v->list[i].decision != 0 || v->list[i].violations != 0) printf(" past the count %u/%u", (unsigned)v->list[i].decision, (unsigned)v->list[i].violations);
     }
 }

@@ -3,7 +3,7 @@
  *
  * What is expected comes from 01, "The gate": "Test 1, then 2 on the count, then the first action with 2 or 3 stops the whole plan and is named
  * by position from 0. Otherwise each action is permitted, refused with its number of violations, or cancelled: every action after the first
- * with a flag set is cancelled". The numbers of the verdicts are 1, 2 and 3. "Otherwise" puts verdicts after all tests, so that an action that
+ * with a flag set is cancelled". The numbers of the verdicts are 1, 2 and 4: 3 is a stopped call's. "Otherwise" puts verdicts after all tests, so that an action that
  * would be cancelled can stop the plan; the first action decides, whichever of 2 and 3 it has. A line `n before m` has both faults. */
 #include "calls.h"
 

@@ -56,7 +56,7 @@ static void actors(void) {
     line("owner 65537", with_actor(base(), 5, machine(6, 65537)));
     line("owner absent", with_actor(base(), 5, machine(6, 9)));
     line("owner a machine", with_actor(base(), 5, machine(6, 2)));
-    line("human with an owner", with_actor(base(), 5, (guvrendik_actor){.id = 6, .kind = GUVRENDIK_HUMAN, .owner = 1}));
+    line("human with an owner", with_actor(base(), 5, (guvrendik_actor){.id = 6, .kind = GUVRENDIK_ACTOR_HUMAN, .owner = 1}));
     line("sound owner who stands later", with_actor(with_actor(base(), 5, machine(6, 7)), 6, human(7)));
 }
 

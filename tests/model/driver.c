@@ -476,20 +476,20 @@ static void visit_size(visitor *v, size_t *field) {
 }
 
 static void visit_register(visitor *v, guvrendik_register *r) {
-    for (size_t i = 0; i < GUVRENDIK_ACTORS; i++) {
+    for (size_t i = 0; i < GUVRENDIK_LIMIT_ACTORS; i++) {
         guvrendik_actor *actor = &r->actors.list[i];
         visit32(v, &actor->id);
         visit32(v, &actor->kind);
         visit32(v, &actor->owner);
     }
     visit_size(v, &r->actors.count);
-    for (size_t i = 0; i < GUVRENDIK_RESOURCES; i++) {
+    for (size_t i = 0; i < GUVRENDIK_LIMIT_RESOURCES; i++) {
         guvrendik_resource *resource = &r->resources.list[i];
         visit32(v, &resource->id);
         visit32(v, &resource->is_public);
         visit32(v, &resource->keeper);
         visit32(v, &resource->len);
-        for (size_t j = 0; j < GUVRENDIK_PATH; j++) {
+        for (size_t j = 0; j < GUVRENDIK_LIMIT_PATH; j++) {
             uint8_t byte = (uint8_t)(++v->next % 251); /* a prime: no pattern of the sizes */
             if (v->writes) {
                 resource->path[j] = byte;
@@ -499,7 +499,7 @@ static void visit_register(visitor *v, guvrendik_register *r) {
         }
     }
     visit_size(v, &r->resources.count);
-    for (size_t i = 0; i < GUVRENDIK_CLAIMS; i++) {
+    for (size_t i = 0; i < GUVRENDIK_LIMIT_CLAIMS; i++) {
         guvrendik_claim *claim = &r->claims.list[i];
         visit32(v, &claim->id);
         visit32(v, &claim->parent);
@@ -525,22 +525,22 @@ static void pass_registers(void) {
         guvrendik_granted granted = guvrendik_grant(r, claim, 0);
         visitor reading = {false, first << 20, 0};
         visit_register(&reading, &granted.state);
-        expect(reading.wrong == 0 && granted.accepted == 0 && granted.refusal == GUVRENDIK_UNSOUND,
+        expect(reading.wrong == 0 && granted.accepted == 0 && granted.refusal == GUVRENDIK_REFUSAL_UNSOUND,
                "a register with distinct numbers through a refused grant");
         guvrendik_revoked revoked = guvrendik_revoke(r, 1, 1);
         reading = (visitor){false, first << 20, 0};
         visit_register(&reading, &revoked.state);
-        expect(reading.wrong == 0 && revoked.accepted == 0 && revoked.refusal == GUVRENDIK_UNSOUND && revoked.removed == 0,
+        expect(reading.wrong == 0 && revoked.accepted == 0 && revoked.refusal == GUVRENDIK_REFUSAL_UNSOUND && revoked.removed == 0,
                "a register with distinct numbers through a refused revocation");
         guvrendik_revoked cleared = guvrendik_clear_resource(r, 1, 1);
         reading = (visitor){false, first << 20, 0};
         visit_register(&reading, &cleared.state);
-        expect(reading.wrong == 0 && cleared.accepted == 0 && cleared.refusal == GUVRENDIK_UNSOUND && cleared.removed == 0,
+        expect(reading.wrong == 0 && cleared.accepted == 0 && cleared.refusal == GUVRENDIK_REFUSAL_UNSOUND && cleared.removed == 0,
                "a register with distinct numbers through a refused clearing of a resource");
         cleared = guvrendik_clear_expired(r, 1, 1);
         reading = (visitor){false, first << 20, 0};
         visit_register(&reading, &cleared.state);
-        expect(reading.wrong == 0 && cleared.accepted == 0 && cleared.refusal == GUVRENDIK_UNSOUND && cleared.removed == 0,
+        expect(reading.wrong == 0 && cleared.accepted == 0 && cleared.refusal == GUVRENDIK_REFUSAL_UNSOUND && cleared.removed == 0,
                "a register with distinct numbers through a refused clearing of old claims");
     }
 }
@@ -571,7 +571,7 @@ static unsigned register_wrong(const guvrendik_register *r, const char *text) {
     for (size_t i = 0; i < r->actors.count; i++) {
         const guvrendik_actor *actor = &r->actors.list[i];
         wrong += actor->id != next_number(&text);
-        wrong += actor->kind != (*next_value(&text, &length) == 'h' ? GUVRENDIK_HUMAN : GUVRENDIK_MACHINE);
+        wrong += actor->kind != (*next_value(&text, &length) == 'h' ? GUVRENDIK_ACTOR_HUMAN : GUVRENDIK_ACTOR_MACHINE);
         wrong += actor->owner != next_number(&text);
     }
     wrong += r->resources.count != next_number(&text);
@@ -617,7 +617,7 @@ static unsigned action_wrong(const guvrendik_action *a, const char *text) {
 
 /* A full register's text and a full action's, each with a NUL after it. */
 static void pass_texts(const char *register_text, const char *action_text) {
-    static uint8_t written[GUVRENDIK_REGISTER_TEXT];
+    static uint8_t written[GUVRENDIK_TEXT_REGISTER];
     size_t register_len = strlen(register_text), action_len = strlen(action_text);
     guvrendik_register_read read = guvrendik_read_register((const uint8_t *)register_text, register_len);
     expect(read.accepted == 1 && read.refusal == 0 && read.line == 0, "a full register is read");
@@ -633,7 +633,7 @@ static void pass_texts(const char *register_text, const char *action_text) {
 static guvrendik_register small_register(void) {
     guvrendik_register r;
     guvrendik_begin(&r, GUVRENDIK_REGISTER_1);
-    r.actors.list[0] = (guvrendik_actor){1, GUVRENDIK_HUMAN, 0};
+    r.actors.list[0] = (guvrendik_actor){1, GUVRENDIK_ACTOR_HUMAN, 0};
     r.actors.count = 1;
     r.resources.list[0].id = 10;
     r.resources.list[0].is_public = 1;
@@ -644,17 +644,17 @@ static guvrendik_register small_register(void) {
 
 /* A permitted action with every place filled. */
 static guvrendik_action full_action(void) {
-    guvrendik_action a = {.actor = 1, .now = 5, .used = GUVRENDIK_USES, .governed = GUVRENDIK_GOVERNS};
-    for (size_t i = 0; i < GUVRENDIK_USES; i++) {
-        a.uses[i] = (guvrendik_usage){10, GUVRENDIK_READ};
+    guvrendik_action a = {.actor = 1, .now = 5, .used = GUVRENDIK_LIMIT_USES, .governed = GUVRENDIK_LIMIT_GOVERNS};
+    for (size_t i = 0; i < GUVRENDIK_LIMIT_USES; i++) {
+        a.uses[i] = (guvrendik_usage){10, GUVRENDIK_RIGHT_READ};
     }
-    for (size_t i = 0; i < GUVRENDIK_GOVERNS; i++) {
+    for (size_t i = 0; i < GUVRENDIK_LIMIT_GOVERNS; i++) {
         a.governs[i] = 60000 + (uint32_t)i;
     }
     return a;
 }
 
-enum { ACTION_FIELDS = 5 + 2 * GUVRENDIK_USES + GUVRENDIK_GOVERNS };
+enum { ACTION_FIELDS = 5 + 2 * GUVRENDIK_LIMIT_USES + GUVRENDIK_LIMIT_GOVERNS };
 
 /* Puts a number out of range into the field with this number. */
 static void spoil(guvrendik_action *a, size_t field) {
@@ -662,16 +662,16 @@ static void spoil(guvrendik_action *a, size_t field) {
     case 0: a->actor = 65536 + 1; return;
     case 1: a->flags = 1024; return;
     case 2: a->now = UINT64_C(1) << 32; return;
-    case 3: a->used = GUVRENDIK_USES + 1; return;
-    case 4: a->governed = GUVRENDIK_GOVERNS + 1; return;
+    case 3: a->used = GUVRENDIK_LIMIT_USES + 1; return;
+    case 4: a->governed = GUVRENDIK_LIMIT_GOVERNS + 1; return;
     }
     field -= 5;
-    if (field < GUVRENDIK_USES) {
+    if (field < GUVRENDIK_LIMIT_USES) {
         a->uses[field].resource = 65536 + 10;
-    } else if (field < 2 * GUVRENDIK_USES) {
-        a->uses[field - GUVRENDIK_USES].right = GUVRENDIK_RIGHTS;
+    } else if (field < 2 * GUVRENDIK_LIMIT_USES) {
+        a->uses[field - GUVRENDIK_LIMIT_USES].right = GUVRENDIK_LIMIT_RIGHTS;
     } else {
-        a->governs[field - 2 * GUVRENDIK_USES] = 65536;
+        a->governs[field - 2 * GUVRENDIK_LIMIT_USES] = 65536;
     }
 }
 
@@ -679,26 +679,26 @@ static void spoil(guvrendik_action *a, size_t field) {
 static void pass_actions(void) {
     guvrendik_register r = small_register();
     guvrendik_verdict permitted = guvrendik_gate(r, full_action());
-    expect(permitted.decision == GUVRENDIK_PERMITTED && permitted.count == 0, "a full action is permitted");
+    expect(permitted.decision == GUVRENDIK_DECISION_PERMITTED && permitted.count == 0, "a full action is permitted");
     for (size_t field = 0; field < ACTION_FIELDS; field++) {
         guvrendik_action a = full_action();
         spoil(&a, field);
         guvrendik_verdict stopped = guvrendik_gate(r, a);
-        expect(stopped.decision == GUVRENDIK_STOPPED && stopped.refusal == GUVRENDIK_RANGE, "each field of an action is tested");
+        expect(stopped.decision == GUVRENDIK_DECISION_STOPPED && stopped.refusal == GUVRENDIK_REFUSAL_RANGE, "each field of an action is tested");
     }
-    for (size_t i = 0; i < GUVRENDIK_USES; i++) {
+    for (size_t i = 0; i < GUVRENDIK_LIMIT_USES; i++) {
         guvrendik_action a = full_action();
-        a.uses[i].right = GUVRENDIK_WRITE;
+        a.uses[i].right = GUVRENDIK_RIGHT_WRITE;
         guvrendik_verdict got = guvrendik_gate(r, a);
-        expect(got.decision == GUVRENDIK_REFUSED && got.count == 1 && got.violations[0].kind == GUVRENDIK_NOT_COVERED &&
+        expect(got.decision == GUVRENDIK_DECISION_REFUSED && got.count == 1 && got.violations[0].kind == GUVRENDIK_VIOLATION_NOT_COVERED &&
                    got.violations[0].value == i && got.violations[1].kind == 0,
                "a use is named by its position");
     }
-    for (size_t i = 0; i < GUVRENDIK_FLAGS; i++) {
+    for (size_t i = 0; i < GUVRENDIK_LIMIT_FLAGS; i++) {
         guvrendik_action a = full_action();
-        a.flags = GUVRENDIK_WORTH(i);
+        a.flags = guvrendik_flag_part((uint32_t)i);
         guvrendik_verdict got = guvrendik_gate(r, a);
-        expect(got.decision == GUVRENDIK_REFUSED && got.count == 1 && got.violations[0].kind == GUVRENDIK_FLAG &&
+        expect(got.decision == GUVRENDIK_DECISION_REFUSED && got.count == 1 && got.violations[0].kind == GUVRENDIK_VIOLATION_FLAG &&
                    got.violations[0].value == i,
                "a flag is named");
     }
@@ -707,33 +707,33 @@ static void pass_actions(void) {
     for (size_t field = 5; field < ACTION_FIELDS; field++) {
         spoil(&ignored, field);
     }
-    expect(guvrendik_gate(r, ignored).decision == GUVRENDIK_PERMITTED, "entries past an action's counts are ignored");
+    expect(guvrendik_gate(r, ignored).decision == GUVRENDIK_DECISION_PERMITTED, "entries past an action's counts are ignored");
 }
 
 static void pass_plans(void) {
     guvrendik_register r = small_register();
-    guvrendik_plan full = {.count = GUVRENDIK_ACTIONS};
-    for (size_t i = 0; i < GUVRENDIK_ACTIONS; i++) {
+    guvrendik_plan full = {.count = GUVRENDIK_LIMIT_ACTIONS};
+    for (size_t i = 0; i < GUVRENDIK_LIMIT_ACTIONS; i++) {
         full.actions[i] = full_action();
     }
     guvrendik_plan_verdict permitted = guvrendik_judge_plan(r, full);
-    expect(permitted.accepted == 1 && permitted.count == GUVRENDIK_ACTIONS, "a full plan is judged");
-    for (size_t i = 0; i < GUVRENDIK_ACTIONS; i++) {
-        expect(permitted.list[i].decision == GUVRENDIK_PERMITTED && permitted.list[i].violations == 0,
+    expect(permitted.accepted == 1 && permitted.count == GUVRENDIK_LIMIT_ACTIONS, "a full plan is judged");
+    for (size_t i = 0; i < GUVRENDIK_LIMIT_ACTIONS; i++) {
+        expect(permitted.list[i].decision == GUVRENDIK_DECISION_PERMITTED && permitted.list[i].violations == 0,
                "each action of a full plan is permitted");
         for (size_t field = 0; field < ACTION_FIELDS; field++) {
             guvrendik_plan p = full;
             spoil(&p.actions[i], field);
             guvrendik_plan_verdict stopped = guvrendik_judge_plan(r, p);
-            expect(stopped.accepted == 0 && stopped.refusal == GUVRENDIK_RANGE && stopped.position == i && stopped.count == 0,
+            expect(stopped.accepted == 0 && stopped.refusal == GUVRENDIK_REFUSAL_RANGE && stopped.position == i && stopped.count == 0,
                    "each field of each action of a plan is tested");
         }
         guvrendik_plan p = full;
         for (size_t use = 0; use <= i; use++) {
-            p.actions[i].uses[use].right = GUVRENDIK_WRITE;
+            p.actions[i].uses[use].right = GUVRENDIK_RIGHT_WRITE;
         }
         guvrendik_plan_verdict got = guvrendik_judge_plan(r, p);
-        expect(got.accepted == 1 && got.list[i].decision == GUVRENDIK_REFUSED && got.list[i].violations == i + 1,
+        expect(got.accepted == 1 && got.list[i].decision == GUVRENDIK_DECISION_REFUSED && got.list[i].violations == i + 1,
                "an action of a plan is judged at its place");
     }
 }
@@ -759,7 +759,7 @@ static void page_action(uint32_t actor, size_t writes) {
     page_line("uses", (unsigned)writes);
     for (size_t i = 0; i < writes; i++) {
         page_line("use", 10);
-        page_line("right", GUVRENDIK_WRITE);
+        page_line("right", GUVRENDIK_RIGHT_WRITE);
     }
     page_line("governs", 0);
 }
@@ -769,12 +769,12 @@ static void page_action(uint32_t actor, size_t writes) {
 static guvrendik_plan_text_verdict judge_page(size_t other_at, uint32_t other) {
     size_t position = 0;
     plan_page_len = 0;
-    for (size_t level = 1; level <= GUVRENDIK_LEVELS; level++) {
-        page_line("plan", level < GUVRENDIK_LEVELS ? 9 : 8);
-        if (level < GUVRENDIK_LEVELS) page_word("plan");
+    for (size_t level = 1; level <= GUVRENDIK_LIMIT_LEVELS; level++) {
+        page_line("plan", level < GUVRENDIK_LIMIT_LEVELS ? 9 : 8);
+        if (level < GUVRENDIK_LIMIT_LEVELS) page_word("plan");
     }
-    for (; position < GUVRENDIK_TEXT_ACTIONS; position++) {
-        page_action(position == other_at ? other : 1, position % (GUVRENDIK_USES + 1));
+    for (; position < GUVRENDIK_LIMIT_TEXT_ACTIONS; position++) {
+        page_action(position == other_at ? other : 1, position % (GUVRENDIK_LIMIT_USES + 1));
     }
     return guvrendik_judge_plan_text(small_register(), (const uint8_t *)plan_page, plan_page_len);
 }
@@ -783,23 +783,23 @@ static guvrendik_plan_text_verdict judge_page(size_t other_at, uint32_t other) {
 static void pass_plan_texts(void) {
     guvrendik_plan_text_verdict judged = judge_page(0, 1);
     expect(judged.accepted == 1 && judged.refusal == 0 && judged.line == 0 && judged.position == 0 &&
-               judged.count == GUVRENDIK_TEXT_ACTIONS,
+               judged.count == GUVRENDIK_LIMIT_TEXT_ACTIONS,
            "a full plan's text is judged");
-    for (size_t i = 0; i < GUVRENDIK_TEXT_ACTIONS; i++) {
-        size_t writes = i % (GUVRENDIK_USES + 1);
-        expect(judged.list[i].decision == (writes == 0 ? GUVRENDIK_PERMITTED : GUVRENDIK_REFUSED) && judged.list[i].violations == writes,
+    for (size_t i = 0; i < GUVRENDIK_LIMIT_TEXT_ACTIONS; i++) {
+        size_t writes = i % (GUVRENDIK_LIMIT_USES + 1);
+        expect(judged.list[i].decision == (writes == 0 ? GUVRENDIK_DECISION_PERMITTED : GUVRENDIK_DECISION_REFUSED) && judged.list[i].violations == writes,
                "each verdict of a plan's text stands at its place");
         guvrendik_plan_text_verdict stopped = judge_page(i, 2);
-        expect(stopped.accepted == 0 && stopped.refusal == GUVRENDIK_ABSENT && stopped.line == 0 && stopped.position == i &&
-                   stopped.count == 0 && stopped.list[0].decision == 0 && stopped.list[GUVRENDIK_TEXT_ACTIONS - 1].decision == 0,
+        expect(stopped.accepted == 0 && stopped.refusal == GUVRENDIK_REFUSAL_ABSENT && stopped.line == 0 && stopped.position == i &&
+                   stopped.count == 0 && stopped.list[0].decision == 0 && stopped.list[GUVRENDIK_LIMIT_TEXT_ACTIONS - 1].decision == 0,
                "each action of a plan's text is named by its position");
     }
 }
 
 /* An action that JSON has a place for, with a number of its own in every field, uses ordered by right. */
 static guvrendik_action json_action(void) {
-    guvrendik_action a = {.actor = 60001, .flags = 0x2AA, .now = GUVRENDIK_MOMENT_MAX, .used = GUVRENDIK_USES};
-    for (size_t i = 0; i < GUVRENDIK_USES; i++) {
+    guvrendik_action a = {.actor = 60001, .flags = 0x2AA, .now = GUVRENDIK_MAX_MOMENT, .used = GUVRENDIK_LIMIT_USES};
+    for (size_t i = 0; i < GUVRENDIK_LIMIT_USES; i++) {
         a.uses[i] = (guvrendik_usage){61000 + (uint32_t)i, (uint32_t)(i / 11)};
     }
     return a;
@@ -807,53 +807,53 @@ static guvrendik_action json_action(void) {
 
 /* Written and read back each field is as it went, and each field of an action that is out of range is noticed. */
 static void pass_json(void) {
-    static uint8_t text[GUVRENDIK_JSON_TEXT];
-    uint8_t id[GUVRENDIK_JSON_ID + 1];
+    static uint8_t text[GUVRENDIK_TEXT_JSON];
+    uint8_t id[GUVRENDIK_LIMIT_JSON_ID + 1];
     for (size_t i = 0; i < sizeof id; i++) {
         id[i] = (uint8_t)('#' + i);
     }
     id['\\' - '#'] = '~';
     guvrendik_action a = json_action();
-    guvrendik_written wrote = guvrendik_write_json(a, id, GUVRENDIK_JSON_ID, GUVRENDIK_POLICY_MODIFY, text, sizeof text);
+    guvrendik_written wrote = guvrendik_write_json(a, id, GUVRENDIK_LIMIT_JSON_ID, GUVRENDIK_RIGHT_POLICY_MODIFY, text, sizeof text);
     expect(wrote.accepted == 1 && wrote.refusal == 0 && wrote.length > 0, "a full action is written as JSON");
     guvrendik_json_read read = guvrendik_read_json(text, wrote.length, a.now);
     expect(read.accepted == 1 && read.refusal == 0, "what was written as JSON is read");
     expect(memcmp(&read.action, &a, sizeof a) == 0, "a JSON action is read as it was written");
-    expect(read.kind == GUVRENDIK_POLICY_MODIFY, "so is its kind");
-    expect(read.id_len == GUVRENDIK_JSON_ID && memcmp(read.id, id, GUVRENDIK_JSON_ID) == 0, "so is its id");
-    expect(guvrendik_write_json(a, id, sizeof id, 0, text, sizeof text).refusal == GUVRENDIK_RANGE, "an id too long is noticed");
-    expect(guvrendik_write_json(a, id, 0, GUVRENDIK_RIGHTS, text, sizeof text).refusal == GUVRENDIK_RANGE, "a kind too large is noticed");
-    a.governed = GUVRENDIK_GOVERNS;
-    expect(guvrendik_write_json(a, id, 0, 0, text, sizeof text).refusal == GUVRENDIK_JSON_LACKS, "a governed entry has no place in JSON");
+    expect(read.kind == GUVRENDIK_RIGHT_POLICY_MODIFY, "so is its kind");
+    expect(read.id_len == GUVRENDIK_LIMIT_JSON_ID && memcmp(read.id, id, GUVRENDIK_LIMIT_JSON_ID) == 0, "so is its id");
+    expect(guvrendik_write_json(a, id, sizeof id, 0, text, sizeof text).refusal == GUVRENDIK_REFUSAL_RANGE, "an id too long is noticed");
+    expect(guvrendik_write_json(a, id, 0, GUVRENDIK_LIMIT_RIGHTS, text, sizeof text).refusal == GUVRENDIK_REFUSAL_RANGE, "a kind too large is noticed");
+    a.governed = GUVRENDIK_LIMIT_GOVERNS;
+    expect(guvrendik_write_json(a, id, 0, 0, text, sizeof text).refusal == GUVRENDIK_REFUSAL_JSON_LACKS, "a governed entry has no place in JSON");
     for (size_t field = 0; field < ACTION_FIELDS; field++) {
         guvrendik_action spoiled = a;
         spoil(&spoiled, field);
-        expect(guvrendik_write_json(spoiled, id, 0, 0, text, sizeof text).refusal == GUVRENDIK_RANGE,
+        expect(guvrendik_write_json(spoiled, id, 0, 0, text, sizeof text).refusal == GUVRENDIK_REFUSAL_RANGE,
                "each field of an action is tested before it is written as JSON");
     }
 }
 
 static void pass_nulls(void) {
     guvrendik_register_read r = guvrendik_read_register(NULL, 0);
-    expect(r.accepted == 0 && r.refusal == GUVRENDIK_FORM && r.line == 1, "no register text at all");
+    expect(r.accepted == 0 && r.refusal == GUVRENDIK_REFUSAL_FORM && r.line == 1, "no register text at all");
     guvrendik_action_read a = guvrendik_read_action(NULL, 0);
-    expect(a.accepted == 0 && a.refusal == GUVRENDIK_FORM && a.line == 1, "no action text at all");
+    expect(a.accepted == 0 && a.refusal == GUVRENDIK_REFUSAL_FORM && a.line == 1, "no action text at all");
     guvrendik_plan_text_verdict p = guvrendik_judge_plan_text(small_register(), NULL, 0);
-    expect(p.accepted == 0 && p.refusal == GUVRENDIK_FORM && p.line == 1 && p.count == 0, "no plan text at all");
+    expect(p.accepted == 0 && p.refusal == GUVRENDIK_REFUSAL_FORM && p.line == 1 && p.count == 0, "no plan text at all");
     guvrendik_written w = guvrendik_write_register(small_register(), NULL, 0);
-    expect(w.accepted == 0 && w.refusal == GUVRENDIK_BUFFER && w.length == 0, "no buffer for a register");
+    expect(w.accepted == 0 && w.refusal == GUVRENDIK_REFUSAL_BUFFER && w.length == 0, "no buffer for a register");
     guvrendik_written v = guvrendik_verdict_text(NULL, 0, NULL, 0, NULL, 0);
-    expect(v.accepted == 0 && v.refusal == GUVRENDIK_BUFFER && v.length == 0, "no buffer for a verdict");
-    guvrendik_json_read j = guvrendik_read_json(NULL, 0, GUVRENDIK_MOMENT_MAX);
-    expect(j.accepted == 0 && j.refusal == GUVRENDIK_JSON_FORM, "no JSON text at all");
-    j = guvrendik_read_json(NULL, 0, GUVRENDIK_MOMENT_MAX + 1);
-    expect(j.accepted == 0 && j.refusal == GUVRENDIK_RANGE, "no JSON text, and a moment out of range");
+    expect(v.accepted == 0 && v.refusal == GUVRENDIK_REFUSAL_BUFFER && v.length == 0, "no buffer for a verdict");
+    guvrendik_json_read j = guvrendik_read_json(NULL, 0, GUVRENDIK_MAX_MOMENT);
+    expect(j.accepted == 0 && j.refusal == GUVRENDIK_REFUSAL_JSON_FORM, "no JSON text at all");
+    j = guvrendik_read_json(NULL, 0, GUVRENDIK_MAX_MOMENT + 1);
+    expect(j.accepted == 0 && j.refusal == GUVRENDIK_REFUSAL_RANGE, "no JSON text, and a moment out of range");
     guvrendik_written n = guvrendik_write_json(json_action(), NULL, 0, 0, NULL, 0);
-    expect(n.accepted == 0 && n.refusal == GUVRENDIK_BUFFER && n.length == 0, "no id, and no buffer for a JSON action");
+    expect(n.accepted == 0 && n.refusal == GUVRENDIK_REFUSAL_BUFFER && n.length == 0, "no id, and no buffer for a JSON action");
     guvrendik_containment empty = guvrendik_contains(NULL, 0, NULL, 0);
     expect(empty.contained == 1 && empty.length == 0, "the empty path in itself");
     guvrendik_written t = guvrendik_refusal_text(1, NULL, 0);
-    expect(t.accepted == 0 && t.refusal == GUVRENDIK_BUFFER && t.length == 0, "no buffer for a refusal's words");
+    expect(t.accepted == 0 && t.refusal == GUVRENDIK_REFUSAL_BUFFER && t.length == 0, "no buffer for a refusal's words");
     guvrendik_version_numbers of = guvrendik_version();
     expect(of.major == GUVRENDIK_VERSION_MAJOR && of.minor == GUVRENDIK_VERSION_MINOR && of.patch == GUVRENDIK_VERSION_PATCH,
            "the library has the header's version");
@@ -930,9 +930,9 @@ typedef struct {
     guvrendik_revoked cleared;
     guvrendik_revoked renewed;
     guvrendik_plan_text_verdict plan_judged;
-    uint8_t text[GUVRENDIK_REGISTER_TEXT];
-    uint8_t lines[GUVRENDIK_VERDICT_TEXT];
-    uint8_t page[GUVRENDIK_JSON_TEXT];
+    uint8_t text[GUVRENDIK_TEXT_REGISTER];
+    uint8_t lines[GUVRENDIK_TEXT_VERDICT];
+    uint8_t page[GUVRENDIK_TEXT_JSON];
 } answers;
 
 /* A text with its length before it, into so much room. */
@@ -1209,7 +1209,7 @@ static void stack_lent(void) {
 
 /* What the measure has to see: the outer path copied without the slashes at its end, and the library asked with the copy. */
 static void stack_copied(void) {
-    uint8_t copy[GUVRENDIK_PATH];
+    uint8_t copy[GUVRENDIK_LIMIT_PATH];
     size_t length = lent_outer_len < sizeof copy ? lent_outer_len : sizeof copy;
     while (length > 0 && lent_outer[length - 1] == '/') {
         length--;

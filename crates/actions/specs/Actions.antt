@@ -1,8 +1,8 @@
 -- Believed: An action as it stands, its ranges, the paper's number and value of each violation, and those of each verdict of a plan.
 use mathlib.Core.Path.{_≡_}
-use mathlib.Core.Bool.{Bool, _&&_}
+use mathlib.Core.Bool.{Bool, true, false, _&&_}
 use mathlib.Core.List.{List, [], _∷_}
-use Prim.Native.Nat.{ℕ, _^_}
+use Prim.Native.Nat.{ℕ, _^_, _-_}
 use lib.Dec.{leb, ltb}
 use lib.ListN.{take, replicate}
 use Rattle.lists.specs.Lists.{every, ands}
@@ -10,6 +10,8 @@ use Rattle.rights.specs.Rights.{isRight}
 use Rattle.register.specs.Limits.{idLimit, momentEnd}
 use Rattle.actions.specs.declared.Usage.{Usage}
 use Rattle.actions.specs.declared.Action.{Action}
+use Rattle.actions.specs.declared.Decision.{Decision}
+use Rattle.actions.specs.declared.Decision.the-variants.{Permitted as PermittedWhole, Refused as RefusedWhole, Stopped}
 use Rattle.actions.specs.declared.Violation.{Violation}
 use Rattle.actions.specs.declared.Violation.the-variants.{FlagSet, NoOwner, MachineGoverns, NotCovered, OwnerNotCovering}
 use Rattle.actions.specs.declared.Judgement.{Judgement}
@@ -38,6 +40,24 @@ noUse = record { resource = 0; right = 0 }
 -- the action of all zeros
 abbrev pub noAction : Action
 noAction = record { actor = 0; flags = 0; now = 0; uses = replicate useLimit noUse; used = 0; governs = replicate governLimit 0; governed = 0 }
+
+-- the action of an actor, a use and a moment alone: no flag set, nothing governed
+abbrev pub oneUse : ℕ → Usage → ℕ → Action
+oneUse actor usage moment = record {
+  actor = actor;
+  flags = 0;
+  now = moment;
+  uses = usage ∷ replicate (useLimit - 1) noUse;
+  used = 1;
+  governs = replicate governLimit 0;
+  governed = 0;
+}
+
+-- whether a decision is the permission
+abbrev pub isPermitted : Decision → Bool
+isPermitted PermittedWhole = true
+isPermitted RefusedWhole = false
+isPermitted (Stopped why) = false
 
 -- entries past a count are ignored
 abbrev pub usesOf : Action → List Usage
@@ -85,11 +105,11 @@ valueOf (NotCovered at) = at
 valueOf (OwnerNotCovering at) = at
 
 -- the number of a plan's verdict on an action, in the order in which the paper names them, and its value: permitted, refused with its number of
--- violations, or cancelled. 0 is no verdict's number, so that memory that was never written permits nothing.
+-- violations, or cancelled. 0 is no verdict's number, so that memory that was never written permits nothing; nor is 3, a stopped call's.
 abbrev pub judgementNumber : Judgement → ℕ
 judgementNumber Permitted = 1
 judgementNumber (Refused violations) = 2
-judgementNumber Cancelled = 3
+judgementNumber Cancelled = 4
 
 abbrev pub judgementValue : Judgement → ℕ
 judgementValue Permitted = 0

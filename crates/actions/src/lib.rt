@@ -2,7 +2,7 @@
 // Every number of an action has a type that can say one out of range; entries past a count are
 // ignored. The structs that come in cross to C as they are; answers hold enums.
 ghost use mathlib.Core.Path.{_≡_};
-ghost use Rattle.actions.specs.Actions.{kindOf, valueOf, judgementNumber, judgementValue, usesOf, governsOf, actionFits};
+ghost use Rattle.actions.specs.Actions.{kindOf, valueOf, judgementNumber, judgementValue, usesOf, governsOf, actionFits, oneUse};
 ghost use mathlib.Core.Bool.{_&&_};
 ghost use lib.Dec.{leb};
 ghost use Rattle.lists.specs.Lists.{every};
@@ -110,6 +110,26 @@ pub struct PlanVerdict {
     pub count: usize,
 }
 
+// The action of an actor, a use and a moment alone: no flag set, nothing governed.
+pub fn one_use(actor: u32, usage: Usage, moment: u64) -> Action
+    ensures { λ r. ⌜ r ≡ oneUse actor usage moment ⌝ }
+{
+    let mut uses = [Usage {
+        resource: 0,
+        right: 0,
+    }; Action::USES];
+    uses[0] = usage;
+    Action {
+        actor,
+        flags: 0,
+        now: moment,
+        uses,
+        used: 1,
+        governs: [0; Action::GOVERNED],
+        governed: 0,
+    }
+}
+
 // 01's number of a violation's kind.
 pub fn kind(v: Violation) -> u32
     ensures { λ r. ⌜ r ≡ kindOf v ⌝ }
@@ -136,14 +156,14 @@ pub fn value(v: Violation) -> u32
     }
 }
 
-// The number of a verdict of a plan.
+// The number of a verdict of a plan. 3 is a stopped call's, and no verdict of a plan has it.
 pub fn judgement_number(j: Judgement) -> u32
     ensures { λ r. ⌜ r ≡ judgementNumber j ⌝ }
 {
     match j {
         Judgement::Permitted => 1,
         Judgement::Refused(_) => 2,
-        Judgement::Cancelled => 3,
+        Judgement::Cancelled => 4,
     }
 }
 

@@ -3,6 +3,7 @@ use mathlib.Core.Path.{_≡_, refl}
 use native.Mathlib.Omega.{arith}
 use Rattle.refusals.specs.Laws.{number-bounds}
 use Rattle.refusals.specs.declared.Outcome.{Outcome}
+use Rattle.refusals.specs.declared.Refusal.{Refusal}
 use Rattle.refusals.specs.declared.Outcome.the-variants.{Accepted, Refused as RefusedFor}
 use Rattle.actions.specs.Actions.{judgementNumber}
 use Rattle.actions.specs.declared.Decision.{Decision}
@@ -38,3 +39,9 @@ pub decision-zero-clash : (d : Decision) → decisionNumber d ≡ 0 → ⊥
 decision-zero-clash Permitted zero = omega arith
 decision-zero-clash Refused zero = omega arith
 decision-zero-clash (Stopped why) zero = omega arith
+
+-- a stopped call and a verdict in a plan have no number in common
+pub stopped-judgement-clash : (why : Refusal) (j : Judgement) → decisionNumber (Stopped why) ≡ judgementNumber j → ⊥
+stopped-judgement-clash why Agreed same = omega arith
+stopped-judgement-clash why (Denied violations) same = omega arith
+stopped-judgement-clash why Cancelled same = omega arith

@@ -1,11 +1,12 @@
 -- What the numbers of an exported answer tell: memory that was never written, all zeros, is no yes, and is no answer of a call that can
--- refuse. Assumes nothing.
+-- refuse; no number means stopped and cancelled. Assumes nothing.
 use mathlib.Core.Path.{_≡_}
 use Rattle.refusals.specs.declared.Outcome.{Outcome}
+use Rattle.refusals.specs.declared.Refusal.{Refusal}
 use Rattle.refusals.specs.declared.Outcome.the-variants.{Accepted}
 use Rattle.actions.specs.Actions.{judgementNumber}
 use Rattle.actions.specs.declared.Decision.{Decision}
-use Rattle.actions.specs.declared.Decision.the-variants.{Permitted}
+use Rattle.actions.specs.declared.Decision.the-variants.{Permitted, Stopped}
 use Rattle.actions.specs.declared.Judgement.{Judgement}
 use Rattle.actions.specs.declared.Judgement.the-variants.{Permitted as Agreed}
 use Rattle.answers.specs.Answers.{acceptedNumber, refusalNumber, decisionNumber}
@@ -30,3 +31,7 @@ outcome-zero-clash = telling.outcome-zero-clash
 -- 3b. No decision is told by 0.
 pub decision-zero-clash : (d : Decision) → decisionNumber d ≡ 0 → ⊥
 decision-zero-clash = telling.decision-zero-clash
+
+-- 4. A stopped call and a verdict in a plan have no number in common.
+pub stopped-judgement-clash : (why : Refusal) (j : Judgement) → decisionNumber (Stopped why) ≡ judgementNumber j → ⊥
+stopped-judgement-clash = telling.stopped-judgement-clash

@@ -77,7 +77,7 @@ pub struct GateAnswer {
     pub hops: [usize; Action::USES],
 }
 
-// The verdict on an action of a plan: permitted is 1, refused is 2 with its number of violations, cancelled is 3.
+// The verdict on an action of a plan: permitted is 1, refused is 2 with its number of violations, cancelled is 4.
 #[repr(C)]
 pub struct JudgementNumbers {
     pub decision: u32,
@@ -160,7 +160,7 @@ pub fn version() -> VersionNumbers
     ensures { λ y. ⌜ y ≡ versionNumbers ⌝ }
 {
     VersionNumbers {
-        major: 2,
+        major: 3,
         minor: 0,
         patch: 0,
     }

@@ -156,7 +156,7 @@ answer r count actions =
 -- permitted, refused with three violations, refused by a flag, cancelled; 3 at position 1, before 2 at
 -- position 2; 2 at position 0 before 3 there; 17 actions before any of them; 1 before that
 plans-told : (answer desk 4 (reading 1 0 1999 ∷ reading 4 0 1999 ∷ reading 1 2 1999 ∷ reading 1 0 1999 ∷ [])
-    ≡ (0 ∷ 0 ∷ []) ∷ (1 ∷ 0 ∷ []) ∷ (2 ∷ 3 ∷ []) ∷ (2 ∷ 1 ∷ []) ∷ (3 ∷ 0 ∷ []) ∷ [])
+    ≡ (0 ∷ 0 ∷ []) ∷ (1 ∷ 0 ∷ []) ∷ (2 ∷ 3 ∷ []) ∷ (2 ∷ 1 ∷ []) ∷ (4 ∷ 0 ∷ []) ∷ [])
     × (answer desk 3 (reading 1 0 1999 ∷ reading 3 0 1999 ∷ reading 1 1024 1999 ∷ []) ≡ (3 ∷ 1 ∷ []) ∷ [])
     × (answer desk 1 (reading 3 1024 1999 ∷ []) ≡ (2 ∷ 0 ∷ []) ∷ [])
     × (answer desk 17 (replicate 17 (reading 3 0 1999)) ≡ (2 ∷ 0 ∷ []) ∷ [])

@@ -13,7 +13,8 @@ ghost use Rattle.text_rules.specs.Actions.{actionRead};
 ghost use Rattle.buffers.specs.Buffers.{put};
 ghost use Rattle.register_writing.specs.Writing.{registerWritten, registerBuffer};
 ghost use Rattle.buffers.specs.Delivery.{delivered};
-ghost use Rattle.verdict_printing.specs.Printed.{printed};
+ghost use Rattle.verdict_printing.specs.Printed.{printed, jsonPrinted};
+ghost use Rattle.plan_verdict_text.specs.PlanPrinted.{planPrinted};
 ghost use Rattle.json_rules.specs.Actions.{jsonRead, jsonWritten, jsonBuffer};
 ghost use Rattle.answers.specs.Answers.{containment, soundness, grantAnswer, revokeAnswer, gateAnswer, planAnswer, planTextAnswer, registerAnswer, actionAnswer, writtenAnswer, jsonAnswer, versionNumbers};
 ghost use Rattle.words.specs.Words.{refusalText, violationText, rightName, flagName};
@@ -193,6 +194,33 @@ pub extern "C" fn guvrendik_verdict_text(
     ensures buffer { λ _. ⌜ now (buffer .exit) ≡ put 0 (printed (now (register .entry)) (now (action .entry))) (now (buffer .entry)) ⌝ }
 {
     answers::written(verdict_printing::verdict_text(register, action, buffer))
+}
+
+// Puts the lines that the program for JSON actions prints of the three texts into the buffer.
+#[no_mangle]
+pub extern "C" fn guvrendik_json_verdict_text(
+    register: &[u8],
+    clock: &[u8],
+    action: &[u8],
+    buffer: &mut [u8],
+) -> WrittenAnswer
+    ensures answer { λ y. ⌜ y ≡ writtenAnswer (delivered (jsonPrinted (now (register .entry)) (now (clock .entry)) (now (action .entry))) (now (buffer .entry))) ⌝ }
+    ensures buffer { λ _. ⌜ now (buffer .exit) ≡ put 0 (jsonPrinted (now (register .entry)) (now (clock .entry)) (now (action .entry))) (now (buffer .entry)) ⌝ }
+{
+    answers::written(verdict_printing::json_verdict_text(register, clock, action, buffer))
+}
+
+// Puts the lines that the program for plan texts prints of the two texts into the buffer.
+#[no_mangle]
+pub extern "C" fn guvrendik_plan_verdict_text(
+    register: &[u8],
+    plan: &[u8],
+    buffer: &mut [u8],
+) -> WrittenAnswer
+    ensures answer { λ y. ⌜ y ≡ writtenAnswer (delivered (planPrinted (now (register .entry)) (now (plan .entry))) (now (buffer .entry))) ⌝ }
+    ensures buffer { λ _. ⌜ now (buffer .exit) ≡ put 0 (planPrinted (now (register .entry)) (now (plan .entry))) (now (buffer .entry)) ⌝ }
+{
+    answers::written(plan_verdict_text::plan_verdict_text(buffer, register, plan))
 }
 
 // Reads a JSON text of the builder's form as an action at the moment.

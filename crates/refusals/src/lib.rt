@@ -56,6 +56,16 @@ pub enum Refusal {
     JsonForm,
     // 25: the builder's form has no place for a right above 2 or a governed entry.
     JsonLacks,
+    // 26: no proposal of the planner's form would pass the check.
+    NoProposal,
+    // 27: the action is not permitted.
+    NotPermitted,
+    // 28: no fingerprint is attached to the resource's number.
+    NoEntry,
+    // 29: 64 entries stand in the book, and none of the resource's number.
+    BookFull,
+    // 30: the book has more than 64 entries, or two for one number.
+    BadBook,
 }
 
 pub enum Outcome {
@@ -93,5 +103,10 @@ pub fn number(why: Refusal) -> u32
         Refusal::TooManyActions => 23,
         Refusal::JsonForm => 24,
         Refusal::JsonLacks => 25,
+        Refusal::NoProposal => 26,
+        Refusal::NotPermitted => 27,
+        Refusal::NoEntry => 28,
+        Refusal::BookFull => 29,
+        Refusal::BadBook => 30,
     }
 }

@@ -37,6 +37,11 @@ refusalTexts =
     ∷ bytes "more than 64 actions in a plan text"
     ∷ bytes "JSON action of another form, with a number out of range or with more than 32 uses"
     ∷ bytes "a right above 2 or a governed entry, for which a JSON action has no place"
+    ∷ bytes "no single grant by one of the signers would permit the use"
+    ∷ bytes "action not permitted"
+    ∷ bytes "no fingerprint is attached to the resource's number"
+    ∷ bytes "64 entries stand, and none of the resource's number"
+    ∷ bytes "book with more than 64 entries or with two for one number"
     ∷ []
 
 abbrev pub refusalText : ℕ → List ℕ

@@ -14,7 +14,7 @@ use buffers::Written;
 const LINE_FEED: u8 = 10;
 
 // How many numbers each table has a text for, from 0 on. Behind those stands the text of every other number.
-const REFUSALS: usize = 26;
+const REFUSALS: usize = 31;
 
 const VIOLATIONS: usize = 6;
 
@@ -87,6 +87,11 @@ plan deeper than 8 levels
 more than 64 actions in a plan text
 JSON action of another form, with a number out of range or with more than 32 uses
 a right above 2 or a governed entry, for which a JSON action has no place
+no single grant by one of the signers would permit the use
+action not permitted
+no fingerprint is attached to the resource's number
+64 entries stand, and none of the resource's number
+book with more than 64 entries or with two for one number
 unknown refusal
 ",
         number,

@@ -49,7 +49,7 @@ pub const NOT_BY_MACHINE: u32 = 1 << 13 | 1 << 15 | 1 << 16;
 pub const PERMITTED: u32 = 1;
 pub const REFUSED: u32 = 2;
 pub const STOPPED: u32 = 3;
-pub const CANCELLED: u32 = 3;
+pub const CANCELLED: u32 = 4;
 
 /// A value whose every number is zero: what stands past a count, and beside a refusal.
 pub trait Zero: Copy {

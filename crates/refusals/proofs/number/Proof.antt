@@ -78,10 +78,30 @@ returns-24 c = rw (c .enum-told24 .given .1)
 returns-25 : tie.Need-returns-25
 returns-25 c = rw (c .enum-told25 .given .1)
 
+returns-26 : tie.Need-returns-26
+returns-26 c = rw (c .enum-told26 .given .1)
+
+returns-27 : tie.Need-returns-27
+returns-27 c = rw (c .enum-told27 .given .1)
+
+returns-28 : tie.Need-returns-28
+returns-28 c = rw (c .enum-told28 .given .1)
+
+returns-29 : tie.Need-returns-29
+returns-29 c = rw (c .enum-told29 .given .1)
+
+returns-30 : tie.Need-returns-30
+returns-30 c = rw (c .enum-told30 .given .1)
+
 pub number-spec : {M : Type 1} → statement M
 number-spec =
     tie.close
     (tie.spec
+    (λ c. search needs)
+    (λ c. search needs)
+    (λ c. search needs)
+    (λ c. search needs)
+    (λ c. search needs)
     (λ c. search needs)
     (λ c. search needs)
     (λ c. search needs)
@@ -131,4 +151,9 @@ number-spec =
     returns-22
     returns-23
     returns-24
-    returns-25)
+    returns-25
+    returns-26
+    returns-27
+    returns-28
+    returns-29
+    returns-30)

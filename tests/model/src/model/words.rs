@@ -67,6 +67,11 @@ fn refusal(number: u32) -> &'static str {
         23 => "more than 64 actions in a plan text",
         24 => "JSON action of another form, with a number out of range or with more than 32 uses",
         25 => "a right above 2 or a governed entry, for which a JSON action has no place",
+        26 => "no single grant by one of the signers would permit the use",
+        27 => "action not permitted",
+        28 => "no fingerprint is attached to the resource's number",
+        29 => "64 entries stand, and none of the resource's number",
+        30 => "book with more than 64 entries or with two for one number",
         _ => "unknown refusal",
     }
 }
