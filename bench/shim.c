@@ -4,6 +4,10 @@
 
 guvrendik_soundness bench_sound(const guvrendik_register *r) { return guvrendik_sound(*r); }
 
+guvrendik_soundness bench_sound_table(const guvrendik_register *r) {
+    return guvrendik_sound_table(r->claims.list, r->claims.count, r->version, r->actors, r->resources);
+}
+
 guvrendik_granted bench_grant(const guvrendik_register *r, const guvrendik_claim *c, uint64_t now) {
     return guvrendik_grant(*r, *c, now);
 }

@@ -54,7 +54,7 @@ extern "C" {
 /* The version of this header. guvrendik_version answers that of the library; the shared object is named by the first number. That one
  * changes where a caller must be changed or compiled anew, the second where a call is new. */
 #define GUVRENDIK_VERSION_MAJOR 3
-#define GUVRENDIK_VERSION_MINOR 0
+#define GUVRENDIK_VERSION_MINOR 1
 #define GUVRENDIK_VERSION_PATCH 0
 
 /* How many at most. */
@@ -301,7 +301,7 @@ static inline int guvrendik_put_claim(guvrendik_register *r, guvrendik_claim c) 
     return 1;
 }
 
-/* The answer of guvrendik_sound. */
+/* The answer of guvrendik_sound and guvrendik_sound_table. */
 typedef struct guvrendik_soundness {
     uint32_t sound; /* 1: sound. 0: not. No other number. */
 } guvrendik_soundness;
@@ -313,6 +313,17 @@ typedef struct guvrendik_soundness {
  * No refusal: every register is answered.
  * Stack: 55,000 bytes. */
 guvrendik_soundness guvrendik_sound(guvrendik_register r);
+
+/* Whether the register of this version, these actors and resources and the claims of a table of the caller's own is sound, as
+ * guvrendik_sound judges it: 1 or 0. The table is judged where it lies; no record of it is kept or copied as a record.
+ *  claims/claims_len  the records, in the order of a register's list, read during the call only: they may stand in memory that cannot be
+ *                     written, and threads may lend one table at once. Any content; may be NULL where claims_len is 0. No records are the
+ *                     register without claims; more than 256 are a no, and none of them is looked at.
+ *  version            GUVRENDIK_REGISTER_1 or GUVRENDIK_REGISTER_2; any other is a no.
+ * No refusal: every table is answered.
+ * Stack: 48,000 bytes. */
+guvrendik_soundness guvrendik_sound_table(const guvrendik_claim *claims, size_t claims_len, uint64_t version,
+                                          guvrendik_actors actors, guvrendik_resources resources);
 
 /* ---- Changes ---- */
 
@@ -724,6 +735,8 @@ guvrendik_version_numbers guvrendik_version(void);
  *  answer  where to. The caller owns it; written during the call only, whole, whatever it held. It overlaps nothing that the call takes.
  * No pointer to a struct is NULL; each is aligned as its struct is, by 8 bytes where it has a field of 64 bits, else by 4. */
 void guvrendik_sound_at(guvrendik_soundness *answer, const guvrendik_register *r);
+void guvrendik_sound_table_at(guvrendik_soundness *answer, const guvrendik_claim *claims, size_t claims_len, uint64_t version,
+                              const guvrendik_actors *actors, const guvrendik_resources *resources);
 void guvrendik_grant_at(guvrendik_granted *answer, const guvrendik_register *r, const guvrendik_claim *c, uint64_t moment);
 void guvrendik_revoke_at(guvrendik_revoked *answer, const guvrendik_register *r, uint32_t revoker, uint32_t claim);
 void guvrendik_clear_resource_at(guvrendik_revoked *answer, const guvrendik_register *r, uint32_t caller, uint32_t resource);

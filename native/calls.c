@@ -6,6 +6,11 @@ void guvrendik_sound_at(guvrendik_soundness *answer, const guvrendik_register *r
     *answer = guvrendik_sound(*r);
 }
 
+void guvrendik_sound_table_at(guvrendik_soundness *answer, const guvrendik_claim *claims, size_t claims_len, uint64_t version,
+                              const guvrendik_actors *actors, const guvrendik_resources *resources) {
+    *answer = guvrendik_sound_table(claims, claims_len, version, *actors, *resources);
+}
+
 void guvrendik_grant_at(guvrendik_granted *answer, const guvrendik_register *r, const guvrendik_claim *c, uint64_t moment) {
     *answer = guvrendik_grant(*r, *c, moment);
 }

@@ -112,6 +112,26 @@ pub fn sound(shape: Shape, world: &World, name: &str) -> Case {
     }
 }
 
+/// A table stands against the library's own soundness of the register that its claims are of.
+pub fn sound_table(shape: Shape, world: &World, name: &str) -> Case {
+    let register = leak(*world.register.clone());
+    let name = name.to_owned();
+    same(&name, 0, &library::sound_table(register), &library::sound(register));
+    Case {
+        name,
+        shape: Some(shape),
+        bytes: None,
+        goal: Goal::Times(1.1),
+        library: Box::new(|_| {
+            black_box(library::sound_table(black_box(register)));
+        }),
+        model: Box::new(|_| {
+            black_box(library::sound(black_box(register)));
+        }),
+        parts: None,
+    }
+}
+
 pub fn grant(shape: Shape, world: &World, name: &str, grants: Vec<Claim>) -> Case {
     let register = leak(*world.register.clone());
     let grants = leak(grants);
@@ -416,8 +436,10 @@ pub fn all() -> Vec<Case> {
         // Where every claim stands, a grant is refused.
         let roomy = || if shape == FULL { usual().cut(CLAIMS - 1) } else { usual() };
         cases.push(sound(shape, &usual(), "sound"));
+        cases.push(sound_table(shape, &usual(), "sound table"));
         if shape == FULL {
             cases.push(sound(shape, &deep(), "sound, chains of 16 hops"));
+            cases.push(sound_table(shape, &deep(), "sound table, chains of 16 hops"));
         }
         cases.push(grant(shape, &roomy(), "grant", roomy().grants()));
         cases.push(revoke(shape, &usual()));
@@ -461,6 +483,8 @@ pub fn all() -> Vec<Case> {
             plan_texts(shape, &usual(), &mut cases);
             cases.push(sound(shape, &usual().as_two(), "sound, version 2"));
             cases.push(sound(shape, &deep().as_two(), "sound, version 2, chains of 16 hops"));
+            cases.push(sound_table(shape, &usual().as_two(), "sound table, version 2"));
+            cases.push(sound_table(shape, &deep().as_two(), "sound table, version 2, chains of 16 hops"));
             let roomy = roomy().as_two();
             cases.push(grant(shape, &roomy, "grant, version 2", roomy.grants()));
             cases.push(read(shape, &usual().as_two(), "read register, version 2", Goal::Times(1.2)));

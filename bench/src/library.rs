@@ -7,6 +7,7 @@ use std::mem::MaybeUninit;
 
 extern "C" {
     fn bench_sound(register: *const Register) -> Soundness;
+    fn bench_sound_table(register: *const Register) -> Soundness;
     fn bench_grant(answer: *mut Granted, register: *const Register, claim: *const Claim, now: u64);
     fn bench_revoke(answer: *mut Revoked, register: *const Register, revoker: u32, claim: u32);
     fn bench_clear_resource(answer: *mut Revoked, register: *const Register, caller: u32, resource: u32);
@@ -32,6 +33,11 @@ extern "C" {
 pub fn sound(register: &Register) -> Soundness {
     // SAFETY: here and below, every pointer is a reference's or a slice's, and the library fills its answer whole.
     unsafe { bench_sound(register) }
+}
+
+/// The register's claims as a table, lent where they lie.
+pub fn sound_table(register: &Register) -> Soundness {
+    unsafe { bench_sound_table(register) }
 }
 
 pub fn grant<'a>(answer: &'a mut MaybeUninit<Granted>, register: &Register, claim: &Claim, now: u64) -> &'a Granted {

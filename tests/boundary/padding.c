@@ -71,7 +71,7 @@ static void compare(const char *what, const void *one, const void *two, size_t s
     } while (0)
 
 static guvrendik_register state, second, unsound;
-static guvrendik_claim claim, wide;
+static guvrendik_claim claim, wide, table[GUVRENDIK_LIMIT_CLAIMS + 1];
 static guvrendik_action action, uncovered, absent;
 static guvrendik_plan plan, long_plan;
 static uint8_t register_text[GUVRENDIK_TEXT_REGISTER], second_text[GUVRENDIK_TEXT_REGISTER], json_text[GUVRENDIK_TEXT_JSON];
@@ -124,6 +124,9 @@ static void prepare(void) {
 static void changes(void) {
     TWICE(guvrendik_soundness, guvrendik_sound(state), sound, 1);
     TWICE(guvrendik_soundness, guvrendik_sound(unsound), sound, 0);
+    TWICE(guvrendik_soundness, guvrendik_sound_table(second.claims.list, CLAIMS, 2, state.actors, state.resources), sound, 1);
+    TWICE(guvrendik_soundness, guvrendik_sound_table(second.claims.list, CLAIMS, 3, state.actors, state.resources), sound, 0);
+    TWICE(guvrendik_soundness, guvrendik_sound_table(table, GUVRENDIK_LIMIT_CLAIMS + 1, 1, state.actors, state.resources), sound, 0);
     TWICE(guvrendik_granted, guvrendik_grant(state, claim, 0), refusal, 0);
     TWICE(guvrendik_granted, guvrendik_grant(second, claim, 0), refusal, 0);
     TWICE(guvrendik_granted, guvrendik_grant(second, wide, 0), refusal, GUVRENDIK_REFUSAL_RANGE);

@@ -19,6 +19,7 @@ static size_t register_length;
     static void twin_##name(void) { guvrendik_##name##_at(&answer_##name, __VA_ARGS__); }
 
 TWIN(sound, guvrendik_soundness, &state)
+TWIN(sound_table, guvrendik_soundness, state.claims.list, CLAIMS, state.version, &state.actors, &state.resources)
 TWIN(grant, guvrendik_granted, &state, &claim, 1)
 TWIN(revoke, guvrendik_revoked, &state, 1, 1)
 TWIN(clear_resource, guvrendik_revoked, &state, 1, 1)
@@ -78,7 +79,7 @@ static const struct {
     void (*body)(void);
     size_t most;
 } rows[] = {
-    TWIN_ROW(sound), TWIN_ROW(grant), TWIN_ROW(revoke), TWIN_ROW(clear_resource), TWIN_ROW(clear_expired), TWIN_ROW(gate),
+    TWIN_ROW(sound), TWIN_ROW(sound_table), TWIN_ROW(grant), TWIN_ROW(revoke), TWIN_ROW(clear_resource), TWIN_ROW(clear_expired), TWIN_ROW(gate),
     TWIN_ROW(judge_plan), TWIN_ROW(contains), TWIN_ROW(read_register), TWIN_ROW(write_register), TWIN_ROW(read_action),
     TWIN_ROW(judge_plan_text), TWIN_ROW(verdict_text), TWIN_ROW(json_verdict_text), TWIN_ROW(plan_verdict_text), TWIN_ROW(read_json),
     TWIN_ROW(write_json), TWIN_ROW(refusal_text), TWIN_ROW(violation_text), TWIN_ROW(right_name), TWIN_ROW(flag_name), TWIN_ROW(version),

@@ -33,6 +33,8 @@ static uint8_t verdict_lines[GUVRENDIK_TEXT_VERDICT], json_lines[GUVRENDIK_TEXT_
     static void *twin_##name(void *unused) { return guvrendik_##name##_at(&name##_at, __VA_ARGS__), unused; }
 
 CALL(sound, guvrendik_soundness, (state), &state)
+CALL(sound_table, guvrendik_soundness, (state.claims.list, CLAIMS, state.version, state.actors, state.resources), state.claims.list, CLAIMS,
+     state.version, &state.actors, &state.resources)
 CALL(grant, guvrendik_granted, (state, claim, 1), &state, &claim, 1)
 CALL(revoke, guvrendik_revoked, (state, 1, 1), &state, 1, 1)
 CALL(clear_resource, guvrendik_revoked, (state, 1, 1), &state, 1, 1)
@@ -80,6 +82,7 @@ static void in_small_thread(void *(*call)(void *)) {
 static void call_all(uint64_t version) {
     fill_register(version);
     MAKE(sound, sound.sound == 1, "the register is sound");
+    MAKE(sound_table, sound_table.sound == 1, "its claims are sound as a table");
     MAKE(grant, grant.accepted == 1 && grant.state.claims.count == GUVRENDIK_LIMIT_CLAIMS, "a grant of claim 256 is accepted");
     MAKE(revoke, revoke.accepted == 1 && revoke.removed == 1 && revoke.state.claims.count == CLAIMS - 1, "claim 1 goes alone");
     MAKE(clear_resource, clear_resource.accepted == 1 && clear_resource.removed == 4, "four claims are on resource 1");

@@ -193,5 +193,6 @@ void word_lines(void);
 void version_lines(void);
 void text_lines(void);
 void twin_lines(void);
+void table_lines(void);
 
 #endif

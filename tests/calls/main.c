@@ -10,6 +10,7 @@ int main(void) {
     plan_text_lines();
     word_lines();
     version_lines();
+    table_lines();
     text_lines();
     twin_lines();
     return 0;

@@ -11,9 +11,9 @@
 
 /* The calls, in the order of guvrendik.h. */
 #define EACH_TWIN(DO)                                                                                                                     \
-    DO(sound) DO(grant) DO(revoke) DO(clear_resource) DO(clear_expired) DO(gate) DO(judge_plan) DO(contains) DO(read_register)            \
-    DO(write_register) DO(read_action) DO(judge_plan_text) DO(verdict_text) DO(json_verdict_text) DO(plan_verdict_text) DO(read_json)     \
-    DO(write_json) DO(refusal_text) DO(violation_text) DO(right_name) DO(flag_name) DO(version)
+    DO(sound) DO(sound_table) DO(grant) DO(revoke) DO(clear_resource) DO(clear_expired) DO(gate) DO(judge_plan) DO(contains)              \
+    DO(read_register) DO(write_register) DO(read_action) DO(judge_plan_text) DO(verdict_text) DO(json_verdict_text)                       \
+    DO(plan_verdict_text) DO(read_json) DO(write_json) DO(refusal_text) DO(violation_text) DO(right_name) DO(flag_name) DO(version)
 
 #define TWIN_NUMBER(name) TWIN_##name,
 enum { EACH_TWIN(TWIN_NUMBER) TWINS };
@@ -53,6 +53,8 @@ static inline uint8_t *twin_buffer(const uint8_t *buffer, size_t len) {
     }
 
 TWIN(sound, guvrendik_soundness, (guvrendik_register r), (r), , &r)
+TWIN(sound_table, guvrendik_soundness, (const guvrendik_claim *claims, size_t claims_len, uint64_t version, guvrendik_actors actors,
+     guvrendik_resources resources), (claims, claims_len, version, actors, resources), , claims, claims_len, version, &actors, &resources)
 TWIN(grant, guvrendik_granted, (guvrendik_register r, guvrendik_claim c, uint64_t moment), (r, c, moment), , &r, &c, moment)
 TWIN(revoke, guvrendik_revoked, (guvrendik_register r, uint32_t revoker, uint32_t claim), (r, revoker, claim), , &r, revoker, claim)
 TWIN(clear_resource, guvrendik_revoked, (guvrendik_register r, uint32_t caller, uint32_t resource), (r, caller, resource), , &r, caller,
@@ -88,6 +90,7 @@ TWIN(version, guvrendik_version_numbers, (void), (), )
 #undef WRITING_TWIN
 
 #define guvrendik_sound both_sound
+#define guvrendik_sound_table both_sound_table
 #define guvrendik_grant both_grant
 #define guvrendik_revoke both_revoke
 #define guvrendik_clear_resource both_clear_resource

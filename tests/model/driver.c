@@ -44,6 +44,7 @@ enum {
     CLEAR_RESOURCE,
     CLEAR_EXPIRED,
     PLAN_TEXT,
+    SOUND_TABLE,
     BOUNDARY,
     THREADS,
     STACK,
@@ -236,6 +237,29 @@ static guvrendik_register current;
 static void do_sound(void) {
     guvrendik_soundness got = guvrendik_sound(current);
     answer_marked(errno_mark(), &got, sizeof got);
+}
+
+/* The table is lent in memory that cannot be written for as long as the call takes. */
+static void protect(arena a, int how) {
+    if (mprotect(a.start, ROOM, how) != 0) {
+        fail("protect");
+    }
+}
+
+static void do_sound_table(payload *p) {
+    guvrendik_soundness got[2];
+    size_t size = p->left, count = size / sizeof(guvrendik_claim);
+    const uint8_t *records = take_bytes(p, size);
+    uint32_t marks = 0;
+    for (placement where = AT_END; where <= AT_START; where++) {
+        const uint8_t *lent = lend(arena_one, records, size, where);
+        protect(arena_one, PROT_READ);
+        got[where] = guvrendik_sound_table((const guvrendik_claim *)lent, count, current.version, current.actors, current.resources);
+        protect(arena_one, PROT_READ | PROT_WRITE);
+        marks |= input_mark(lent, records, size);
+    }
+    marks |= memcmp(&got[0], &got[1], sizeof *got) == 0 ? 0 : PLACES_DIFFER;
+    answer_marked(marks | errno_mark(), got, sizeof *got);
 }
 
 static void do_grant(payload *p) {
@@ -834,6 +858,8 @@ static void pass_json(void) {
 }
 
 static void pass_nulls(void) {
+    guvrendik_register some = small_register();
+    expect(guvrendik_sound_table(NULL, 0, some.version, some.actors, some.resources).sound == 1, "no table at all");
     guvrendik_register_read r = guvrendik_read_register(NULL, 0);
     expect(r.accepted == 0 && r.refusal == GUVRENDIK_REFUSAL_FORM && r.line == 1, "no register text at all");
     guvrendik_action_read a = guvrendik_read_action(NULL, 0);
@@ -930,6 +956,7 @@ typedef struct {
     guvrendik_revoked cleared;
     guvrendik_revoked renewed;
     guvrendik_plan_text_verdict plan_judged;
+    guvrendik_soundness table;
     uint8_t text[GUVRENDIK_TEXT_REGISTER];
     uint8_t lines[GUVRENDIK_TEXT_VERDICT];
     uint8_t page[GUVRENDIK_TEXT_JSON];
@@ -963,7 +990,7 @@ static void take_input(payload *p, input *in) {
     in->plan_len = take_text(p, in->plan_text, sizeof in->plan_text);
 }
 
-enum { CALLS = 15 };
+enum { CALLS = 16 };
 
 /* Where each call leaves its answer: a struct, and a text where it writes one. */
 static const struct {
@@ -977,7 +1004,7 @@ static const struct {
     {PART(action), 0, 0},       {PART(printed), PART(lines)},
     {PART(json), 0, 0},         {PART(json_written), PART(page)},
     {PART(cleared), 0, 0},      {PART(renewed), 0, 0},
-    {PART(plan_judged), 0, 0},
+    {PART(plan_judged), 0, 0},  {PART(table), 0, 0},
 #undef PART
 };
 
@@ -1025,6 +1052,9 @@ static void make_call(size_t call, const input *in, const answers *known, answer
         break;
     case 14:
         out->plan_judged = guvrendik_judge_plan_text(in->r, in->plan_text, in->plan_len);
+        break;
+    case 15:
+        out->table = guvrendik_sound_table(in->r.claims.list, in->r.claims.count, in->r.version, in->r.actors, in->r.resources);
         break;
     }
 }
@@ -1114,6 +1144,10 @@ static answers stack_answers;
 
 static void no_call(void) {}
 static void stack_sound(void) { stack_answers.sound = guvrendik_sound(stack_input.r); }
+static void stack_sound_table(void) {
+    const guvrendik_register *r = &stack_input.r;
+    stack_answers.table = guvrendik_sound_table(r->claims.list, r->claims.count, r->version, r->actors, r->resources);
+}
 static void stack_grant(void) { stack_answers.granted = guvrendik_grant(stack_input.r, stack_input.c, stack_input.now); }
 static void stack_revoke(void) {
     stack_answers.revoked = guvrendik_revoke(stack_input.r, stack_input.revoker, stack_input.claim);
@@ -1188,6 +1222,7 @@ static void do_stack(payload *p) {
         stack_sound,    stack_grant,          stack_revoke,        stack_gate,        stack_judge_plan,
         stack_contains, stack_write_register, stack_read_register, stack_read_action, stack_verdict_text,
         stack_read_json, stack_write_json,    stack_clear_resource, stack_clear_expired, stack_judge_plan_text,
+        stack_sound_table,
     };
     take_input(p, &stack_input);
     uint64_t idle = stack_of(no_call), used[CALLS];
@@ -1318,6 +1353,7 @@ int main(void) {
         case CLEAR_RESOURCE: do_clear_resource(&p); break;
         case CLEAR_EXPIRED: do_clear_expired(&p); break;
         case PLAN_TEXT: do_plan_text(&p); break;
+        case SOUND_TABLE: do_sound_table(&p); break;
         case BOUNDARY: do_boundary(&p); break;
         case THREADS: do_threads(&p); break;
         case STACK: do_stack(&p); break;

@@ -189,4 +189,4 @@ jsonAnswer r = record {
 
 -- the version of the calls, as the header has it
 abbrev pub versionNumbers : VersionNumbers
-versionNumbers = record { major = 3; minor = 0; patch = 0 }
+versionNumbers = record { major = 3; minor = 1; patch = 0 }

@@ -161,7 +161,7 @@ pub fn version() -> VersionNumbers
 {
     VersionNumbers {
         major: 3,
-        minor: 0,
+        minor: 1,
         patch: 0,
     }
 }

@@ -5,15 +5,15 @@ use mathlib.Core.Bool.{cond, and-false}
 use mathlib.Core.List.{List, [], _∷_}
 use Prim.Native.Nat.{ℕ, suc, _+_, _*_, _-_, _≤_, _<_, min}
 use native.Mathlib.Omega.{arith}
-use borrow.Author.Tests.{lt-leb, ne-eqb}
-use lib.Dec.{leb}
+use borrow.Author.Tests.{lt-leb, le-ltb, ne-eqb}
+use lib.Dec.{eqb, leb}
 use lib.ListN.{length, take, drop, getD, set}
 use lib.Seq.{lt-length-set, getD-take, getD-drop}
 use Rattle.lists.specs.Loops.{Loop, start, turn, next, done}
 use Rattle.register.specs.Limits.{claimLimit}
 use Rattle.register.specs.Register.{noClaim}
 use Rattle.register.specs.declared.Claim.{Claim}
-use Rattle.columns.specs.Sheet.{sheetLimit, lastColumn, columnOf, claimOf, claimAt, numbersPut, claimPut, claimsPut, sheetWith}
+use Rattle.columns.specs.Sheet.{sheetLimit, lastColumn, columnOf, claimOf, claimAt, numbersPut, claimPut, claimsPut, takenApart, sheetWith}
 use Rattle.columns.specs.SheetLaws.{column-within, claim-same, claim-put-length, claims-put-nil, claims-put-next, sheet-with-put}
 
 module _ (s : List ℕ) where
@@ -56,6 +56,15 @@ inside-put (x ∷ xs) s i j h = inside-put xs (set s (j * claimLimit + i) x) i (
 pub sheet-with-kept : (s : List ℕ) (cs : List Claim) → (length s ≡ sheetLimit → ⊥) → sheetWith s cs ≡ s
 unfolding sheetWith
 sheet-with-kept s cs other = rw (ne-eqb (length s) sheetLimit other)
+
+-- a claim is not taken apart where there is no such place
+pub taken-apart-past : (s : List ℕ) (i : ℕ) (c : Claim) → claimLimit ≤ i → takenApart s i c ≡ s
+unfolding takenApart
+taken-apart-past s i c past = rw (le-ltb i claimLimit past) (ap (λ b. cond b (claimPut s i c) s) (and-false (eqb (length s) sheetLimit)))
+
+pub taken-apart-other : (s : List ℕ) (i : ℕ) (c : Claim) → (length s ≡ sheetLimit → ⊥) → takenApart s i c ≡ s
+unfolding takenApart
+taken-apart-other s i c other = rw (ne-eqb (length s) sheetLimit other)
 
 -- the loop has put the first i of the claims into a sheet: what is to come of it, e, comes of putting the rest
 pub record Putting (n : ℕ) (l : List Claim) (top i : ℕ) (s e : List ℕ) : Type 0 where

@@ -3,7 +3,7 @@
 use mathlib.Core.Bool.{_&&_, cond}
 use mathlib.Core.List.{List, [], _∷_, map}
 use Prim.Native.Nat.{ℕ, suc, _+_, _*_, _/_, _%_}
-use lib.Dec.{eqb, leb}
+use lib.Dec.{eqb, leb, ltb}
 use lib.ListN.{length, take, drop, getD, set, replicate}
 use Rattle.lists.specs.Lists.{counted}
 use Rattle.register.specs.Limits.{claimLimit, momentEnd}
@@ -102,6 +102,10 @@ claimPut s i c = numbersPut s i 0 (numbersOf c)
 unfoldable pub claimsPut : List ℕ → ℕ → List Claim → List ℕ
 claimsPut s i [] = s
 claimsPut s i (c ∷ cs) = claimsPut (claimPut s i c) (i + 1) cs
+
+-- a claim taken apart into its numbers at a place of a sheet: a list of another length, or a sheet without that place, is left as it is
+unfoldable pub takenApart : List ℕ → ℕ → Claim → List ℕ
+takenApart s i c = cond (eqb (length s) sheetLimit && ltb i claimLimit) (claimPut s i c) s
 
 -- a sheet with claims put from its first place on; a list of another length is left as it is
 unfoldable pub sheetWith : List ℕ → List Claim → List ℕ

@@ -6,10 +6,10 @@ use Prim.Native.Nat.{ℕ, zero, suc, _+_, _*_, _-_, _≤_, _<_}
 use native.Mathlib.Nat.{mod-add-div}
 use native.Mathlib.Numerals.{add-one}
 use native.Mathlib.Omega.{arith}
-use borrow.Author.Tests.{le-leb, leb-true, eq-eqb, ltb-true, ltb-false}
+use borrow.Author.Tests.{le-leb, leb-true, eq-eqb, lt-ltb, ltb-true, ltb-false}
 use lib.Dec.{eqb, ltb, leb}
 use lib.ListN.{length, take, drop, getD, set, replicate, length-take, length-drop, length-set, length-map, length-replicate, List·getD-map, List·getD-append, List·getD-eq-default}
-use lib.Seq.{take-all, set-out, take-set-le, take-set-lt, drop-set-lt, drop-set-add, getD-take, ext-getD, sets, sets-eq}
+use lib.Seq.{take-all, take-suc, set-out, take-set-le, take-set-lt, drop-set-lt, drop-set-add, getD-take, ext-getD, sets, sets-eq}
 use Rattle.lists.specs.Tests.{cases}
 use Rattle.lists.specs.Lists.{counted}
 use Rattle.lists.specs.Counts.{counted-length, counted-at}
@@ -18,7 +18,7 @@ use Rattle.register.specs.Register.{claimsOf, noClaim}
 use Rattle.register.specs.declared.Claim.{Claim}
 use Rattle.register.specs.declared.Claims.{Claims}
 use Rattle.columns.specs.Laws.{getD-inside}
-use Rattle.columns.specs.Sheet.{sheetLimit, lastColumn, columnOf, claimOf, claimAt, claimsIn, numbersOf, numbersPut, claimPut, claimsPut, sheetWith, sheetOf}
+use Rattle.columns.specs.Sheet.{sheetLimit, lastColumn, columnOf, claimOf, claimAt, claimsIn, numbersOf, numbersPut, claimPut, claimsPut, takenApart, sheetWith, sheetOf}
 
 -- a column is the part of the sheet that begins at its first place
 module _ (s : List ℕ) (j : ℕ) where
@@ -163,6 +163,30 @@ claims-put-nil s i = refl
 pub claims-put-next : (s : List ℕ) (i : ℕ) (c : Claim) (cs : List Claim) → claimsPut s i (c ∷ cs) ≡ claimsPut (claimPut s i c) (i + 1) cs
 unfolding claimsPut
 claims-put-next s i c cs = refl
+
+-- one claim more, behind those that are put
+claims-put-last : (cs : List Claim) (s : List ℕ) (i : ℕ) (c : Claim) → claimsPut s i (cs ++ (c ∷ [])) ≡ claimPut (claimsPut s i cs) (i + length cs) c
+claims-put-last [] s i c =
+    let same : i + 0 ≡ i = omega arith in
+    claims-put-next s i c [] ∙ claims-put-nil (claimPut s i c) (i + 1) ∙ rw (claims-put-nil s i, same)
+claims-put-last (d ∷ cs) s i c =
+    let next : i + 1 + length cs ≡ i + suc (length cs) = omega arith in
+    claims-put-next s i d (cs ++ (c ∷ []))
+    ∙ claims-put-last cs (claimPut s i d) (i + 1) c
+    ∙ rw next (sym (ap (λ l. claimPut l (i + suc (length cs)) c) (claims-put-next s i d cs)))
+
+-- the first i + 1 claims put: the first i, and then the next
+pub claims-put-first : (s : List ℕ) (cs : List Claim) (i : ℕ) → i < length cs → claimsPut s 0 (take (i + 1) cs) ≡ claimPut (claimsPut s 0 (take i cs)) i (getD cs i noClaim)
+claims-put-first s cs i h =
+    let many : 0 + length (take i cs) ≡ i = omega (arith, length-take i cs) in
+    ap (λ l. claimsPut s 0 l) (ap (λ k. take k cs) (add-one i) ∙ take-suc cs i noClaim h)
+    ∙ claims-put-last (take i cs) s 0 (getD cs i noClaim)
+    ∙ ap (λ k. claimPut (claimsPut s 0 (take i cs)) k (getD cs i noClaim)) many
+
+-- a claim is taken apart where there is such a place
+pub taken-apart-put : (s : List ℕ) (i : ℕ) (c : Claim) → length s ≡ sheetLimit → i < claimLimit → takenApart s i c ≡ claimPut s i c
+unfolding takenApart
+taken-apart-put s i c long inside = rw (eq-eqb (length s) sheetLimit long, lt-ltb i claimLimit inside)
 
 claims-put-length : (cs : List Claim) (s : List ℕ) (i : ℕ) → length (claimsPut s i cs) ≡ length s
 claims-put-length [] s i = ap length (claims-put-nil s i)

@@ -9,7 +9,7 @@ ghost use Rattle.lists.specs.Lists.{any};
 ghost use Rattle.register.specs.Limits.{claimLimit};
 ghost use Rattle.register.specs.Register.{claimsOf};
 ghost use Rattle.columns.specs.Columns.{latestPlace, stepsUp, beside, actorsTo, resourcesTo, actorColumns, resourceColumns, placesUp};
-ghost use Rattle.columns.specs.Sheet.{sheetLimit, columnOf, claimAt, claimPut, sheetWith};
+ghost use Rattle.columns.specs.Sheet.{sheetLimit, columnOf, claimAt, claimPut, takenApart, sheetWith};
 use register::Actors;
 use register::Claim;
 use register::Claims;
@@ -122,6 +122,17 @@ fn put_claim(sheet: &mut [u32], i: usize, c: Claim)
     sheet[EXPIRIES * Register::CLAIMS + i] = (c.expiry % register::MOMENT_END) as u32;
     sheet[LATE * Register::CLAIMS + i] = (c.expiry / register::MOMENT_END) as u32;
     sheet[LEFT * Register::CLAIMS + i] = c.left;
+}
+
+// Takes a claim apart into its numbers, at a place of a sheet. A slice of another length stays unchanged, and so does a sheet without that place.
+pub fn take_apart(sheet: &mut [u32], at: usize, c: Claim)
+    ensures { λ _. ⌜ now (sheet .exit) ≡ takenApart (now (sheet .entry)) at c ⌝ }
+{
+    if sheet.len() == SHEET {
+        if at < Register::CLAIMS {
+            put_claim(sheet, at, c);
+        }
+    }
 }
 
 // Puts the claims that stand into a sheet, from its first place on. What is no sheet is left as it is.

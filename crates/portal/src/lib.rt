@@ -3,7 +3,8 @@
 // here: each call hands its arguments on, and gives the inner answer as a struct of numbers. No
 // call asks anything of its caller, and no answer whose numbers are all zero is a yes.
 ghost use mathlib.Core.Path.{_≡_};
-ghost use Rattle.soundness_rules.specs.Sound.{sound};
+ghost use Rattle.soundness_rules.specs.Sound.{sound, tableSound};
+ghost use Rattle.soundness.specs.Judged.{findingsBy};
 ghost use Rattle.change_rules.specs.Changes.{granted, revoke, clearResource, clearExpired, withdrawn};
 ghost use Rattle.gate_rules.specs.Gate.{gated};
 ghost use Rattle.gate_rules.specs.Plans.{planned};
@@ -32,8 +33,10 @@ use answers::RevokeAnswer;
 use answers::Soundness;
 use answers::VersionNumbers;
 use answers::WrittenAnswer;
+use register::Actors;
 use register::Claim;
 use register::Register;
+use register::Resources;
 
 // Whether the outer path contains the inner one, and how far it reaches.
 #[no_mangle]
@@ -51,6 +54,38 @@ pub extern "C" fn guvrendik_sound(r: Register) -> Soundness
     Soundness {
         sound: answers::yes(soundness::is_sound(r)),
     }
+}
+
+// Whether the register of the version, the actors, the resources and the first `n` claims of a sheet is sound.
+fn sheet_answer(version: u64, a: Actors, o: Resources, sheet: &[u32], n: usize) -> Soundness
+    ensures { λ y. ⌜ y ≡ soundness (findingsBy version a o (now (sheet .entry)) n .sound) ⌝ }
+{
+    Soundness {
+        sound: answers::yes(soundness::sheet_sound(version, a, o, sheet, n)),
+    }
+}
+
+// Whether the register of the version, the actors, the resources and the claims of a lent table is sound. The table is not copied: each of its
+// records is taken apart into a sheet, in which things are looked up. More than 256 records are a no before any is looked at.
+#[no_mangle]
+pub extern "C" fn guvrendik_sound_table(
+    claims: &[Claim],
+    version: u64,
+    actors: Actors,
+    resources: Resources,
+) -> Soundness
+    ensures { λ y. ⌜ y ≡ soundness (tableSound version actors resources (now (claims .entry))) ⌝ }
+{
+    if Register::CLAIMS < claims.len() {
+        return Soundness { sound: 0 };
+    }
+    let mut sheet = [0u32; columns::SHEET];
+    let mut i: usize = 0;
+    while i < claims.len() {
+        columns::take_apart(&mut sheet, i, claims[i]);
+        i += 1;
+    }
+    sheet_answer(version, actors, resources, &sheet, i)
 }
 
 // Grants a claim at the moment.

@@ -162,6 +162,15 @@ pub fn examine_sheet(version: u64, a: Actors, o: Resources, sheet: &[u32], n: us
     found
 }
 
+// Whether the register of the version, the actors, the resources and the first `n` claims of a sheet is sound. A slice of another length is no
+// sheet, and not sound.
+pub fn sheet_sound(version: u64, a: Actors, o: Resources, sheet: &[u32], n: usize) -> bool
+    ensures { λ r. ⌜ r ≡ findingsBy version a o (now (sheet .entry)) n .sound ⌝ }
+{
+    let found = examine_sheet(version, a, o, sheet, n);
+    found.sound
+}
+
 // The one door to a register: puts its claims into a lent sheet, and says what is found of the register by it.
 pub fn examine(sheet: &mut [u32], version: u64, a: Actors, o: Resources, k: Claims) -> Findings
     ensures put { λ _. ⌜ now (sheet .exit) ≡ sheetWith (now (sheet .entry)) (claimsOf k) ⌝ }

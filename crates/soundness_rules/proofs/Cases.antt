@@ -13,7 +13,7 @@ use Rattle.register.specs.declared.Actor.{Actor}
 use Rattle.register.specs.declared.Resource.{Resource}
 use Rattle.register.specs.declared.Claim.{Claim}
 use Rattle.register.specs.declared.Register.{Register}
-use Rattle.soundness_rules.specs.Sound.{actorFits, resourceFits, claimFits, namesStand, rootKept, drawnFrom, machineMay, overChain, drawn, fresh, alone, over, acceptable, soundClaims, soundActors, soundResources, withinLimits, sound, eachStored}
+use Rattle.soundness_rules.specs.Sound.{actorFits, resourceFits, claimFits, namesStand, rootKept, drawnFrom, machineMay, overChain, drawn, fresh, alone, over, acceptable, soundClaims, soundActors, soundResources, withinLimits, sound, tableSound, eachStored}
 
 abbrev actor : ℕ → ℕ → ℕ → Actor
 actor id kind owner = record { id = id; kind = kind; owner = owner }
@@ -192,3 +192,15 @@ resources-told = refl
 counts-told : map (λ n. sound (claiming (map (λ i. claim i 0 1 3 10 1 1 0) (counted 1 n)))) (256 ∷ 257 ∷ []) ≡ true ∷ false ∷ []
 unfolding people reports sound withinLimits soundActors soundResources soundClaims acceptable alone over fresh drawn overChain machineMay drawnFrom rootKept namesStand claimFits resourceFits actorFits distinct chain circling rootGranted hasRight hasRights barsMachine
 counts-told = refl
+
+-- a table of one claim, of that claim twice, of none, of a claim behind its parent and of one before it
+tables-told : map (tableSound 1 (claiming [] .actors) (claiming [] .resources)) (
+    (root ∷ [])
+    ∷ (root ∷ root ∷ [])
+    ∷ []
+    ∷ (root ∷ claim 8 7 1 2 10 19 600 0 ∷ [])
+    ∷ (claim 8 7 1 2 10 19 600 0 ∷ root ∷ [])
+    ∷ [])
+    ≡ true ∷ false ∷ true ∷ true ∷ false ∷ []
+unfolding people reports sound withinLimits soundActors soundResources soundClaims acceptable alone over fresh drawn overChain machineMay drawnFrom rootKept namesStand claimFits resourceFits actorFits distinct chain circling rootGranted hasRight hasRights barsMachine
+tables-told = refl

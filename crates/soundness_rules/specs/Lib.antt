@@ -8,3 +8,4 @@ pub mod Alike
 pub mod Chains
 pub mod Striking
 pub mod Sameness
+pub mod Tables

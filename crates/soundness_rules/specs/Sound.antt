@@ -10,7 +10,9 @@ use Rattle.register.specs.Limits.{actorLimit, resourceLimit, claimLimit, pathLi
 use Rattle.register.specs.Register.{actorsOf, resourcesOf, claimsOf, pathOf, withLeft}
 use Rattle.register.specs.Chain.{latest, above, circling}
 use Rattle.register.specs.declared.Actor.{Actor}
+use Rattle.register.specs.declared.Actors.{Actors}
 use Rattle.register.specs.declared.Resource.{Resource}
+use Rattle.register.specs.declared.Resources.{Resources}
 use Rattle.register.specs.declared.Claim.{Claim}
 use Rattle.register.specs.declared.Register.{Register}
 
@@ -178,3 +180,7 @@ sound r = ands (
     ∷ soundResources (actorsOf (r .actors)) (resourcesOf (r .resources))
     ∷ soundClaims (worldOf (r .version) (actorsOf (r .actors)) (resourcesOf (r .resources))) (latest (claimsOf (r .claims)))
     ∷ [])
+
+-- whether the register of a version, actors, resources and the claims of a table, all of them, is sound
+abbrev pub tableSound : ℕ → Actors → Resources → List Claim → Bool
+tableSound version a o cs = sound (record { actors = a; resources = o; claims = record { list = cs; count = length cs }; version = version })

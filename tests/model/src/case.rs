@@ -11,6 +11,8 @@ use std::ops::RangeInclusive;
 #[derive(Clone, Debug, PartialEq, Eq)]
 pub enum Call {
     Sound,
+    /// Of the script's version, actors and resources with the claims of this table.
+    SoundTable(Vec<Claim>),
     /// With `keep`, the answer's register is the script's from then on.
     Grant {
         claim: Claim,
@@ -72,7 +74,7 @@ pub struct Script {
     pub calls: Vec<Call>,
 }
 
-pub const CALLS: usize = 15;
+pub const CALLS: usize = 16;
 
 /// The calls that withdraw claims, by `Call::number`.
 pub const WITHDRAWALS: [usize; 3] = [2, 12, 13];
@@ -100,6 +102,7 @@ pub const NAMES: [(&str, &[Outcome]); CALLS] = [
         "judge_plan_text",
         &[1, 3, 19, 20, 22, 23, judgement(0), judgement(PERMITTED), judgement(REFUSED), judgement(CANCELLED)],
     ),
+    ("sound_table", &[YES, NO]),
 ];
 
 /// What an answer comes to: a refusal's number, or one of those below.
@@ -167,6 +170,7 @@ impl Call {
             Call::ClearResource { .. } => 12,
             Call::ClearExpired { .. } => 13,
             Call::PlanText(_) => 14,
+            Call::SoundTable(_) => 15,
         }
     }
 
@@ -177,6 +181,9 @@ impl Call {
     pub fn request(&self, out: &mut Vec<u8>) {
         match self {
             Call::Sound => put_request(out, Request::Sound, |_| ()),
+            Call::SoundTable(claims) => {
+                put_request(out, Request::SoundTable, |out| claims.iter().for_each(|claim| claim.put(out)))
+            }
             Call::Grant { claim, now, keep } => put_request(out, Request::Grant, |out| {
                 u32::from(*keep).put(out);
                 claim.put(out);
@@ -228,7 +235,7 @@ impl Call {
     pub fn answer_size(&self) -> usize {
         MARKS
             + match self {
-                Call::Sound => size_of::<Soundness>(),
+                Call::Sound | Call::SoundTable(_) => size_of::<Soundness>(),
                 Call::Grant { .. } => size_of::<Granted>(),
                 Call::Revoke { .. } | Call::ClearResource { .. } | Call::ClearExpired { .. } => size_of::<Revoked>(),
                 Call::Gate(_) => size_of::<Verdict>(),
@@ -251,6 +258,11 @@ impl Call {
         match self {
             Call::Sound => {
                 let sound = model.sound(state);
+                u32::from(sound).put(out);
+                yes_or_no(sound)
+            }
+            Call::SoundTable(claims) => {
+                let sound = model.sound_table(claims, state.version, &state.actors, &state.resources);
                 u32::from(sound).put(out);
                 yes_or_no(sound)
             }
@@ -348,7 +360,7 @@ impl Call {
         let from = &mut answer;
         let marks = u32::take(from);
         let mut fields = match self {
-            Call::Sound => fields(&Soundness::take(from)),
+            Call::Sound | Call::SoundTable(_) => fields(&Soundness::take(from)),
             Call::Grant { .. } => fields(&Granted::take(from)),
             Call::Revoke { .. } | Call::ClearResource { .. } | Call::ClearExpired { .. } => {
                 fields(&Revoked::take(from))

@@ -41,6 +41,20 @@ pub extern "C" fn guvrendik_sound(register: Register) -> Soundness {
     Soundness { sound: MODEL.sound(&register).into() }
 }
 
+/// # Safety
+/// The pointer and length are good, as the header says.
+#[no_mangle]
+pub unsafe extern "C" fn guvrendik_sound_table(
+    claims: *const Claim,
+    claims_len: usize,
+    version: u64,
+    actors: Actors,
+    resources: Resources,
+) -> Soundness {
+    let claims = if claims_len == 0 { &[] } else { slice::from_raw_parts(claims, claims_len) };
+    Soundness { sound: MODEL.sound_table(claims, version, &actors, &resources).into() }
+}
+
 #[no_mangle]
 pub extern "C" fn guvrendik_grant(register: Register, claim: Claim, now: u64) -> Granted {
     let mut answer = Granted { state: register, accepted: 1, refusal: 0 };
@@ -203,5 +217,5 @@ pub unsafe extern "C" fn guvrendik_flag_name(number: u32, buffer: *mut u8, buffe
 
 #[no_mangle]
 pub extern "C" fn guvrendik_version() -> VersionNumbers {
-    VersionNumbers { major: 2, minor: 0, patch: 0 }
+    VersionNumbers { major: 2, minor: 1, patch: 0 }
 }

@@ -22,6 +22,7 @@ pub enum Request {
     ClearResource,
     ClearExpired,
     PlanText,
+    SoundTable,
     Boundary,
     Threads,
     Stack,
@@ -41,7 +42,7 @@ pub fn put_request(out: &mut Vec<u8>, request: Request, put: impl FnOnce(&mut Ve
 }
 
 /// The calls, in the order in which the driver answers how much stack each of them took.
-pub const STACK_ORDER: [&str; 15] = [
+pub const STACK_ORDER: [&str; 16] = [
     "sound",
     "grant",
     "revoke",
@@ -57,4 +58,5 @@ pub const STACK_ORDER: [&str; 15] = [
     "clear_resource",
     "clear_expired",
     "judge_plan_text",
+    "sound_table",
 ];

@@ -82,6 +82,10 @@ fn write_call(call: &Call, out: &mut String) {
     let name = call.name();
     match call {
         Call::Sound => line(out, format_args!("call {name}")),
+        Call::SoundTable(claims) => {
+            line(out, format_args!("call {name}"));
+            claims.iter().for_each(|claim| line(out, format_args!("  record {}", claim_parts(claim))));
+        }
         Call::Grant { claim, now, keep } => {
             line(out, format_args!("call {name} {} now={now} keep={}", claim_parts(claim), u8::from(*keep)));
         }
@@ -209,6 +213,7 @@ fn read_line(line: &str, script: &mut Script, planned: &mut usize) -> Result<(),
             resource.path.get_mut(..path.len()).ok_or("a path too long")?.copy_from_slice(&path);
         }
         "claim" => *at(&parts, &mut register(script)?.claims.list)? = claim(&parts)?,
+        "record" => table(script)?.push(claim(&parts)?),
         "call" => {
             *planned = 0;
             script.calls.push(call(name, &parts)?);
@@ -283,6 +288,13 @@ fn text<'s>(script: &'s mut Script, kind: &str) -> Result<&'s mut Vec<u8>, Strin
     }
 }
 
+fn table(script: &mut Script) -> Result<&mut Vec<Claim>, String> {
+    match script.calls.last_mut() {
+        Some(Call::SoundTable(claims)) => Ok(claims),
+        _ => Err("the call before it has no table".to_owned()),
+    }
+}
+
 fn claim(parts: &Parts) -> Result<Claim, String> {
     Ok(Claim {
         id: number(parts, "id")?,
@@ -301,6 +313,7 @@ fn call(name: &str, parts: &Parts) -> Result<Call, String> {
     let keep = || number::<u8>(parts, "keep").map(|keep| keep == 1);
     Ok(match name {
         "sound" => Call::Sound,
+        "sound_table" => Call::SoundTable(Vec::new()),
         "grant" => Call::Grant { claim: claim(parts)?, now: number(parts, "now")?, keep: keep()? },
         "revoke" => Call::Revoke { revoker: number(parts, "revoker")?, claim: number(parts, "claim")?, keep: keep()? },
         "clear_resource" => Call::ClearResource {

@@ -143,6 +143,7 @@ fn call_steps(call: &Call) -> usize {
         Call::VerdictText { register, action, .. } => text_steps(register, LINE) + text_steps(action, LINE) + 1,
         Call::ReadJson { text, .. } => text_steps(text, MEMBER) + 1,
         Call::WriteJson { action, id, .. } => action_steps(action) + id.len() + 2,
+        Call::SoundTable(claims) => claims.len(),
         Call::Sound | Call::Grant { .. } | Call::Revoke { .. } => 0,
         Call::ClearResource { .. } | Call::ClearExpired { .. } => 0,
         Call::WriteRegister { .. } => 1,
@@ -213,6 +214,9 @@ fn step_call(call: &mut Call, mut step: usize) {
             } else {
                 *room /= 2;
             }
+        }
+        Call::SoundTable(claims) => {
+            claims.remove(step);
         }
         Call::WriteRegister { room, .. } => *room /= 2,
         Call::Sound | Call::Grant { .. } | Call::Revoke { .. } => (),

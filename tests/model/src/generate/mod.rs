@@ -8,6 +8,7 @@ pub mod nested;
 pub mod paths;
 pub mod random;
 pub mod registers;
+pub mod tables;
 pub mod texts;
 pub mod trees;
 
@@ -24,11 +25,13 @@ pub struct Generator {
     pub random: Random,
     /// Of the plan texts alone, so that a seed gives the other scripts whatever these take.
     trees: Random,
+    /// Of the tables alone, likewise.
+    tables: Random,
 }
 
 impl Generator {
     pub fn new(seed: u64) -> Self {
-        Generator { random: Random::new(seed), trees: Random::new(!seed) }
+        Generator { random: Random::new(seed), trees: Random::new(!seed), tables: Random::new(seed.rotate_left(32)) }
     }
 
     /// The scripts that are the same in every run: the rule book's texts and all that lies beside them.
@@ -51,6 +54,7 @@ impl Generator {
         scripts.push(Script::alone(Call::VerdictText { register, action, room: 100, fill: b'#' }));
         scripts.extend(json::fixed());
         scripts.push(trees::fixed());
+        scripts.extend(tables::fixed());
         scripts
     }
 
@@ -68,6 +72,7 @@ impl Generator {
             self.sequence(register.clone()),
             Script { register: None, calls: (0..18).map(|_| paths::pair(&mut self.random)).collect() },
             self.json(),
+            self.tables(register.clone()),
         ]
         .into_iter()
         .chain(self.as_two(&register, round))
@@ -86,7 +91,8 @@ impl Generator {
             .map(|register| Script { register: Some(Box::new(register.clone())), calls: calls.clone() });
         let two = registers::as_two(random, register, false);
         let texts = Script { register: None, calls: self.register_texts(&two, round, 6, 2) };
-        let others = [texts, self.changes(two.clone()), self.sequence(two), self.defect(round)];
+        let tables = self.tables(two.clone());
+        let others = [texts, self.changes(two.clone()), self.sequence(two), self.defect(round), tables];
         scripts.into_iter().chain(others).collect()
     }
 
@@ -157,6 +163,12 @@ impl Generator {
         Script { register: Some(register), calls }
     }
 
+    /// Tables beside what the register has.
+    fn tables(&mut self, register: Box<Register>) -> Script {
+        let calls = tables::calls(&mut self.tables, &register);
+        Script { register: Some(register), calls }
+    }
+
     /// Actions that several claims of the actor cover.
     fn nested(&mut self) -> Script {
         let random = &mut self.random;
@@ -196,6 +208,7 @@ impl Generator {
             changes::clear_resource(random, &register, false),
             changes::clear_expired(random, &register, false),
             trees::calls(&mut self.trees, &register, 1).remove(0),
+            tables::own(&register),
             Call::WriteRegister { room: random.below(REGISTER_TEXT), fill: random.word() as u8 },
         ];
         if register.actors.count <= ACTORS && register.resources.count <= RESOURCES && register.claims.count <= CLAIMS {

@@ -98,6 +98,8 @@ pub enum Fault {
     EqualLeft,
     /// What a grant leaves has version 1.
     VersionLost,
+    /// Of a table with more than 256 claims the first 256 are judged.
+    TableCutAt256,
     /// A number with a leading zero is read.
     LeadingZero,
     /// The hop count is that of the first covering claim, however near.
@@ -121,7 +123,7 @@ pub enum Fault {
 }
 
 impl Fault {
-    pub const ALL: [(&'static str, Fault); 19] = [
+    pub const ALL: [(&'static str, Fault); 20] = [
         ("expiry-equal-live", Fault::ExpiryEqualLive),
         ("source-unasked", Fault::SourceUnasked),
         ("direct-children", Fault::DirectChildren),
@@ -131,6 +133,7 @@ impl Fault {
         ("weightless-cleared", Fault::WeightlessCleared),
         ("equal-left", Fault::EqualLeft),
         ("version-lost", Fault::VersionLost),
+        ("table-cut-at-256", Fault::TableCutAt256),
         ("leading-zero", Fault::LeadingZero),
         ("first-covering", Fault::FirstCovering),
         ("last-on-tie", Fault::LastOnTie),

@@ -55,6 +55,19 @@ impl Model {
         Sound::of(register).is_some()
     }
 
+    /// Whether the register of the version, the actors, the resources and the claims of a table is sound. Of more than 256 claims it is not.
+    pub fn sound_table(&self, claims: &[Claim], version: u64, actors: &Actors, resources: &Resources) -> bool {
+        let most = if self.has(Fault::TableCutAt256) { claims.len().min(CLAIMS) } else { claims.len() };
+        let claims = &claims[..most];
+        if claims.len() > CLAIMS {
+            return false;
+        }
+        let (actors, resources) = (actors.clone(), resources.clone());
+        let mut register = Register { actors, resources, claims: List::EMPTY, version };
+        claims.iter().for_each(|claim| register.claims.push(*claim));
+        self.sound(&register)
+    }
+
     /// Whether the claim at a position is live: every claim on its chain has weight and has not expired.
     pub fn live(&self, sound: &Sound, position: usize, now: u64) -> bool {
         let asked = if self.has(Fault::SourceUnasked) { 1 } else { CLAIMS };
