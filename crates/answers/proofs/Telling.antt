@@ -10,6 +10,9 @@ use Rattle.actions.specs.declared.Decision.{Decision}
 use Rattle.actions.specs.declared.Decision.the-variants.{Permitted, Refused, Stopped}
 use Rattle.actions.specs.declared.Judgement.{Judgement}
 use Rattle.actions.specs.declared.Judgement.the-variants.{Permitted as Agreed, Refused as Denied, Cancelled}
+use Rattle.proposals.specs.Proposals.{checkedNumber}
+use Rattle.proposals.specs.declared.Checked.{Checked}
+use Rattle.proposals.specs.declared.Checked.the-variants.{Passes, Fails, Stopped as Halted}
 use Rattle.answers.specs.Answers.{acceptedNumber, refusalNumber, decisionNumber}
 
 -- only what is accepted has the number 1
@@ -28,6 +31,18 @@ pub agreed-alone : (j : Judgement) → judgementNumber j ≡ 1 → j ≡ Agreed
 agreed-alone Agreed one = refl
 agreed-alone (Denied violations) one = absurd (omega arith)
 agreed-alone Cancelled one = absurd (omega arith)
+
+-- only the proposal that passes has the number 1
+pub passes-alone : (k : Checked) → checkedNumber k ≡ 1 → k ≡ Passes
+passes-alone Passes one = refl
+passes-alone Fails one = absurd (omega arith)
+passes-alone (Halted why) one = absurd (omega arith)
+
+-- no answer of the check is told by 0
+pub checked-zero-clash : (k : Checked) → checkedNumber k ≡ 0 → ⊥
+checked-zero-clash Passes zero = omega arith
+checked-zero-clash Fails zero = omega arith
+checked-zero-clash (Halted why) zero = omega arith
 
 -- no outcome is told by zeros alone
 pub outcome-zero-clash : (o : Outcome) → acceptedNumber o ≡ 0 → refusalNumber o ≡ 0 → ⊥

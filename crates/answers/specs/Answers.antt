@@ -18,6 +18,9 @@ use Rattle.actions.specs.declared.Decision.the-variants.{Permitted, Refused, St
 use Rattle.actions.specs.declared.Verdict.{Verdict}
 use Rattle.actions.specs.declared.Judgement.{Judgement}
 use Rattle.actions.specs.declared.PlanVerdict.{PlanVerdict}
+use Rattle.proposals.specs.Proposals.{checkedNumber}
+use Rattle.proposals.specs.declared.Checked.{Checked}
+use Rattle.proposals.specs.declared.Checked.the-variants.{Passes, Fails, Stopped as Halted}
 use Rattle.text_rules.specs.declared.RegisterRead.{RegisterRead}
 use Rattle.text_rules.specs.declared.ActionRead.{ActionRead}
 use Rattle.buffers.specs.declared.Written.{Written}
@@ -28,6 +31,7 @@ use Rattle.answers.specs.declared.Containment.{Containment}
 use Rattle.answers.specs.declared.Soundness.{Soundness}
 use Rattle.answers.specs.declared.GrantAnswer.{GrantAnswer}
 use Rattle.answers.specs.declared.RevokeAnswer.{RevokeAnswer}
+use Rattle.answers.specs.declared.CheckAnswer.{CheckAnswer}
 use Rattle.answers.specs.declared.ViolationNumbers.{ViolationNumbers}
 use Rattle.answers.specs.declared.GateAnswer.{GateAnswer}
 use Rattle.answers.specs.declared.JudgementNumbers.{JudgementNumbers}
@@ -80,6 +84,12 @@ revokeAnswer g = record {
   refusal = refusalNumber (g .outcome);
   removed = g .removed;
 }
+
+-- the check of a proposal: the number of its answer, and 01's number of the refusal that stopped it, 0 where none did
+abbrev pub checkAnswer : Checked → CheckAnswer
+checkAnswer Passes = record { answer = checkedNumber Passes; refusal = 0 }
+checkAnswer Fails = record { answer = checkedNumber Fails; refusal = 0 }
+checkAnswer (Halted why) = record { answer = checkedNumber (Halted why); refusal = numberOf why }
 
 -- permitted is 1, refused is 2 and stopped is 3
 abbrev pub decisionNumber : Decision → ℕ

@@ -2,7 +2,7 @@
 // They have no bytes between or behind their fields. Here is what gives the numbers of an inner
 // answer. No call asks anything of its caller, and no answer whose numbers are all zero is a yes.
 ghost use mathlib.Core.Path.{_≡_};
-ghost use Rattle.answers.specs.Answers.{yesNumber, acceptedNumber, refusalNumber, decisionNumber, stopNumber, violationNumbers, violationList, judgementNumbers, judgementList, textJudgementList, writtenAnswer, versionNumbers};
+ghost use Rattle.answers.specs.Answers.{yesNumber, acceptedNumber, refusalNumber, checkAnswer, decisionNumber, stopNumber, violationNumbers, violationList, judgementNumbers, judgementList, textJudgementList, writtenAnswer, versionNumbers};
 ghost use Rattle.answers.specs.Laws.{containmentOf, grantedAnswer, withdrawnAnswer};
 use actions::Action;
 use actions::Decision;
@@ -14,6 +14,7 @@ use actions::Violations;
 use buffers::Written;
 use json_rules::ID_BYTES;
 use paths::Reach;
+use proposals::Checked;
 use refusals::Outcome;
 use register::Actors;
 use register::Claim;
@@ -75,6 +76,13 @@ pub struct GateAnswer {
     pub violations: [ViolationNumbers; Violations::MOST],
     pub count: usize,
     pub hops: [usize; Action::USES],
+}
+
+// The answer of the check of a proposal: 1 where it passes, 2 where it does not, 3 where a test stopped the call, with 01's number.
+#[repr(C)]
+pub struct CheckAnswer {
+    pub answer: u32,
+    pub refusal: u32,
 }
 
 // The verdict on an action of a plan: permitted is 1, refused is 2 with its number of violations, cancelled is 4.
@@ -206,6 +214,26 @@ pub fn refusal(o: Outcome) -> u32
     match o {
         Outcome::Accepted => 0,
         Outcome::Refused(why) => refusals::number(why),
+    }
+}
+
+// What the check of a proposal answers, as numbers.
+pub fn checked(k: Checked) -> CheckAnswer
+    ensures { λ y. ⌜ y ≡ checkAnswer k ⌝ }
+{
+    match k {
+        Checked::Passes => CheckAnswer {
+            answer: 1,
+            refusal: 0,
+        },
+        Checked::Fails => CheckAnswer {
+            answer: 2,
+            refusal: 0,
+        },
+        Checked::Stopped(why) => CheckAnswer {
+            answer: 3,
+            refusal: refusals::number(why),
+        },
     }
 }
 

@@ -2,14 +2,12 @@
 -- hold, and when they are sound. Assumes nothing.
 use mathlib.Core.Path.{_≡_, refl, ap, sym, _∙_}
 use mathlib.Core.Bool.{Bool, true}
-use mathlib.Core.List.{List, [], _∷_, reverse-append, reverse-reverse, map}
-use Prim.Native.Nat.{ℕ, suc, _+_, _-_, _≤_, _<_}
+use mathlib.Core.List.{List, _∷_, reverse-reverse, map}
+use Prim.Native.Nat.{suc, _-_, _≤_, _<_}
 use native.Mathlib.Numerals.{add-one}
 use native.Mathlib.Omega.{arith}
-use borrow.Author.Tests.{ltb-true, ltb-false}
-use lib.Dec.{ltb}
-use lib.ListN.{length, take, set, replicate, length-set, length-reverse, length-take}
-use lib.Seq.{take-all, take-suc-set, take-append-seam, set-out, length-take-le}
+use lib.ListN.{length, replicate, length-set, length-reverse, length-take}
+use lib.Seq.{take-append-seam, length-take-le}
 use Rattle.lists.specs.Tests.{cases}
 use Rattle.lists.specs.Fills.{full-length}
 use Rattle.register.specs.Limits.{claimLimit}
@@ -18,15 +16,14 @@ use Rattle.register.specs.Chain.{latest}
 use Rattle.register.specs.declared.Claim.{Claim}
 use Rattle.register.specs.declared.Claims.{Claims}
 use Rattle.register.specs.declared.Register.{Register}
-use Rattle.soundness_rules.specs.Sound.{acceptable, soundClaims, sound, stored}
+use Rattle.soundness_rules.specs.Sound.{soundClaims, sound, stored}
 use Rattle.soundness_rules.specs.Registers.{SoundRegister, sound-out, sound-in}
-use Rattle.soundness_rules.specs.Places.{sound-claims-in}
-use Rattle.soundness_rules.specs.Alike.{acceptable-stored}
 use Rattle.soundness_rules.specs.Striking.{strike-sound, strike-length}
 use Rattle.soundness_rules.specs.Struck.{strike}
 use Rattle.change_rules.specs.Changes.{worldIn, standing, appended, unstruck, holding, names}
 use Rattle.history.specs.History.{Change, grant, changed, took, withdraw}
-use Rattle.history.proofs.Changing.{grant-out, granted-register, refused-register, withdrawn-register}
+use Rattle.change_rules.specs.Grants.{grant-out, granted-register, take-appended, appended-sound, stored-passed}
+use Rattle.history.proofs.Changing.{refused-register, withdrawn-register}
 
 -- s holds the claims L, latest first, over the actors and resources of r and in its version
 pub record Holds (r s : Register) (L : List Claim) : Type 0 where
@@ -36,13 +33,6 @@ pub record Holds (r s : Register) (L : List Claim) : Type 0 where
   pub places : length (s .claims .list) ≡ claimLimit
   pub count : s .claims .count ≡ length L
   pub claims : standing s ≡ L
-
--- a list with an element put behind its first n
-take-appended : (l : List Claim) (n : ℕ) (c : Claim) → n < length l → latest (take (n + 1) (set l n c)) ≡ c ∷ latest (take n l)
-take-appended l n c h = rw (add-one, take-suc-set l n c h) (reverse-append (take n l) (c ∷ []))
-
-take-short : (l : List Claim) (n : ℕ) (c : Claim) → length l ≤ n → latest (take (n + 1) (set l n c)) ≡ latest (take n l)
-take-short l n c h = rw (set-out l n c h, take-all (n + 1) l (omega (arith, h)), take-all n l h)
 
 pub holds-self : (r : Register) → Shaped r → sound r ≡ true → Holds r r (standing r)
 holds-self r shaped h =
@@ -117,20 +107,6 @@ sound-with r s h actors resources version within claims = sound-in s record {
 pub holds-sound : (r s : Register) (L : List Claim) → SoundRegister r → Holds r s L → length L ≤ claimLimit → soundClaims (worldIn r) L ≡ true → sound s ≡ true
 holds-sound r s L sr h room k = sound-with r s sr (h .actors) (h .resources) (h .version) (rw (h .count) room) (rw (h .claims) k)
 
--- an appended claim stands behind the others, or, in an array too short for it, not at all
-pub appended-sound : (r : Register) (c : Claim) → sound r ≡ true → ltb (r .claims .count) claimLimit ≡ true
-    → acceptable (worldIn r) (standing r) c ≡ true → sound (appended r c) ≡ true
-appended-sound r c judged room fitting =
-    let sr = sound-out r judged in
-    let below : r .claims .count < claimLimit = ltb-true (r .claims .count) claimLimit room in
-    let within : r .claims .count + 1 ≤ claimLimit = omega (arith, below) in
-    sound-with r (appended r c) sr refl refl refl within
-    (cases (ltb (r .claims .count) (length (r .claims .list)))
-    (λ e. rw (take-appended (r .claims .list) (r .claims .count) c (ltb-true (r .claims .count) (length (r .claims .list)) e))
-    (sound-claims-in (worldIn r) c (standing r) fitting (sr .claims)))
-    (λ e. let short : length (r .claims .list) ≤ r .claims .count = ltb-false (r .claims .count) (length (r .claims .list)) e in
-    rw (take-short (r .claims .list) (r .claims .count) c short) (sr .claims)))
-
 -- a sound register stays sound when what P names is struck with all drawn from it
 pub without-sound : (r : Register) (P : Claim → Bool) → sound r ≡ true → sound (holding r (unstruck P r)) ≡ true
 without-sound r P h =
@@ -148,9 +124,8 @@ changed-sound r k h = cases (took r k) (taken k) (λ e. rw (refused-register r k
   where
     taken : (k : Change) → took r k ≡ true → sound (changed r k) ≡ true
     taken (grant c moment) e =
-        let told = grant-out r c moment e in
-        rw (granted-register r c moment e) (appended-sound r (stored (r .version) (standing r) c) (told .judged) (told .room)
-        (acceptable-stored (worldIn r) (standing r) c ∙ told .fitting))
+        rw (granted-register r c moment e) (appended-sound r (stored (r .version) (standing r) c) moment
+        (stored-passed r c moment (grant-out r c moment e)))
     taken (withdraw w) e = rw (withdrawn-register r w e) (without-sound r (names w) h)
 
 -- every call leaves a register its shape

@@ -3,12 +3,10 @@ use mathlib.Core.Path.{_≡_, ap, _∙_, refl, sym}
 use mathlib.Core.Bool.{Bool, true, _&&_, _||_, not, false}
 use mathlib.Core.List.{List, [], _∷_, _++_, reverse-reverse}
 use Prim.Native.Nat.{ℕ, _+_, _-_, _≤_, _<_}
-use native.Mathlib.Numerals.{add-one}
 use native.Mathlib.Omega.{arith}
-use borrow.Author.Tests.{ltb-true, lt-ltb, eqb-true, eqb-false}
+use borrow.Author.Tests.{lt-ltb, eqb-true, eqb-false}
 use lib.Dec.{eqb, ltb}
 use lib.ListN.{length, length-reverse}
-use lib.Seq.{take-suc-set}
 use Rattle.lists.specs.Tests.{iff-same, and-left, and-right, and-both, cases}
 use Rattle.lists.specs.Lists.{any, Each, All, filter}
 use Rattle.lists.specs.Each.{all-imp, all-none}
@@ -28,8 +26,9 @@ use Rattle.refusals.specs.Refusals.{isAccepted}
 use Rattle.soundness_rules.specs.Struck.{strike, struck}
 use Rattle.change_rules.specs.Changes.{worldIn, standing, sourceLive, worldTests, grantTests, appended, granted, unstruck, Withdrawal, clearResource, names, withdrawn}
 use Rattle.history.specs.History.{grant, changed, took, withdraw}
-use Rattle.history.proofs.Changing.{GrantPassed, grant-out, grant-in, granted-register, withdrawn-register, withdrawn-removed}
-use Rattle.history.proofs.Holds.{holds-self, holds-appended, appended-sound, claims-holding}
+use Rattle.change_rules.specs.Grants.{GrantPassed, grant-out, grant-in, granted-register, take-appended, appended-sound, appended-claims, stored-passed}
+use Rattle.history.proofs.Changing.{withdrawn-register, withdrawn-removed}
+use Rattle.history.proofs.Holds.{claims-holding}
 
 abbrev pub grantFits : Register → Claim → ℕ → Bool
 grantFits r c moment = sound r && (ltb moment momentEnd && (sound (appended r c) && (eqb (c .parent) 0 || sourceLive moment (above (standing r) c))))
@@ -37,17 +36,14 @@ grantFits r c moment = sound r && (ltb moment momentEnd && (sound (appended r c)
 fits-in : (r : Register) (c : Claim) (moment : ℕ) → GrantPassed r c moment → grantFits r c moment ≡ true
 fits-in r c moment h =
     and-both (sound r) _ (h .judged) (and-both (ltb moment momentEnd) _ (h .timely)
-    (and-both (sound (appended r c)) _ (appended-sound r c (h .judged) (h .room) (h .fitting)) (h .lives)))
+    (and-both (sound (appended r c)) _ (appended-sound r c moment h) (h .lives)))
 
--- the claims of the appended register, latest first
-appended-standing : (r : Register) (c : Claim) → Shaped r → sound r ≡ true → r .claims .count < claimLimit → standing (appended r c) ≡ c ∷ standing r
-appended-standing r c shaped h below =
-    let held = holds-self r shaped h in
-    holds-appended r r (standing r) c held (rw (← held .count) below) .claims
-
-appended-fitting : (r : Register) (c : Claim) → Shaped r → sound r ≡ true → r .claims .count < claimLimit → sound (appended r c) ≡ true
+-- where a register is sound with a claim, its claims are, with that one the latest
+latest-fitting : (r : Register) (c : Claim) → Shaped r → r .claims .count < claimLimit → sound (appended r c) ≡ true
     → soundClaims (worldIn r) (c ∷ standing r) ≡ true
-appended-fitting r c shaped h below k = rw (← appended-standing r c shaped h below) (sound-out (appended r c) k .claims)
+latest-fitting r c shaped below k =
+    let within : r .claims .count < length (r .claims .list) = omega (arith, shaped .claims, below) in
+    rw (← take-appended (r .claims .list) (r .claims .count) c within) (sound-out (appended r c) k .claims)
 
 fits-out : (r : Register) (c : Claim) (moment : ℕ) → Shaped r → grantFits r c moment ≡ true → GrantPassed r c moment
 fits-out r c moment shaped h =
@@ -61,7 +57,7 @@ fits-out r c moment shaped h =
       judged = judged;
       timely = and-left (ltb moment momentEnd) (sound (appended r c) && (eqb (c .parent) 0 || sourceLive moment (above (standing r) c))) rest;
       room = lt-ltb (r .claims .count) claimLimit below;
-      fitting = latest-acceptable (worldIn r) c (standing r) (appended-fitting r c shaped judged below after);
+      fitting = latest-acceptable (worldIn r) c (standing r) (latest-fitting r c shaped below after);
       lives = and-right (sound (appended r c)) (eqb (c .parent) 0 || sourceLive moment (above (standing r) c)) last;
     }
 
@@ -74,9 +70,8 @@ grant-exact r c moment shaped = iff-same (isAccepted (granted r c moment .outcom
 pub granted-claims : (r : Register) (c : Claim) (moment : ℕ) → Shaped r → took r (grant c moment) ≡ true
     → claimsOf (changed r (grant c moment) .claims) ≡ claimsOf (r .claims) ++ (stored (r .version) (standing r) c ∷ [])
 granted-claims r c moment shaped e =
-    let told = grant-out r c moment e in
-    let below : r .claims .count < length (r .claims .list) = omega (arith, shaped .claims, ltb-true (r .claims .count) claimLimit (told .room)) in
-    ap (λ s. claimsOf (s .claims)) (granted-register r c moment e) ∙ rw (add-one, take-suc-set (r .claims .list) (r .claims .count) (stored (r .version) (standing r) c) below)
+    ap (λ s. claimsOf (s .claims)) (granted-register r c moment e)
+    ∙ appended-claims r (stored (r .version) (standing r) c) moment shaped (stored-passed r c moment (grant-out r c moment e))
 
 world-tests-same : (w v : World) (L K : List Claim) (n m : ℕ) (c : Claim) → w ≡ v → fresh L c ≡ fresh K c → ltb n claimLimit ≡ ltb m claimLimit
     → worldTests w L n c ≡ worldTests v K m c

@@ -24,7 +24,8 @@ use Rattle.soundness_rules.specs.Struck.{strike}
 use Rattle.change_rules.specs.Changes.{worldIn, standing, appended, holding, Withdrawal, names}
 use Rattle.change_rules.proofs.Theorems.{granted-version, withdrawn-version}
 use Rattle.history.specs.History.{Change, grant, changed, took, registerAfter, accepts, Note, Annals, claims, remains, started, wrote, kept, annals, olds, grants, History, withdraw}
-use Rattle.history.proofs.Changing.{grant-out, grant-in, granted-register, refused-register, withdrawn-register}
+use Rattle.change_rules.specs.Grants.{grant-out, grant-in, granted-register}
+use Rattle.history.proofs.Changing.{refused-register, withdrawn-register}
 use Rattle.history.proofs.Holds.{Holds, holds-self, holds-appended, holds-holding, holds-same, holds-sound, changed-sound, changed-shaped}
 use Rattle.history.proofs.Noting.{Fine, Kept, After, Timely, chain-claims, strike-claims, remains-noted, kept-noted, started-claims, remains-started, kept-started, remains-withdraw, kept-withdraw}
 

@@ -8,6 +8,7 @@ ghost use Rattle.soundness.specs.Judged.{findingsBy};
 ghost use Rattle.change_rules.specs.Changes.{granted, revoke, clearResource, clearExpired, withdrawn};
 ghost use Rattle.gate_rules.specs.Gate.{gated};
 ghost use Rattle.gate_rules.specs.Plans.{planned};
+ghost use Rattle.proposals.specs.Proposals.{checked as proposalChecked};
 ghost use Rattle.steps.specs.Judging.{planTextJudged};
 ghost use Rattle.text_rules.specs.Registers.{registerRead};
 ghost use Rattle.text_rules.specs.Actions.{actionRead};
@@ -17,11 +18,13 @@ ghost use Rattle.buffers.specs.Delivery.{delivered};
 ghost use Rattle.verdict_printing.specs.Printed.{printed, jsonPrinted};
 ghost use Rattle.plan_verdict_text.specs.PlanPrinted.{planPrinted};
 ghost use Rattle.json_rules.specs.Actions.{jsonRead, jsonWritten, jsonBuffer};
-ghost use Rattle.answers.specs.Answers.{containment, soundness, grantAnswer, revokeAnswer, gateAnswer, planAnswer, planTextAnswer, registerAnswer, actionAnswer, writtenAnswer, jsonAnswer, versionNumbers};
+ghost use Rattle.answers.specs.Answers.{containment, soundness, grantAnswer, revokeAnswer, checkAnswer, gateAnswer, planAnswer, planTextAnswer, registerAnswer, actionAnswer, writtenAnswer, jsonAnswer, versionNumbers};
 ghost use Rattle.words.specs.Words.{refusalText, violationText, rightName, flagName};
 use actions::Action;
 use actions::Plan;
+use actions::Usage;
 use answers::ActionAnswer;
+use answers::CheckAnswer;
 use answers::Containment;
 use answers::GateAnswer;
 use answers::GrantAnswer;
@@ -33,6 +36,8 @@ use answers::RevokeAnswer;
 use answers::Soundness;
 use answers::VersionNumbers;
 use answers::WrittenAnswer;
+use proposals::Proposal;
+use proposals::Signers;
 use register::Actors;
 use register::Claim;
 use register::Register;
@@ -124,6 +129,21 @@ pub extern "C" fn guvrendik_clear_expired(r: Register, caller: u32, moment: u64)
 {
     let struck = withdrawing::clear_expired(r, caller, moment);
     answers::withdrawn(r, struck)
+}
+
+// Whether a proposal, whoever made it, would have the one use permitted.
+#[no_mangle]
+pub extern "C" fn guvrendik_check_proposal(
+    r: Register,
+    actor: u32,
+    usage: Usage,
+    moment: u64,
+    signers: Signers,
+    proposal: Proposal,
+) -> CheckAnswer
+    ensures { λ y. ⌜ y ≡ checkAnswer (proposalChecked r actor usage moment signers proposal) ⌝ }
+{
+    answers::checked(checking::check(r, actor, usage, moment, signers, proposal))
 }
 
 // The gate for an action.

@@ -1,0 +1,15 @@
+pub mod Proposals
+pub mod Marks
+pub mod Appending
+pub mod Permitting
+pub mod Helping
+pub mod Freeing
+pub mod Hands
+pub mod Forms
+pub mod Owners
+pub mod Ranges
+pub mod Exact
+pub mod Signing
+pub mod Proposing
+pub mod Planning
+pub mod Judging
