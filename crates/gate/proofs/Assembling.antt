@@ -3,7 +3,7 @@ use mathlib.Core.Path.{_≡_, refl, sym, ap, _∙_}
 use mathlib.Core.Bool.{true, false, cond}
 use mathlib.Core.List.{List, [], _∷_}
 use Prim.Native.Nat.{ℕ}
-use lib.Dec.{eqb, eqb·suc-zero}
+use lib.Dec.{eqb}
 use lib.ListN.{length}
 use Rattle.lists.specs.Tests.{cases}
 use Rattle.register.specs.Limits.{claimLimit}
@@ -27,7 +27,7 @@ use Rattle.uses.specs.declared.UsesJudged.{UsesJudged}
 use Rattle.soundness.specs.declared.Findings.{Findings}
 use Rattle.gate.specs.Judged.{actionJudged, Lent, lentBy, lentIn, lentTests, lentJudged, verdictTold, verdictBy, AsGated}
 use Rattle.gate.specs.Sheets.{sheeted, sheeted-same, sheeted-shaped}
-use Rattle.gate.specs.Laws.{judged-natural, tests-natural, lent-natural, found-sound, lent-told}
+use Rattle.gate.specs.Laws.{decided-natural, judged-natural, tests-natural, lent-natural, found-sound, lent-told}
 
 -- what is told of what is lent of a register is told of the register
 module _ (r : Register) (a : Action) {l : Lent} (same : l ≡ lentIn r) where
@@ -38,11 +38,6 @@ module _ (r : Register) (a : Action) {l : Lent} (same : l ≡ lentIn r) where
   pub judged-seen : Shaped r → sound (sheeted r) ≡ true → outcomeOf (actionTests (sheeted r) a) ≡ Accepted → lentJudged l a ≡ actionJudged (sheeted r) a
   unfolding actionTests
   judged-seen shaped h passed = ap (λ w. lentJudged w a) same ∙ lent-natural r shaped h a (outcome-accepted _ _ passed)
-
--- permitted means an empty list
-decided-natural : (vs : List Violation) → cond (eqb (length vs) 0) Permitted Refused ≡ decided vs
-decided-natural [] = refl
-decided-natural (v ∷ vs) = rw (eqb·suc-zero (length vs))
 
 -- the answer of the gate, where the tests are passed
 pub gate-judged : (r : Register) (shaped : Shaped r) (h : sound r ≡ true) (a : Action) (judged : UsesJudged) → outcomeOf (actionTests r a) ≡ Accepted →

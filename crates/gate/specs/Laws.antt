@@ -5,7 +5,7 @@ use mathlib.Core.List.{List, [], _∷_, _++_, map, append-assoc}
 use Prim.Native.Nat.{ℕ, suc, _≤_}
 use native.Mathlib.Omega.{arith}
 use borrow.Author.Tests.{lt-ltb}
-use lib.Dec.{eqb, ltb}
+use lib.Dec.{eqb, ltb, eqb·suc-zero}
 use lib.ListN.{length, getD, List·getD-map}
 use Rattle.register.specs.Limits.{claimLimit, machineKind, momentEnd}
 use Rattle.register.specs.Register.{actorsOf, noActor, Shaped}
@@ -22,7 +22,9 @@ use Rattle.lookup.specs.Asked.{askedAt}
 use Rattle.actions.specs.Actions.{violationLimit, usesOf, actionFits}
 use Rattle.actions.specs.declared.Action.{Action}
 use Rattle.actions.specs.declared.Usage.{Usage}
-use Rattle.gate_rules.specs.Gate.{isOwnerless, useViolations, hopsFor, hopCounts, violationsOf, listed, padded, actionTests}
+use Rattle.actions.specs.declared.Violation.{Violation}
+use Rattle.actions.specs.declared.Decision.the-variants.{Permitted, Refused}
+use Rattle.gate_rules.specs.Gate.{isOwnerless, useViolations, hopsFor, hopCounts, violationsOf, listed, padded, decided, actionTests}
 use Rattle.gate_rules.specs.Laws.{use-violations-nil, use-violations-cons, action-fits-out}
 use Rattle.gate_rules.specs.Bounds.{violations-most}
 use Rattle.violations.specs.Pushed.{besides, pushedAll}
@@ -39,6 +41,11 @@ use Rattle.uses.specs.Ends.{cover-natural}
 use Rattle.uses.specs.Uses.{useHops, faultsFrom, usesJudged}
 use Rattle.gate.specs.Judged.{Lent, actionJudged, countsOf, sheetEnds, lentOf, lentIn, lentTests, machineBy, ownerBy, sightBy, lentJudged}
 use Rattle.gate.specs.Sheets.{sheeted, sheeted-same, sheeted-laid, sheeted-shaped, column-natural-expiries}
+
+-- permitted means an empty list
+pub decided-natural : (vs : List Violation) → cond (eqb (length vs) 0) Permitted Refused ≡ decided vs
+decided-natural [] = refl
+decided-natural (v ∷ vs) = rw (eqb·suc-zero (length vs))
 
 -- a machine without owner: by its place, since ids are distinct
 ownerless-natural : (r : Register) → sound r ≡ true → (x : ℕ) → isOwnerless r x ≡ isMachine (actorsOf (r .actors)) x && eqb (ownerNumber r x) 0

@@ -40,7 +40,7 @@ pub fn claim_ends<'a>(sheet: &'a [u32], ups: &'a [u16], n: usize) -> [u64; Regis
 }
 
 // The owner's number of the actor numbered `x` among the first `n`, 0 for none.
-fn owner_of<'a>(names: &'a [u32], owners: &'a [u32], n: usize, x: u32) -> u32
+pub fn owner_of<'a>(names: &'a [u32], owners: &'a [u32], n: usize, x: u32) -> u32
     ensures { λ r. ⌜ r ≡ ownerAt (now (owners .entry)) (latestPlace (now (names .entry)) n x) ⌝ }
 {
     let place = columns::latest_place(names, n, x);

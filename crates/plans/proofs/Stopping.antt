@@ -1,16 +1,14 @@
--- What stops a plan: a loop over its actions, the tests before it, and what the code holds of the answer. Assumes nothing.
+-- What stops a plan: a loop over its actions, and the answer by it and by the tests before it. Assumes nothing.
 use mathlib.Core.Path.{_≡_, refl, sym, ap, _∙_}
 use mathlib.Core.Bool.{true, false}
 use mathlib.Core.List.{List}
 use Prim.Native.Nat.{ℕ, _+_, _≤_, _<_, min}
 use native.Mathlib.Numerals.{add-one}
-use borrow.Author.Tests.{le-leb, lt-leb}
 use lib.ListN.{length, drop, getD}
 use Rattle.lists.specs.Loops.{Loop, start, turn, next, done}
 use Rattle.register.specs.declared.Register.{Register}
 use Rattle.soundness_rules.specs.Sound.{sound}
 use Rattle.refusals.specs.Refusals.{outcomeOf}
-use Rattle.refusals.specs.Laws.{outcome-clash}
 use Rattle.refusals.specs.declared.Outcome.{Outcome}
 use Rattle.refusals.specs.declared.Outcome.the-variants.{Accepted, Refused}
 use Rattle.refusals.specs.declared.Refusal.{Refusal}
@@ -18,11 +16,12 @@ use Rattle.refusals.specs.declared.Refusal.the-variants.{Unsound, Range}
 use Rattle.actions.specs.Actions.{actionLimit}
 use Rattle.actions.specs.declared.Action.{Action}
 use Rattle.actions.specs.declared.Plan.{Plan}
-use Rattle.gate_rules.specs.Plans.{actionsOf, Halt, runs, halts, firstHalt, haltOf, stopped, planned}
+use Rattle.gate_rules.specs.Plans.{actionsOf, haltOf, stopped, planned}
 use Rattle.gate_rules.specs.Cancelling.{planned-stopped}
 use Rattle.gate.specs.Judged.{Lent, lentIn, lentTests}
 use Rattle.gate.specs.Sheets.{sheeted}
 use Rattle.plans.specs.Stops.{stopOf, haltBy}
+use Rattle.plans.specs.StopsLaws.{halt-unsound, halt-many, halt-actions, told-halts}
 use Rattle.plans.specs.Laws.{halt-by-nil, halt-by-pass, halt-by-fail, halt-natural}
 use Rattle.plans.specs.declared.Stop.{Stop}
 
@@ -53,26 +52,13 @@ module _ {names : List ℕ} {n : ℕ} {p : Plan} {top : ℕ} where
     pub stopping-done : top ≤ i → _≡_ {A = Stop} (record { outcome = Accepted; position = 0 }) (stopOf (haltBy names n 0 (actionsOf p)))
     stopping-done h = sym (ap stopOf (done (s .come) h ∙ halt-by-nil names n i))
 
--- test 1, then 2 on the count, then the actions
+-- a plan that test 1 or the count stops
 module _ (r : Register) (p : Plan) where
-  halt-unsound : sound r ≡ false → haltOf r p ≡ halts Unsound 0
-  unfolding haltOf
-  halt-unsound fails = rw fails
-
   pub stop-unsound : sound r ≡ false → stopped Unsound 0 ≡ planned r p
-  stop-unsound fails = sym (planned-stopped r p Unsound 0 (halt-unsound fails))
+  stop-unsound fails = sym (planned-stopped r p Unsound 0 (halt-unsound r p fails))
 
-  module _ (h : sound r ≡ true) where
-    halt-many : actionLimit < p .count → haltOf r p ≡ halts Range 0
-    unfolding haltOf
-    halt-many many = rw (h, lt-leb (p .count) actionLimit many)
-
-    pub stop-many : actionLimit < p .count → stopped Range 0 ≡ planned r p
-    stop-many many = sym (planned-stopped r p Range 0 (halt-many many))
-
-    halt-actions : p .count ≤ actionLimit → haltOf r p ≡ firstHalt r 0 (actionsOf p)
-    unfolding haltOf
-    halt-actions few = rw (h, le-leb (p .count) actionLimit few)
+  pub stop-many : sound r ≡ true → actionLimit < p .count → stopped Range 0 ≡ planned r p
+  stop-many h many = sym (planned-stopped r p Range 0 (halt-many r p h many))
 
 -- what is found by what is lent of the register stops the plan
 pub stop-found : (r : Register) (p : Plan) → sound (sheeted r) ≡ true → p .count ≤ actionLimit → {l : Lent} → l ≡ lentIn r → {stop : Stop}
@@ -81,20 +67,7 @@ stop-found r p h few same found =
     found ∙ ap (λ w. stopOf (haltBy (w .names) (w .actors) 0 (actionsOf p))) same
     ∙ ap stopOf (halt-natural r 0 (actionsOf p) ∙ sym (halt-actions (sheeted r) p h few))
 
--- what the code holds tells what stops a plan
-stop-runs : (h : Halt) → stopOf h .outcome ≡ Accepted → h ≡ runs
-stop-runs runs e = refl
-stop-runs (halts why n) e = outcome-clash e
-
-stop-halts : (h : Halt) (why : Refusal) → stopOf h .outcome ≡ Refused why → h ≡ halts why (stopOf h .position)
-stop-halts runs why e = outcome-clash (sym e)
-stop-halts (halts other n) why e = cc
-
-module _ (r : Register) (p : Plan) {stop : Stop} (found : stop ≡ stopOf (haltOf r p)) where
-  pub found-runs : stop .outcome ≡ Accepted → haltOf r p ≡ runs
-  found-runs e = stop-runs (haltOf r p) (sym (ap (λ s. s .outcome) found) ∙ e)
-
-  pub found-halts : (why : Refusal) → stop .outcome ≡ Refused why → stopped why (stop .position) ≡ planned r p
-  found-halts why e =
-      ap (λ s. stopped why (s .position)) found
-      ∙ sym (planned-stopped r p why (stopOf (haltOf r p) .position) (stop-halts (haltOf r p) why (sym (ap (λ s. s .outcome) found) ∙ e)))
+-- so it is answered
+pub found-halts : (r : Register) (p : Plan) {stop : Stop} → stop ≡ stopOf (haltOf r p) → (why : Refusal) → stop .outcome ≡ Refused why
+    → stopped why (stop .position) ≡ planned r p
+found-halts r p {stop = stop} found why e = sym (planned-stopped r p why (stop .position) (told-halts (haltOf r p) found why e))

@@ -2,7 +2,7 @@
 use mathlib.Core.Path.{_≡_, refl, sym, ap, _∙_}
 use mathlib.Core.Bool.{Bool, true, not, _||_, cond}
 use mathlib.Core.List.{List, [], _∷_}
-use Prim.Native.Nat.{ℕ, suc}
+use Prim.Native.Nat.{ℕ, zero, suc}
 use lib.Dec.{eqb}
 use lib.ListN.{length}
 use Rattle.lists.specs.Lists.{All}
@@ -14,7 +14,7 @@ use Rattle.refusals.specs.declared.Outcome.the-variants.{Accepted, Refused}
 use Rattle.refusals.specs.declared.Refusal.{Refusal}
 use Rattle.actions.specs.declared.Action.{Action}
 use Rattle.actions.specs.declared.Violation.{Violation}
-use Rattle.actions.specs.declared.Judgement.the-variants.{Cancelled}
+use Rattle.actions.specs.declared.Judgement.the-variants.{Permitted as Agreed, Refused as Denied, Cancelled}
 use Rattle.gate_rules.specs.Gate.{violationsOf}
 use Rattle.gate_rules.specs.Laws.{Fit}
 use Rattle.gate_rules.specs.Plans.{judged, judgements, runs, halts, firstHalt}
@@ -58,8 +58,16 @@ module _ (l : Lent) (cancelled : Bool) where
   unfolding judgementsBy
   judgements-by-cons a actions = refl
 
+-- the verdict by the number of violations
+pub agreed-counted : (n : ℕ) → n ≡ 0 → Agreed ≡ judgedAs n
+agreed-counted n e = rw e
+
+pub denied-counted : (n : ℕ) → (n ≡ 0 → ⊥) → Denied n ≡ judgedAs n
+denied-counted zero some = absurd (some refl)
+denied-counted (suc n) some = refl
+
 -- permitted means an empty list
-judged-counted : (vs : List Violation) → judgedAs (length vs) ≡ judged vs
+pub judged-counted : (vs : List Violation) → judgedAs (length vs) ≡ judged vs
 judged-counted [] = refl
 judged-counted (v ∷ vs) = refl
 

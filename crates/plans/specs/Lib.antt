@@ -1,3 +1,5 @@
 pub mod Stops
+pub mod StopsLaws
 pub mod Judgements
+pub mod Holding
 pub mod Laws

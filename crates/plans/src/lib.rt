@@ -25,13 +25,13 @@ use register::Register;
 use soundness::Findings;
 
 // What stops a plan, and at which position; accepted, with position 0, where nothing does.
-struct Stop {
-    outcome: Outcome,
-    position: usize,
+pub struct Stop {
+    pub outcome: Outcome,
+    pub position: usize,
 }
 
 // The first action with 2 or 3, by the ids of the first `n` actors.
-fn first_stop(names: &[u32], n: usize, p: Plan) -> Stop
+pub fn first_stop(names: &[u32], n: usize, p: Plan) -> Stop
     ensures { λ s. ⌜ s ≡ stopOf (haltBy (now (names .entry)) n 0 (actionsOf p)) ⌝ }
 {
     let top = lists::least(p.count, Plan::ACTIONS);
@@ -58,7 +58,7 @@ fn first_stop(names: &[u32], n: usize, p: Plan) -> Stop
 }
 
 // A stopped plan: no verdicts.
-fn stopped(why: Refusal, position: usize) -> PlanVerdict
+pub fn stopped(why: Refusal, position: usize) -> PlanVerdict
     ensures { λ v. ⌜ v ≡ stopped why position ⌝ }
 {
     let none = Judged {

@@ -8,9 +8,11 @@ use Rattle.lists.specs.Lists.{All}
 use Rattle.register.specs.Limits.{actorLimit, resourceLimit, claimLimit, pathLimit}
 use Rattle.register.specs.Register.{Shaped}
 use Rattle.coverage.specs.LaidLaws.{laid-zeros}
+use Rattle.gate_rules.specs.Plans.{haltOf}
 use Rattle.gate.specs.Sheets.{sheeted}
 use Rattle.gate.specs.Laws.{found-sound, lent-told}
-use Rattle.plans.proofs.Stopping.{stop-unsound, stop-many, stop-found, found-runs, found-halts}
+use Rattle.plans.specs.StopsLaws.{told-runs}
+use Rattle.plans.proofs.Stopping.{stop-unsound, stop-many, stop-found, found-halts}
 use Rattle.plans.proofs.Judging.{planned-lent, planned-sheeted}
 use borrow.Author.Needs.{needs}
 use Rattle.plans.proofs.plan.Statement.{statement}
@@ -79,7 +81,7 @@ returns-4 c =
     let paths = laid-zeros (a .r .resources) (laying .lay .ensures .0) (laying .lay .ensures .1 .0) in
     let same = lent-told (a .r) (claims-long s) (found .0) (found .1) (paths .1) (ending .claim-ends .ensures) (paths .0) in
     let stop = stop-found (a .r) (a .p) h (laying .before .before .if2 .left) same (stopping .first-stop .ensures) in
-    planned-lent (a .r) (a .p) (shaped s (laying .lay .ensures .1 .1)) (found-runs (sheeted (a .r)) (a .p) stop (c .before .before .before .before .before .enum-told .given .1))
+    planned-lent (a .r) (a .p) (shaped s (laying .lay .ensures .1 .1)) (told-runs (haltOf (sheeted (a .r)) (a .p)) stop (c .before .before .before .before .before .enum-told .given .1))
     same (c .judge-all .ensures)
     ∙ planned-sheeted (a .r) (claims-long s) (a .p)
 

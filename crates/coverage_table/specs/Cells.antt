@@ -1,7 +1,7 @@
--- A cell after the walk has the claim relied on, where there is one: its walk is the one by which the nearest is found. Assumes nothing.
+-- Laws: A cell after the walk has the claim relied on, where there is one: its walk is the one by which the nearest is found. Assumes nothing.
 use mathlib.Core.Path.{_≡_, refl, ap, sym, _∙_}
 use mathlib.Core.Bool.{Bool, true, false, not, cond, _&&_}
-use mathlib.Core.List.{List, [], _∷_, _++_, map, append-nil}
+use mathlib.Core.List.{List, [], _∷_, map}
 use Prim.Native.Nat.{ℕ, suc}
 use native.Mathlib.Omega.{arith}
 use borrow.Author.Tests.{eqb-true, eq-eqb, le-leb, lt-leb, leb-true, leb-false}
@@ -23,8 +23,8 @@ use Rattle.gate_rules.specs.Nearest.{nearerFrom, nearest-walked, nearest-found,
 use Rattle.gate_rules.specs.Trace.{distinct-place}
 use Rattle.gate_rules.specs.Authority.{IsIn}
 use Rattle.coverage_table.specs.Table.{Entry, claimed, isOpen, openEntry, speaks, keepsOff, isNothing, entryClaim, entryHops}
-use Rattle.coverage_table.proofs.Remarks.{worldAround, remarkAmong}
-use Rattle.coverage_table.proofs.Filling.{heard, remarksAdded, added-natural}
+use Rattle.coverage_table.specs.Remarks.{remarkAmong}
+use Rattle.coverage_table.specs.Filling.{heard, remarksAdded, added-sound}
 
 -- what is not as long or shorter is longer
 not-leb : (m n : ℕ) → not (leb m n) ≡ leb (suc n) m
@@ -79,11 +79,7 @@ module _ (r : Register) (moment x : ℕ) (o : Resource) (b : ℕ) where
   pub heard-relied : sound r ≡ true
       → heard r x o b (remarksAdded moment [] (claimsOf (r .claims))) (openEntry o b) ≡ relying (relied r moment x usage)
   heard-relied h =
-      let all : latest (claimsOf (r .claims)) ++ [] ≡ latest (claimsOf (r .claims)) = append-nil (latest (claimsOf (r .claims))) in
-      let remarks : remarksAdded moment [] (claimsOf (r .claims)) ≡ map (remarkAmong moment (latest (claimsOf (r .claims)))) (claimsOf (r .claims)) =
-      added-natural (worldAround r) moment (claimsOf (r .claims)) [] (rw all (sound-out r h .claims))
-      ∙ ap (λ l. map (remarkAmong moment l) (claimsOf (r .claims))) all in
-      ap (λ l. heard r x o b l (openEntry o b)) remarks
+      ap (λ l. heard r x o b l (openEntry o b)) (added-sound r moment x h)
       ∙ heard-nearer (claimsOf (r .claims)) [] 0 (λ len. rw (open-keeps o b len, le-leb 0 len (omega arith)))
       ∙ ap relying (sym (nearest-walked (covering r moment x usage) far (claimsOf (r .claims))))
 

@@ -1,4 +1,4 @@
--- The table of the walk, cell by cell: each cell is a walk of its own over the remarks, and what is looked up is what stands there. Assumes nothing.
+-- Laws: The table of the walk, cell by cell: each cell is a walk of its own over the remarks, and what is looked up is what stands there. Assumes nothing.
 use mathlib.Core.Path.{_≡_, refl, ap, sym, _∙_}
 use mathlib.Core.Bool.{Bool, true, false}
 use mathlib.Core.List.{List, [], _∷_, _++_, map, reverse-cons, append-assoc, append-nil}
@@ -20,7 +20,7 @@ use Rattle.actions.specs.declared.Usage.{Usage}
 use Rattle.gate_rules.specs.Gate.{firstOf}
 use Rattle.gate_rules.specs.Places.{first-hit, first-miss, first-none}
 use Rattle.coverage_table.specs.Table.{Remark, Entry, nothing, Cell, Row, remarkOn, openEntry, openRow, entryAfter, rowAfter, walked, paperOf, coverTable, cellsIn, entryIn, lookedUp}
-use Rattle.coverage_table.proofs.Remarks.{worldAround, remarkAmong, remarksOn, remark-place, remarks-among}
+use Rattle.coverage_table.specs.Remarks.{worldAround, remarkAmong, remarksOn, remark-place, remarks-among}
 
 -- ---- lookups
 
@@ -146,3 +146,10 @@ module _ (r : Register) (moment x : ℕ) where
   -- in a sound register they are what the chains among all claims say
   pub remarks-standing : sound r ≡ true → paperOf r moment x .remarks ≡ map (remarkAmong moment (latest (claimsOf (r .claims)))) (latest (claimsOf (r .claims)))
   remarks-standing h = paper-remarks ∙ remarks-among moment (worldAround r) [] (latest (claimsOf (r .claims))) (sound-out r h .claims)
+
+  -- and so are those that the walk adds, first to last
+  pub added-sound : sound r ≡ true → remarksAdded moment [] (claimsOf (r .claims)) ≡ map (remarkAmong moment (latest (claimsOf (r .claims)))) (claimsOf (r .claims))
+  added-sound h =
+      let all : latest (claimsOf (r .claims)) ++ [] ≡ latest (claimsOf (r .claims)) = append-nil (latest (claimsOf (r .claims))) in
+      added-natural (worldAround r) moment (claimsOf (r .claims)) [] (rw all (sound-out r h .claims))
+      ∙ ap (λ l. map (remarkAmong moment l) (claimsOf (r .claims))) all

@@ -1,4 +1,4 @@
--- The plain gate is the gate, for one action and for a plan. Assumes nothing.
+-- Laws: The plain gate is the gate, for one action and for a plan. Assumes nothing.
 use mathlib.Core.Path.{_≡_, refl, ap, sym, _∙_}
 use mathlib.Core.Bool.{Bool, true, false, not, cond, _||_}
 use mathlib.Core.List.{List, [], _∷_, _++_, map}
@@ -19,7 +19,7 @@ use Rattle.gate_rules.specs.Plans.{actionsOf, judgements, Halt, runs, halts, ha
 use Rattle.gate_rules.specs.Laws.{use-violations-nil, use-violations-cons, gate-tests-out, gated-judged, gated-stopped}
 use Rattle.gate_rules.specs.Cancelling.{halt-runs, judgements-nil, judgements-cons}
 use Rattle.coverage_table.specs.Table.{coverTable, lookedUp, entryHops, tablesOf, plainUse, plainUses, plainViolations, plainHops, plainVerdict, plainlyGated, plainJudgements, plainPlanVerdict, plainlyPlanned}
-use Rattle.coverage_table.proofs.Uses.{lookup-answers, owner-lacks}
+use Rattle.coverage_table.specs.Uses.{lookup-answers, owner-lacks}
 
 turned : {A : Type 0} (covered : Bool) (a b : A) → cond (not covered) a b ≡ cond covered b a
 turned true a b = refl

@@ -1,4 +1,4 @@
--- The remarks of the walk: each is the hop count and the liveness of its claim, by its chain among all claims. Assumes nothing.
+-- Laws: The remarks of the walk: each is the hop count and the liveness of its claim, by its chain among all claims. Assumes nothing.
 use mathlib.Core.Path.{_≡_, refl, ap, sym, _∙_}
 use mathlib.Core.Bool.{true, _&&_}
 use mathlib.Core.List.{List, [], _∷_, _++_, map, append-assoc}

@@ -1,4 +1,4 @@
--- A use that is looked up in the table is answered as the gate answers it: whether it is covered, its hop count, and for a machine whether its owner
+-- Laws: A use that is looked up in the table is answered as the gate answers it: whether it is covered, its hop count, and for a machine whether its owner
 -- covers it. Assumes nothing.
 use mathlib.Core.Path.{_≡_, refl, ap, sym, _∙_}
 use mathlib.Core.Bool.{Bool, true, false, not, _&&_, or-false}
@@ -26,8 +26,8 @@ use Rattle.gate_rules.specs.Nearest.{nearest-none}
 use Rattle.gate_rules.specs.Trace.{distinct-place}
 use Rattle.gate_rules.specs.Authority.{IsIn}
 use Rattle.coverage_table.specs.Table.{Entry, nothing, coverTable, lookedUp, isNothing, entryClaim, entryHops, openEntry, tableOwner}
-use Rattle.coverage_table.proofs.Filling.{heard, remarksAdded, lookup-there, lookup-past, lookup-absent, table-heard}
-use Rattle.coverage_table.proofs.Cells.{relying, heard-relied, relying-claim, relying-hops, relying-nothing}
+use Rattle.coverage_table.specs.Filling.{heard, remarksAdded, lookup-there, lookup-past, lookup-absent, table-heard}
+use Rattle.coverage_table.specs.Cells.{relying, heard-relied, relying-claim, relying-hops, relying-nothing}
 
 -- an entry answers a use of x as the gate does
 pub record Answers (r : Register) (moment x : ℕ) (u : Usage) (e : Entry) : Type 0 where
