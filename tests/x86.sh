@@ -19,11 +19,42 @@ else
     emulate() { "$toolchain/bin/qemu-x86_64" "$@"; }
 fi
 built() { emulate "$toolchain/lib/ld-linux-x86-64.so.2" --library-path "$toolchain/lib" "$@"; }
+# machine: the name that delivered/ has for this machine's processor, or nothing.
+machine() {
+    case $(uname -s)/$(uname -m) in
+    Linux/x86_64) echo x86-64 ;;
+    Linux/aarch64 | Linux/arm64) echo aarch64 ;;
+    esac
+}
+# The builds that run here: that for x86-64, emulated where need be, and the machine's own. `compile_for BUILD ARGUMENT..` is a C compiler for
+# one of them, `run_for BUILD PROGRAM..` runs a static program.
+runnable() { printf '%s\n' x86-64 "$(machine)" | sort -ru | grep .; }
+compile_for() { if [ "$1" = x86-64 ]; then compile "${@:2}"; else gcc "${@:2}"; fi; }
+run_for() { if [ "$1" = x86-64 ]; then emulate "${@:2}"; else "${@:2}"; fi; }
 library=target/staticlib/libguvrendik
 archive() {
-    if [ ! -e $library.a ] || [ -n "$(find crates crates.txt native include -newer $library.a -print -quit)" ]; then
-        rt staticlib portal && with_twins
+    local portal=target/staticlib/libportal.a
+    if [ ! -e $portal ] || [ ! -e target/staticlib/portal.bc ] || [ -n "$(find crates crates.txt -newer $portal -print -quit)" ]; then
+        keeping rt staticlib portal || return
     fi
+    if [ ! -e $library.a ] || [ -n "$(find $portal native include -newer $library.a -print -quit)" ]; then with_twins; fi
+}
+# keeping COMMAND..: runs it, and keeps the module that the kit hands to its clang, of which the builds for other processors are made (native/build.sh).
+# The kit's clang is found through RATTLE_HOME: a folder of links to the kit, with a clang before the real one.
+keeping() {
+    local home=$PWD/target/staticlib/kit machine
+    machine=$(uname -m)
+    rm -rf "$home" && mkdir -p "$home/on/$machine/toolchain/bin" &&
+        find "$kit" -mindepth 1 -maxdepth 1 ! -name on -exec ln -s -t "$home" {} + &&
+        find "$kit/on/$machine" -mindepth 1 -maxdepth 1 ! -name toolchain -exec ln -s -t "$home/on/$machine" {} + &&
+        find "$toolchain" -mindepth 1 -maxdepth 1 ! -name bin -exec ln -s -t "$home/on/$machine/toolchain" {} + &&
+        find "$toolchain/bin" -mindepth 1 ! -name clang -exec ln -s -t "$home/on/$machine/toolchain/bin" {} + || return
+    cat >"$home/on/$machine/toolchain/bin/clang" <<END
+#!/bin/sh
+for word in "\$@"; do case \$word in *.bc) cp "\$word" '$PWD/target/staticlib/portal.bc' ;; esac; done
+exec '$toolchain/bin/clang' "\$@"
+END
+    chmod +x "$home/on/$machine/toolchain/bin/clang" && RATTLE_HOME=$home "$@" && rm -rf "$home"
 }
 # The archive of the crate portal, and the twins of its calls with it. By the kit's own compiler and linker, here and below, which are the same
 # on every processor: the bytes do not depend on the machine.
