@@ -12,8 +12,8 @@
  * also past its counts. An answer that was never written, all zeros, reads as a no.
  *
  * Stack: each call says how many bytes of stack it needs, the caller's copies of the structs included: the most that was measured
- * over registers from small to full, rounded up. The test command measures it again and fails where a call takes more. A twin needs the
- * size of its answer beside it, and 128 bytes.
+ * over registers from small to full, rounded up. The test command measures it again and fails where a call takes more. A twin needs no
+ * more than its call: the copies are its own.
  *
  * Proved, of every call: it equals a definition in the rule book's words, for all inputs (docs/CONTRACTS.md names each one); it
  * never reads or writes out of range, overflows or runs on for ever. Not proved: that the caller's pointers and lengths are good,
@@ -31,6 +31,7 @@
  *  CAN_ the part of one right in the sum that a claim's rights are: c.rights = GUVRENDIK_CAN_READ | GUVRENDIK_CAN_DELEGATE
  *  SETS_ the part of one flag in the sum that an action's flags are: a.flags |= GUVRENDIK_SETS_COERCES
  *  REFUSAL_ why a call refuses, VIOLATION_ the kind of a violation
+ *  PROPOSES_ the kind of a proposal, CHECK_ what the check of one answers
  *
  * What your portal must do (docs/PORTAL.md says why and how):
  *  - Serialise changes. A grant or revocation answers a new register: one that was computed on an old copy and stored after
@@ -54,7 +55,7 @@ extern "C" {
 /* The version of this header. guvrendik_version answers that of the library; the shared object is named by the first number. That one
  * changes where a caller must be changed or compiled anew, the second where a call is new. */
 #define GUVRENDIK_VERSION_MAJOR 3
-#define GUVRENDIK_VERSION_MINOR 1
+#define GUVRENDIK_VERSION_MINOR 4
 #define GUVRENDIK_VERSION_PATCH 0
 
 /* How many at most. */
@@ -66,10 +67,13 @@ extern "C" {
 #define GUVRENDIK_LIMIT_USES 32
 #define GUVRENDIK_LIMIT_GOVERNS 8
 #define GUVRENDIK_LIMIT_ACTIONS 16
+#define GUVRENDIK_LIMIT_SIGNERS 8       /* willing to sign a proposed grant */
 #define GUVRENDIK_LIMIT_LEVELS 8        /* plans in each other in a plan's text, the outermost counted */
 #define GUVRENDIK_LIMIT_STEPS 64        /* steps of one plan in a plan's text */
 #define GUVRENDIK_LIMIT_TEXT_ACTIONS 64 /* actions of a plan's text, in all its plans together */
 #define GUVRENDIK_LIMIT_VIOLATIONS 51
+#define GUVRENDIK_LIMIT_ENTRIES 64      /* of a fingerprint book */
+#define GUVRENDIK_LIMIT_FINGERPRINT 32  /* bytes of a fingerprint: as many as it has */
 #define GUVRENDIK_LIMIT_JSON_ID 64 /* bytes of a JSON action's id */
 #define GUVRENDIK_LIMIT_RIGHTS 17  /* a right's number is below it */
 #define GUVRENDIK_LIMIT_FLAGS 10   /* a flag's number is below it */
@@ -457,7 +461,7 @@ typedef struct guvrendik_violation {
 #define GUVRENDIK_DECISION_STOPPED 3   /* of a verdict: the call was refused */
 #define GUVRENDIK_DECISION_CANCELLED 4 /* of a judgement: an action before it has a flag set */
 
-/* The answer of guvrendik_gate. */
+/* The answer of guvrendik_gate and guvrendik_plain_gate. */
 typedef struct guvrendik_verdict {
     uint32_t decision; /* PERMITTED, REFUSED or STOPPED */
     uint32_t refusal;  /* of a stopped one the number, else 0 */
@@ -478,6 +482,75 @@ typedef struct guvrendik_verdict {
  * Stack: 70,000 bytes. */
 guvrendik_verdict guvrendik_gate(guvrendik_register r, guvrendik_action a);
 
+/* ---- Whose signature is missing ---- */
+
+/* Actors who are willing to sign a grant. Any numbers: 0, doubles, one who does not stand and the actor itself are taken. */
+typedef struct guvrendik_signers {
+    uint32_t list[GUVRENDIK_LIMIT_SIGNERS];
+    size_t count; /* 0 to 8 */
+} guvrendik_signers;
+
+/* Kinds of proposal. */
+#define GUVRENDIK_PROPOSES_NONE 1  /* no grant: the use is permitted as it is. The claim is not looked at */
+#define GUVRENDIK_PROPOSES_GRANT 2 /* a grant of the claim */
+
+typedef struct guvrendik_proposal {
+    uint64_t kind; /* PROPOSES_NONE or PROPOSES_GRANT. 0 is neither */
+    guvrendik_claim claim;
+} guvrendik_proposal;
+
+/* The answer of guvrendik_propose. */
+typedef struct guvrendik_proposed {
+    guvrendik_proposal proposal; /* accepted: no grant, or a grant. Refused: zeros, which are of neither kind */
+    uint32_t accepted;           /* 1 or 0 */
+    uint32_t refusal;            /* 0 where accepted, else the number */
+} guvrendik_proposed;
+
+/* Proposes whose signature is missing. The one use is the action of the actor at the moment with that use alone, no flag and nothing governed.
+ * No grant is proposed where guvrendik_gate permits the one use. Else one grant is: to the actor, of that single right on that resource, by the
+ * first of the signers by whom a grant would help. A keeper signs a root of weight 1,000; any other signs below the first claim of his in the
+ * register that serves, with its weight. The grant never expires, may not be passed on, and has the least free id.
+ *  r        the register
+ *  actor    the id of an actor; a number out of range is in no register
+ *  usage    every field in the range that guvrendik_usage gives
+ *  moment   in seconds, below 2^32
+ *  signers  at most 8
+ * Refusals, the first that applies: 1 register not sound; 2 more than 8 signers, or a field of the use or the moment out of range; 3 actor
+ * not in the register; 26 no proposal would pass guvrendik_check_proposal. 26 is also told where the actor is a machine without owner or whose
+ * owner does not cover the use, where the resource does not stand or its path has a `..`, and where 256 claims stand.
+ * What is proposed passes guvrendik_check_proposal.
+ * Stack: 100,000 bytes. */
+guvrendik_proposed guvrendik_propose(guvrendik_register r, uint32_t actor, guvrendik_usage usage, uint64_t moment,
+                                     guvrendik_signers signers);
+
+/* Answers of the check. */
+#define GUVRENDIK_CHECK_PASSES 1
+#define GUVRENDIK_CHECK_FAILS 2
+#define GUVRENDIK_CHECK_STOPPED 3 /* the call was refused */
+
+/* The answer of guvrendik_check_proposal. */
+typedef struct guvrendik_checked {
+    uint32_t answer;  /* PASSES, FAILS or STOPPED */
+    uint32_t refusal; /* of a stopped one the number, else 0 */
+} guvrendik_checked;
+
+/* Checks a proposal, whoever made it. The one use is the action of the actor at the moment with that use alone, no flag and nothing
+ * governed. No grant passes where guvrendik_gate permits the one use. A grant passes where its holder is the actor, its resource the used
+ * one, its rights that single right, its grantor one of the signers, guvrendik_grant would accept it at the moment, and guvrendik_gate would
+ * permit the one use in the register that the grant leaves. Nothing else passes.
+ *  r         the register
+ *  actor     the id of an actor; a number out of range is in no register
+ *  usage     every field in the range that guvrendik_usage gives
+ *  moment    in seconds, below 2^32
+ *  signers   at most 8
+ *  proposal  any: a kind that is neither, or a field of the claim out of range, is a no
+ * Refusals, the first that applies: 1 register not sound; 2 more than 8 signers, or a field of the use or the moment out of range; 3 actor
+ * not in the register.
+ * Where the use is permitted already, a grant of the form passes where it is accepted, one of weight 0 too.
+ * Stack: 100,000 bytes. */
+guvrendik_checked guvrendik_check_proposal(guvrendik_register r, uint32_t actor, guvrendik_usage usage, uint64_t moment,
+                                           guvrendik_signers signers, guvrendik_proposal proposal);
+
 typedef struct guvrendik_plan {
     guvrendik_action actions[GUVRENDIK_LIMIT_ACTIONS];
     size_t count; /* 0 to 16 */
@@ -488,7 +561,7 @@ typedef struct guvrendik_judgement {
     uint32_t violations; /* how many; 0 where permitted or cancelled */
 } guvrendik_judgement;
 
-/* The answer of guvrendik_judge_plan. */
+/* The answer of guvrendik_judge_plan and guvrendik_plain_plan. */
 typedef struct guvrendik_plan_verdict {
     uint32_t accepted; /* 1 or 0 */
     uint32_t refusal;  /* 0 where accepted, else the number */
@@ -504,6 +577,78 @@ typedef struct guvrendik_plan_verdict {
  * or 3, as by guvrendik_gate, stops the whole plan, also one that would be cancelled. Then there are no judgements.
  * Stack: 78,000 bytes. */
 guvrendik_plan_verdict guvrendik_judge_plan(guvrendik_register r, guvrendik_plan p);
+
+/* Judges one action by the plain gate, which goes once through the claims from first to last and fills a table of what the actor and
+ * its owner cover, for each resource and right, at the action's moment; uses are then looked up.
+ *  r  the register
+ *  a  the action
+ * The whole answer is that of guvrendik_gate, refusals and hop counts included: its contract is the same.
+ * Stack: 85,000 bytes. */
+guvrendik_verdict guvrendik_plain_gate(guvrendik_register r, guvrendik_action a);
+
+/* Judges a plan by the plain gate, each action by a table of its own.
+ *  r  the register
+ *  p  the plan
+ * The whole answer is that of guvrendik_judge_plan.
+ * Stack: 85,000 bytes. */
+guvrendik_plan_verdict guvrendik_plain_plan(guvrendik_register r, guvrendik_plan p);
+
+/* ---- The fingerprint book ----
+ * A book keeps, for each resource number, the fingerprint that was attached to it last, or none. It is the caller's, beside the register:
+ * a call takes it by value, and an attach hands it back. All zeros is the empty book. An entry is kept for good. */
+
+typedef struct guvrendik_fingerprint {
+    uint8_t bytes[GUVRENDIK_LIMIT_FINGERPRINT];
+} guvrendik_fingerprint;
+
+/* A resource's number, which is not looked up and has no range here, and what is attached to it. */
+typedef struct guvrendik_entry {
+    uint32_t resource;
+    guvrendik_fingerprint fingerprint;
+} guvrendik_entry;
+
+typedef struct guvrendik_book {
+    guvrendik_entry entries[GUVRENDIK_LIMIT_ENTRIES]; /* no two of one number below the count; past it ignored and kept */
+    size_t count;                              /* 0 to 64 */
+} guvrendik_book;
+
+/* The answer of guvrendik_attach. */
+typedef struct guvrendik_attached {
+    guvrendik_book book; /* accepted: with the fingerprint in the number's entry, or in a new one behind the others. Refused: as it came */
+    uint32_t accepted;   /* 1 or 0 */
+    uint32_t refusal;    /* 0 where accepted, else the number */
+} guvrendik_attached;
+
+/* Attaches a fingerprint to a resource's number. It is judged as the action of one use of WRITE, no flag set and nothing governed.
+ *  book         the book before
+ *  r            the register
+ *  actor        the id of the acting actor, 0 to 65,535
+ *  resource     0 to 65,535; where no such resource stands the action is not permitted
+ *  moment       in seconds, below 2^32
+ *  fingerprint  any 32 bytes, zeros too
+ * Refusals, the first that applies: 1 register not sound; 30 book with more than 64 entries or with two for one number, told to anyone;
+ * 2 actor, resource or moment out of range; 3 actor not in the register; 27 the gate does not permit the action; 29 the number is new
+ * and 64 entries stand. Refused, the book is as it came, whole.
+ * Accepted, every entry but the number's, and what stands past the count, is as it came.
+ * Entries go by number: where another register gives the number to another report, its old fingerprint stands.
+ * Stack: 82,000 bytes. */
+guvrendik_attached guvrendik_attach(guvrendik_book book, guvrendik_register r, uint32_t actor, uint32_t resource, uint64_t moment,
+                                    guvrendik_fingerprint fingerprint);
+
+/* The answer of guvrendik_fetch. */
+typedef struct guvrendik_fetched {
+    guvrendik_fingerprint fingerprint; /* accepted: the number's. Refused: zeros */
+    uint32_t accepted;                 /* 1 or 0. Zeros may be attached: this tells them from none */
+    uint32_t refusal;                  /* 0 where accepted, else the number */
+} guvrendik_fetched;
+
+/* Fetches the fingerprint of a resource's number. It is judged as the action of one use of READ, no flag set and nothing governed: a
+ * public report is fetched by every actor of the register.
+ *  book, r, actor, resource, moment  as for guvrendik_attach
+ * Refusals, the first that applies: 1, 30, 2, 3 and 27 as for guvrendik_attach; 28 nothing is attached to the number. Where the action
+ * is not permitted, the answer is the same of every book that is not refused with 30: it does not tell whether an entry stands.
+ * Stack: 82,000 bytes. */
+guvrendik_fetched guvrendik_fetch(guvrendik_book book, guvrendik_register r, uint32_t actor, uint32_t resource, uint64_t moment);
 
 /* ---- Paths ---- */
 
@@ -742,7 +887,17 @@ void guvrendik_revoke_at(guvrendik_revoked *answer, const guvrendik_register *r,
 void guvrendik_clear_resource_at(guvrendik_revoked *answer, const guvrendik_register *r, uint32_t caller, uint32_t resource);
 void guvrendik_clear_expired_at(guvrendik_revoked *answer, const guvrendik_register *r, uint32_t caller, uint64_t moment);
 void guvrendik_gate_at(guvrendik_verdict *answer, const guvrendik_register *r, const guvrendik_action *a);
+void guvrendik_propose_at(guvrendik_proposed *answer, const guvrendik_register *r, uint32_t actor, const guvrendik_usage *usage,
+                          uint64_t moment, const guvrendik_signers *signers);
+void guvrendik_check_proposal_at(guvrendik_checked *answer, const guvrendik_register *r, uint32_t actor, const guvrendik_usage *usage,
+                                 uint64_t moment, const guvrendik_signers *signers, const guvrendik_proposal *proposal);
 void guvrendik_judge_plan_at(guvrendik_plan_verdict *answer, const guvrendik_register *r, const guvrendik_plan *p);
+void guvrendik_plain_gate_at(guvrendik_verdict *answer, const guvrendik_register *r, const guvrendik_action *a);
+void guvrendik_plain_plan_at(guvrendik_plan_verdict *answer, const guvrendik_register *r, const guvrendik_plan *p);
+void guvrendik_attach_at(guvrendik_attached *answer, const guvrendik_book *book, const guvrendik_register *r, uint32_t actor,
+                         uint32_t resource, uint64_t moment, const guvrendik_fingerprint *fingerprint);
+void guvrendik_fetch_at(guvrendik_fetched *answer, const guvrendik_book *book, const guvrendik_register *r, uint32_t actor,
+                        uint32_t resource, uint64_t moment);
 void guvrendik_contains_at(guvrendik_containment *answer, const uint8_t *outer, size_t outer_len, const uint8_t *inner,
                            size_t inner_len);
 void guvrendik_read_register_at(guvrendik_register_read *answer, const uint8_t *text, size_t text_len);
@@ -782,9 +937,18 @@ void guvrendik_version_at(guvrendik_version_numbers *answer);
 #define GUVRENDIK_SIZE_ACTION 320
 #define GUVRENDIK_SIZE_VIOLATION 8
 #define GUVRENDIK_SIZE_VERDICT 680
+#define GUVRENDIK_SIZE_SIGNERS 40
+#define GUVRENDIK_SIZE_PROPOSAL 48
+#define GUVRENDIK_SIZE_PROPOSED 56
+#define GUVRENDIK_SIZE_CHECKED 8
 #define GUVRENDIK_SIZE_PLAN 5128
 #define GUVRENDIK_SIZE_JUDGEMENT 8
 #define GUVRENDIK_SIZE_PLAN_VERDICT 152
+#define GUVRENDIK_SIZE_FINGERPRINT 32
+#define GUVRENDIK_SIZE_ENTRY 36
+#define GUVRENDIK_SIZE_BOOK 2312
+#define GUVRENDIK_SIZE_ATTACHED 2320
+#define GUVRENDIK_SIZE_FETCHED 40
 #define GUVRENDIK_SIZE_CONTAINMENT 16
 #define GUVRENDIK_SIZE_REGISTER_READ 16176
 #define GUVRENDIK_SIZE_WRITTEN 16
@@ -813,9 +977,18 @@ GUVRENDIK_HOLD(guvrendik_usage, GUVRENDIK_SIZE_USAGE);
 GUVRENDIK_HOLD(guvrendik_action, GUVRENDIK_SIZE_ACTION);
 GUVRENDIK_HOLD(guvrendik_violation, GUVRENDIK_SIZE_VIOLATION);
 GUVRENDIK_HOLD(guvrendik_verdict, GUVRENDIK_SIZE_VERDICT);
+GUVRENDIK_HOLD(guvrendik_signers, GUVRENDIK_SIZE_SIGNERS);
+GUVRENDIK_HOLD(guvrendik_proposal, GUVRENDIK_SIZE_PROPOSAL);
+GUVRENDIK_HOLD(guvrendik_proposed, GUVRENDIK_SIZE_PROPOSED);
+GUVRENDIK_HOLD(guvrendik_checked, GUVRENDIK_SIZE_CHECKED);
 GUVRENDIK_HOLD(guvrendik_plan, GUVRENDIK_SIZE_PLAN);
 GUVRENDIK_HOLD(guvrendik_judgement, GUVRENDIK_SIZE_JUDGEMENT);
 GUVRENDIK_HOLD(guvrendik_plan_verdict, GUVRENDIK_SIZE_PLAN_VERDICT);
+GUVRENDIK_HOLD(guvrendik_fingerprint, GUVRENDIK_SIZE_FINGERPRINT);
+GUVRENDIK_HOLD(guvrendik_entry, GUVRENDIK_SIZE_ENTRY);
+GUVRENDIK_HOLD(guvrendik_book, GUVRENDIK_SIZE_BOOK);
+GUVRENDIK_HOLD(guvrendik_attached, GUVRENDIK_SIZE_ATTACHED);
+GUVRENDIK_HOLD(guvrendik_fetched, GUVRENDIK_SIZE_FETCHED);
 GUVRENDIK_HOLD(guvrendik_containment, GUVRENDIK_SIZE_CONTAINMENT);
 GUVRENDIK_HOLD(guvrendik_register_read, GUVRENDIK_SIZE_REGISTER_READ);
 GUVRENDIK_HOLD(guvrendik_written, GUVRENDIK_SIZE_WRITTEN);

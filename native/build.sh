@@ -74,7 +74,7 @@ builds() {
             rt check verdict plan_verdict json_verdict && touch target/bin/verdict target/bin/plan_verdict target/bin/json_verdict || return
         fi
     done
-    if [ ! -e $made ] || [ -n "$(find $library.a $library.so target/bin native include packaging tests/x86.sh -newer $made -print -quit)" ]; then
+    if [ ! -e $made ] || [ -n "$(find $library.a target/staticlib/portal.bc target/bin/*verdict native include packaging -newer $made -print -quit)" ]; then
         plain && for_x86 && for_arm && for_wasm
     fi
 }

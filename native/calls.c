@@ -31,8 +31,36 @@ void guvrendik_gate_at(guvrendik_verdict *answer, const guvrendik_register *r, c
     *answer = guvrendik_gate(*r, *a);
 }
 
+void guvrendik_propose_at(guvrendik_proposed *answer, const guvrendik_register *r, uint32_t actor, const guvrendik_usage *usage,
+                          uint64_t moment, const guvrendik_signers *signers) {
+    *answer = guvrendik_propose(*r, actor, *usage, moment, *signers);
+}
+
+void guvrendik_check_proposal_at(guvrendik_checked *answer, const guvrendik_register *r, uint32_t actor, const guvrendik_usage *usage,
+                                 uint64_t moment, const guvrendik_signers *signers, const guvrendik_proposal *proposal) {
+    *answer = guvrendik_check_proposal(*r, actor, *usage, moment, *signers, *proposal);
+}
+
 void guvrendik_judge_plan_at(guvrendik_plan_verdict *answer, const guvrendik_register *r, const guvrendik_plan *p) {
     *answer = guvrendik_judge_plan(*r, *p);
+}
+
+void guvrendik_plain_gate_at(guvrendik_verdict *answer, const guvrendik_register *r, const guvrendik_action *a) {
+    *answer = guvrendik_plain_gate(*r, *a);
+}
+
+void guvrendik_plain_plan_at(guvrendik_plan_verdict *answer, const guvrendik_register *r, const guvrendik_plan *p) {
+    *answer = guvrendik_plain_plan(*r, *p);
+}
+
+void guvrendik_attach_at(guvrendik_attached *answer, const guvrendik_book *book, const guvrendik_register *r, uint32_t actor,
+                         uint32_t resource, uint64_t moment, const guvrendik_fingerprint *fingerprint) {
+    *answer = guvrendik_attach(*book, *r, actor, resource, moment, *fingerprint);
+}
+
+void guvrendik_fetch_at(guvrendik_fetched *answer, const guvrendik_book *book, const guvrendik_register *r, uint32_t actor,
+                        uint32_t resource, uint64_t moment) {
+    *answer = guvrendik_fetch(*book, *r, actor, resource, moment);
 }
 
 void guvrendik_contains_at(guvrendik_containment *answer, const uint8_t *outer, size_t outer_len, const uint8_t *inner,

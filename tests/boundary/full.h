@@ -14,6 +14,13 @@ static guvrendik_register state;
 static guvrendik_action action;
 static guvrendik_plan plan;
 static guvrendik_claim claim;
+/* A use, a signer and a grant of it. */
+static guvrendik_usage use = {1, GUVRENDIK_RIGHT_READ};
+static guvrendik_signers signers = {{1}, 1};
+static guvrendik_proposal proposal = {.kind = GUVRENDIK_PROPOSES_GRANT};
+/* A book with one place left, and what is put there. */
+static guvrendik_book book;
+static guvrendik_fingerprint print;
 static uint8_t register_text[GUVRENDIK_TEXT_REGISTER], action_text[1024];
 static size_t action_length;
 /* Eight levels of plans, each with eight of the 64 actions behind the plan in it. */
@@ -38,10 +45,16 @@ static void fill_register(uint64_t version) {
     }
     for (uint32_t i = 1; i <= CLAIMS; i++) {
         uint32_t resource = 1 + (i - 1) % GUVRENDIK_LIMIT_RESOURCES;
-        guvrendik_put_claim(&state, guvrendik_make_claim(i, 0, 1, 1, resource, GUVRENDIK_CAN_READ, 1, GUVRENDIK_MAX_LEFT, 0));
+        guvrendik_put_claim(&state, guvrendik_make_claim(i, 0, 1, 1, resource, GUVRENDIK_CAN_READ | GUVRENDIK_CAN_WRITE, 1, GUVRENDIK_MAX_LEFT,
+                                                         0));
     }
     claim = state.claims.list[0];
     claim.id = GUVRENDIK_LIMIT_CLAIMS;
+    proposal.claim = claim;
+    proposal.claim.rights = GUVRENDIK_CAN_READ;
+    book.count = GUVRENDIK_LIMIT_ENTRIES - 1;
+    for (uint32_t i = 0; i < GUVRENDIK_LIMIT_ENTRIES - 1; i++) book.entries[i].resource = 2 + i;
+    memset(print.bytes, 7, sizeof print.bytes);
 }
 
 static void put_plan(const char *lines) {

@@ -74,6 +74,11 @@ static guvrendik_register state, second, unsound;
 static guvrendik_claim claim, wide, table[GUVRENDIK_LIMIT_CLAIMS + 1];
 static guvrendik_action action, uncovered, absent;
 static guvrendik_plan plan, long_plan;
+static guvrendik_book book, bad_book;
+static guvrendik_fingerprint print;
+static guvrendik_usage use = {1, GUVRENDIK_RIGHT_WRITE};
+static guvrendik_signers signers = {{1}, 1};
+static guvrendik_proposal proposal, none = {.kind = GUVRENDIK_PROPOSES_NONE};
 static uint8_t register_text[GUVRENDIK_TEXT_REGISTER], second_text[GUVRENDIK_TEXT_REGISTER], json_text[GUVRENDIK_TEXT_JSON];
 static uint8_t buffer[GUVRENDIK_TEXT_REGISTER];
 static size_t register_length, second_length, json_length;
@@ -111,11 +116,17 @@ static void prepare(void) {
     uncovered = action;
     uncovered.uses[0].resource = GUVRENDIK_MAX_ID;
     absent.actor = GUVRENDIK_MAX_ID;
+    proposal.kind = GUVRENDIK_PROPOSES_GRANT;
+    proposal.claim = (guvrendik_claim){.id = GUVRENDIK_LIMIT_CLAIMS, .grantor = 1, .holder = 1, .resource = 1, .rights = 2, .weight = 1};
     plan.count = 3;
     plan.actions[0] = action;
     plan.actions[1] = plan.actions[2] = uncovered;
     long_plan = plan;
     long_plan.count = GUVRENDIK_LIMIT_ACTIONS + 1;
+    book.count = 1;
+    book.entries[0].resource = 2;
+    memset(print.bytes, 7, sizeof print.bytes);
+    bad_book.count = GUVRENDIK_LIMIT_ENTRIES + 1;
     register_length = guvrendik_write_register(state, register_text, sizeof register_text).length;
     second_length = guvrendik_write_register(second, second_text, sizeof second_text).length;
     json_length = guvrendik_write_json(action, path, 8, 0, json_text, sizeof json_text).length;
@@ -144,12 +155,30 @@ static void verdicts(void) {
     TWICE(guvrendik_verdict, guvrendik_gate(state, action), decision, GUVRENDIK_DECISION_PERMITTED);
     TWICE(guvrendik_verdict, guvrendik_gate(second, uncovered), decision, GUVRENDIK_DECISION_REFUSED);
     TWICE(guvrendik_verdict, guvrendik_gate(state, absent), decision, GUVRENDIK_DECISION_STOPPED);
+    TWICE(guvrendik_proposed, guvrendik_propose(second, 1, use, 0, signers), proposal.kind, GUVRENDIK_PROPOSES_GRANT);
+    TWICE(guvrendik_proposed, guvrendik_propose(unsound, 1, use, 0, signers), refusal, GUVRENDIK_REFUSAL_UNSOUND);
+    TWICE(guvrendik_checked, guvrendik_check_proposal(second, 1, use, 0, signers, proposal), answer, GUVRENDIK_CHECK_PASSES);
+    TWICE(guvrendik_checked, guvrendik_check_proposal(state, 1, use, 0, signers, none), answer, GUVRENDIK_CHECK_FAILS);
+    TWICE(guvrendik_checked, guvrendik_check_proposal(unsound, 1, use, 0, signers, none), refusal, GUVRENDIK_REFUSAL_UNSOUND);
     TWICE(guvrendik_plan_verdict, guvrendik_judge_plan(second, plan), count, 3);
     TWICE(guvrendik_plan_verdict, guvrendik_judge_plan(state, long_plan), refusal, GUVRENDIK_REFUSAL_RANGE);
+    TWICE(guvrendik_verdict, guvrendik_plain_gate(state, action), decision, GUVRENDIK_DECISION_PERMITTED);
+    TWICE(guvrendik_verdict, guvrendik_plain_gate(second, uncovered), decision, GUVRENDIK_DECISION_REFUSED);
+    TWICE(guvrendik_verdict, guvrendik_plain_gate(state, absent), decision, GUVRENDIK_DECISION_STOPPED);
+    TWICE(guvrendik_plan_verdict, guvrendik_plain_plan(second, plan), count, 3);
+    TWICE(guvrendik_plan_verdict, guvrendik_plain_plan(state, long_plan), refusal, GUVRENDIK_REFUSAL_RANGE);
     TWICE(guvrendik_plan_text_verdict, guvrendik_judge_plan_text(second, plan_text, PLAN_LENGTH), count, 2);
     TWICE(guvrendik_plan_text_verdict, guvrendik_judge_plan_text(state, plan_text, PLAN_LENGTH - 1), refusal, GUVRENDIK_REFUSAL_FORM);
     TWICE(guvrendik_containment, guvrendik_contains(path, 6, path, 8), contained, 1);
     TWICE(guvrendik_containment, guvrendik_contains(path, 3, path, 8), contained, 0);
+}
+
+static void books(void) {
+    TWICE(guvrendik_attached, guvrendik_attach(book, state, 2, 1, 0, print), refusal, GUVRENDIK_REFUSAL_NOT_PERMITTED);
+    TWICE(guvrendik_attached, guvrendik_attach(bad_book, second, 1, 1, 0, print), refusal, GUVRENDIK_REFUSAL_BAD_BOOK);
+    TWICE(guvrendik_fetched, guvrendik_fetch(book, state, 1, 1, 0), refusal, GUVRENDIK_REFUSAL_NO_ENTRY);
+    TWICE(guvrendik_fetched, guvrendik_fetch(book, second, 2, 2, 0), refusal, 0);
+    TWICE(guvrendik_fetched, guvrendik_fetch(book, unsound, 1, 1, 0), refusal, GUVRENDIK_REFUSAL_UNSOUND);
 }
 
 static void texts(void) {
@@ -164,7 +193,7 @@ static void texts(void) {
     TWICE(guvrendik_written, guvrendik_verdict_text(second_text, second_length, action_text, ACTION_LENGTH, buffer, sizeof buffer), refusal, 0);
     TWICE(guvrendik_written, guvrendik_verdict_text(path, 1, path, 1, buffer, 1), refusal, GUVRENDIK_REFUSAL_BUFFER);
     TWICE(guvrendik_written, guvrendik_json_verdict_text(register_text, register_length, action_text, 6, json_text, json_length, buffer, 40), refusal, 0);
-    TWICE(guvrendik_written, guvrendik_plan_verdict_text(second_text, second_length, plan_text, PLAN_LENGTH, buffer, 64), refusal, 0);
+    TWICE(guvrendik_written, guvrendik_plan_verdict_text(second_text, second_length, plan_text, PLAN_LENGTH, buffer, sizeof buffer), refusal, 0);
     TWICE(guvrendik_written, guvrendik_plan_verdict_text(path, 1, path, 1, buffer, 1), refusal, GUVRENDIK_REFUSAL_BUFFER);
     TWICE(guvrendik_json_read, guvrendik_read_json(json_text, json_length, 1), refusal, 0);
     TWICE(guvrendik_json_read, guvrendik_read_json(json_text, json_length - 1, 1), refusal, GUVRENDIK_REFUSAL_JSON_FORM);
@@ -182,6 +211,7 @@ int main(void) {
     prepare();
     changes();
     verdicts();
+    books();
     texts();
     printf("%zu bytes differ between answers on two stacks\n", differing);
     printf("%u passed, %u failed\n", passed, failed);

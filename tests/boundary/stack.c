@@ -1,14 +1,12 @@
 /* Measures the stack that each twin needs on full inputs (full.h) of either version, and that of the two calls which print the verdicts on a
- * JSON action and on a plan's text. A call may take what the header says of it, a twin the size of its answer and 128 bytes more. said.h has
- * the header's figures, SAID_name. Prints a line to each, and 'N passed, M failed'. */
+ * JSON action and on a plan's text. Each may take what the header says of the call; said.h has its figures, SAID_name. Prints a line to each,
+ * and 'N passed, M failed'. */
 #define _GNU_SOURCE
 #include "full.h"
 #include "said.h"
 
 #include <stdlib.h>
 #include <ucontext.h>
-
-#define TWIN_MORE 128
 
 static uint8_t lines[GUVRENDIK_TEXT_REGISTER];
 static size_t register_length;
@@ -25,7 +23,13 @@ TWIN(revoke, guvrendik_revoked, &state, 1, 1)
 TWIN(clear_resource, guvrendik_revoked, &state, 1, 1)
 TWIN(clear_expired, guvrendik_revoked, &state, 1, 1)
 TWIN(gate, guvrendik_verdict, &state, &action)
+TWIN(propose, guvrendik_proposed, &state, 1, &use, 1, &signers)
+TWIN(check_proposal, guvrendik_checked, &state, 1, &use, 1, &signers, &proposal)
 TWIN(judge_plan, guvrendik_plan_verdict, &state, &plan)
+TWIN(plain_gate, guvrendik_verdict, &state, &action)
+TWIN(plain_plan, guvrendik_plan_verdict, &state, &plan)
+TWIN(attach, guvrendik_attached, &book, &state, 1, 1, 1, &print)
+TWIN(fetch, guvrendik_fetched, &answer_attach.book, &state, 1, 1, 1)
 TWIN(contains, guvrendik_containment, register_text, 64, register_text, 64)
 TWIN(read_register, guvrendik_register_read, register_text, register_length)
 TWIN(write_register, guvrendik_written, &state, lines, sizeof lines)
@@ -73,14 +77,14 @@ static size_t stack_of(void (*body)(void)) {
     return STACK_SIZE - untouched;
 }
 
-#define TWIN_ROW(name) {"guvrendik_" #name "_at", twin_##name, SAID_##name + sizeof answer_##name + TWIN_MORE}
+#define TWIN_ROW(name) {"guvrendik_" #name "_at", twin_##name, SAID_##name}
 static const struct {
     const char *name;
     void (*body)(void);
     size_t most;
 } rows[] = {
-    TWIN_ROW(sound), TWIN_ROW(sound_table), TWIN_ROW(grant), TWIN_ROW(revoke), TWIN_ROW(clear_resource), TWIN_ROW(clear_expired), TWIN_ROW(gate),
-    TWIN_ROW(judge_plan), TWIN_ROW(contains), TWIN_ROW(read_register), TWIN_ROW(write_register), TWIN_ROW(read_action),
+    TWIN_ROW(sound), TWIN_ROW(sound_table), TWIN_ROW(grant), TWIN_ROW(revoke), TWIN_ROW(clear_resource), TWIN_ROW(clear_expired), TWIN_ROW(gate), TWIN_ROW(propose), TWIN_ROW(check_proposal),
+    TWIN_ROW(judge_plan), TWIN_ROW(plain_gate), TWIN_ROW(plain_plan), TWIN_ROW(attach), TWIN_ROW(fetch), TWIN_ROW(contains), TWIN_ROW(read_register), TWIN_ROW(write_register), TWIN_ROW(read_action),
     TWIN_ROW(judge_plan_text), TWIN_ROW(verdict_text), TWIN_ROW(json_verdict_text), TWIN_ROW(plan_verdict_text), TWIN_ROW(read_json),
     TWIN_ROW(write_json), TWIN_ROW(refusal_text), TWIN_ROW(violation_text), TWIN_ROW(right_name), TWIN_ROW(flag_name), TWIN_ROW(version),
     {"guvrendik_json_verdict_text", call_json_verdict_text, SAID_json_verdict_text},

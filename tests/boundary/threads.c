@@ -40,7 +40,13 @@ CALL(revoke, guvrendik_revoked, (state, 1, 1), &state, 1, 1)
 CALL(clear_resource, guvrendik_revoked, (state, 1, 1), &state, 1, 1)
 CALL(clear_expired, guvrendik_revoked, (state, 1, 1), &state, 1, 1)
 CALL(gate, guvrendik_verdict, (state, action), &state, &action)
+CALL(propose, guvrendik_proposed, (state, claim.holder, use, 1, signers), &state, claim.holder, &use, 1, &signers)
+CALL(check_proposal, guvrendik_checked, (state, claim.holder, use, 1, signers, proposal), &state, claim.holder, &use, 1, &signers, &proposal)
 CALL(judge_plan, guvrendik_plan_verdict, (state, plan), &state, &plan)
+CALL(plain_gate, guvrendik_verdict, (state, action), &state, &action)
+CALL(plain_plan, guvrendik_plan_verdict, (state, plan), &state, &plan)
+CALL(attach, guvrendik_attached, (book, state, 1, 1, 1, print), &book, &state, 1, 1, 1, &print)
+CALL(fetch, guvrendik_fetched, (attach.book, state, 1, 1, 1), &attach.book, &state, 1, 1, 1)
 CALL(judge_plan_text, guvrendik_plan_text_verdict, (state, plan_text, plan_length), &state, plan_text, plan_length)
 CALL(write_register, guvrendik_written, (state, register_text, sizeof register_text), &state, register_text, sizeof register_text)
 CALL(read_register, guvrendik_register_read, (register_text, write_register.length), register_text, write_register.length)
@@ -88,10 +94,16 @@ static void call_all(uint64_t version) {
     MAKE(clear_resource, clear_resource.accepted == 1 && clear_resource.removed == 4, "four claims are on resource 1");
     MAKE(clear_expired, clear_expired.accepted == 1 && clear_expired.removed == 0, "no claim has an expiry");
     MAKE(gate, gate.decision == GUVRENDIK_DECISION_PERMITTED && gate.count == 0, "the gate permits what roots cover");
+    MAKE(propose, propose.accepted == 1 && propose.proposal.kind == GUVRENDIK_PROPOSES_NONE, "what is permitted needs no grant");
+    MAKE(check_proposal, check_proposal.answer == GUVRENDIK_CHECK_PASSES, "a grant of what is permitted passes");
     MAKE(judge_plan,
          judge_plan.accepted == 1 && judge_plan.count == GUVRENDIK_LIMIT_ACTIONS &&
              judge_plan.list[GUVRENDIK_LIMIT_ACTIONS - 1].decision == GUVRENDIK_DECISION_PERMITTED,
          "every action of the plan is permitted");
+    MAKE(plain_gate, memcmp(&plain_gate, &gate, sizeof gate) == 0, "the plain gate answers the same");
+    MAKE(plain_plan, memcmp(&plain_plan, &judge_plan, sizeof judge_plan) == 0, "and so of the plan");
+    MAKE(attach, attach.accepted == 1 && attach.book.count == GUVRENDIK_LIMIT_ENTRIES, "the last place of the book is taken");
+    MAKE(fetch, fetch.accepted == 1 && fetch.fingerprint.bytes[0] == 7, "what was attached is fetched");
     MAKE(judge_plan_text,
          judge_plan_text.accepted == 1 && judge_plan_text.count == GUVRENDIK_LIMIT_TEXT_ACTIONS &&
              judge_plan_text.list[GUVRENDIK_LIMIT_TEXT_ACTIONS - 1].decision == GUVRENDIK_DECISION_PERMITTED,

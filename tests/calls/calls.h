@@ -183,16 +183,23 @@ static inline Plan followed(Plan p, Action a) {
 /* Prints the ids of the claims that stand. */
 void claim_ids(Register r);
 
+/* Print a verdict on an action with so many uses, and one on a plan. */
+void verdict_line(const char *label, guvrendik_verdict v, size_t used);
+void plan_verdict_line(const char *label, guvrendik_plan_verdict v);
+
 void soundness_lines(void);
 void change_lines(void);
 void order_lines(void);
 void gate_lines(void);
 void plan_lines(void);
+void plain_lines(void);
 void plan_text_lines(void);
 void word_lines(void);
 void version_lines(void);
 void text_lines(void);
 void twin_lines(void);
 void table_lines(void);
+void proposal_lines(void);
+void book_entries_lines(void);
 
 #endif

@@ -14,15 +14,21 @@
  * `inner by one and other` has human 3 read by a root on the one (0 hops) and a claim of 1 hop on the other, in that order. */
 #include "calls.h"
 
-static void ask(const char *label, Register r, Action a) {
+void verdict_line(const char *label, guvrendik_verdict v, size_t used) {
     static const char *const decisions[] = {"", "permitted", "refused", "stopped"};
-    guvrendik_verdict v = guvrendik_gate(r, a);
     printf("%s: %s", label, v.decision <= GUVRENDIK_DECISION_STOPPED ? decisions[v.decision] : "");
     if (v.decision == GUVRENDIK_DECISION_STOPPED) printf(" %u", (unsigned)v.refusal);
     for (size_t i = 0; i < v.count; i++) printf(" %u/%u", (unsigned)v.violations[i].kind, (unsigned)v.violations[i].value);
     printf(" hops");
-    for (size_t i = 0; i < a.used; i++) printf(" %zu", v.hops[i]);
+    for (size_t i = 0; i < used; i++) printf(" %zu", v.hops[i]);
     printf("\n");
+}
+
+/* The plain gate must answer the same (02, T-06). */
+static void ask(const char *label, Register r, Action a) {
+    guvrendik_verdict v = guvrendik_gate(r, a), plain = guvrendik_plain_gate(r, a);
+    verdict_line(label, v, a.used);
+    if (memcmp(&v, &plain, sizeof v) != 0) verdict_line("the plain gate differs", plain, a.used);
 }
 
 /* The base with the path of resource 10, on which human 1 holds a root, and a third resource of human 3. */

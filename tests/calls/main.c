@@ -7,9 +7,12 @@ int main(void) {
     order_lines();
     gate_lines();
     plan_lines();
+    plain_lines();
     plan_text_lines();
     word_lines();
     version_lines();
+    book_entries_lines();
+    proposal_lines();
     table_lines();
     text_lines();
     twin_lines();

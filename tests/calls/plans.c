@@ -7,11 +7,17 @@
  * would be cancelled can stop the plan; the first action decides, whichever of 2 and 3 it has. A line `n before m` has both faults. */
 #include "calls.h"
 
-static void ask(const char *label, Register r, Plan p) {
-    guvrendik_plan_verdict v = guvrendik_judge_plan(r, p);
+void plan_verdict_line(const char *label, guvrendik_plan_verdict v) {
     printf("%s: %u position=%zu verdicts", label, (unsigned)v.refusal, v.position);
     for (size_t i = 0; i < v.count; i++) printf(" %u/%u", (unsigned)v.list[i].decision, (unsigned)v.list[i].violations);
     printf("\n");
+}
+
+/* The plain gate must answer the same (02, T-06). */
+static void ask(const char *label, Register r, Plan p) {
+    guvrendik_plan_verdict v = guvrendik_judge_plan(r, p), plain = guvrendik_plain_plan(r, p);
+    plan_verdict_line(label, v);
+    if (memcmp(&v, &plain, sizeof v) != 0) plan_verdict_line("the plain gate differs", plain);
 }
 
 static void counts(void) {

@@ -11,7 +11,7 @@
 
 /* The calls, in the order of guvrendik.h. */
 #define EACH_TWIN(DO)                                                                                                                     \
-    DO(sound) DO(sound_table) DO(grant) DO(revoke) DO(clear_resource) DO(clear_expired) DO(gate) DO(judge_plan) DO(contains)              \
+    DO(sound) DO(sound_table) DO(grant) DO(revoke) DO(clear_resource) DO(clear_expired) DO(gate) DO(propose) DO(check_proposal) DO(judge_plan) DO(plain_gate) DO(plain_plan) DO(attach) DO(fetch) DO(contains)              \
     DO(read_register) DO(write_register) DO(read_action) DO(judge_plan_text) DO(verdict_text) DO(json_verdict_text)                       \
     DO(plan_verdict_text) DO(read_json) DO(write_json) DO(refusal_text) DO(violation_text) DO(right_name) DO(flag_name) DO(version)
 
@@ -61,7 +61,19 @@ TWIN(clear_resource, guvrendik_revoked, (guvrendik_register r, uint32_t caller, 
      resource)
 TWIN(clear_expired, guvrendik_revoked, (guvrendik_register r, uint32_t caller, uint64_t moment), (r, caller, moment), , &r, caller, moment)
 TWIN(gate, guvrendik_verdict, (guvrendik_register r, guvrendik_action a), (r, a), , &r, &a)
+TWIN(propose, guvrendik_proposed, (guvrendik_register r, uint32_t actor, guvrendik_usage usage, uint64_t moment, guvrendik_signers signers),
+     (r, actor, usage, moment, signers), , &r, actor, &usage, moment, &signers)
+TWIN(check_proposal, guvrendik_checked, (guvrendik_register r, uint32_t actor, guvrendik_usage usage, uint64_t moment,
+     guvrendik_signers signers, guvrendik_proposal proposal), (r, actor, usage, moment, signers, proposal), , &r, actor, &usage, moment,
+     &signers, &proposal)
 TWIN(judge_plan, guvrendik_plan_verdict, (guvrendik_register r, guvrendik_plan p), (r, p), , &r, &p)
+TWIN(plain_gate, guvrendik_verdict, (guvrendik_register r, guvrendik_action a), (r, a), , &r, &a)
+TWIN(plain_plan, guvrendik_plan_verdict, (guvrendik_register r, guvrendik_plan p), (r, p), , &r, &p)
+TWIN(attach, guvrendik_attached, (guvrendik_book book, guvrendik_register r, uint32_t actor, uint32_t resource, uint64_t moment,
+     guvrendik_fingerprint fingerprint), (book, r, actor, resource, moment, fingerprint), , &book, &r, actor, resource, moment,
+     &fingerprint)
+TWIN(fetch, guvrendik_fetched, (guvrendik_book book, guvrendik_register r, uint32_t actor, uint32_t resource, uint64_t moment), (book, r,
+     actor, resource, moment), , &book, &r, actor, resource, moment)
 TWIN(contains, guvrendik_containment, (const uint8_t *outer, size_t outer_len, const uint8_t *inner, size_t inner_len),
      (outer, outer_len, inner, inner_len), , outer, outer_len, inner, inner_len)
 TWIN(read_register, guvrendik_register_read, (const uint8_t *text, size_t text_len), (text, text_len), , text, text_len)
@@ -96,7 +108,13 @@ TWIN(version, guvrendik_version_numbers, (void), (), )
 #define guvrendik_clear_resource both_clear_resource
 #define guvrendik_clear_expired both_clear_expired
 #define guvrendik_gate both_gate
+#define guvrendik_propose both_propose
+#define guvrendik_check_proposal both_check_proposal
 #define guvrendik_judge_plan both_judge_plan
+#define guvrendik_plain_gate both_plain_gate
+#define guvrendik_plain_plan both_plain_plan
+#define guvrendik_attach both_attach
+#define guvrendik_fetch both_fetch
 #define guvrendik_contains both_contains
 #define guvrendik_read_register both_read_register
 #define guvrendik_write_register both_write_register

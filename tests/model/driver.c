@@ -45,6 +45,8 @@ enum {
     CLEAR_EXPIRED,
     PLAN_TEXT,
     SOUND_TABLE,
+    ATTACH,
+    FETCH,
     BOUNDARY,
     THREADS,
     STACK,
@@ -59,6 +61,7 @@ enum {
     WROTE_OUTSIDE = 2,  /* a byte beside the lent buffer changed */
     PLACES_DIFFER = 4,  /* the answers at the two placements are not the same */
     ERRNO_TOUCHED = 8,
+    PLAIN_DIFFERS = 16, /* the plain gate's answer is not the gate's */
 };
 
 static void fail(const char *what) {
@@ -303,14 +306,35 @@ static void do_clear_expired(payload *p) {
 static void do_gate(payload *p) {
     guvrendik_action action;
     take(p, &action, sizeof action);
-    guvrendik_verdict got = guvrendik_gate(current, action);
-    answer_marked(errno_mark(), &got, sizeof got);
+    guvrendik_verdict got[2] = {guvrendik_gate(current, action), guvrendik_plain_gate(current, action)};
+    uint32_t marks = memcmp(&got[0], &got[1], sizeof *got) == 0 ? 0 : PLAIN_DIFFERS;
+    answer_marked(marks | errno_mark(), got, sizeof got);
 }
 
 static void do_plan(payload *p) {
     guvrendik_plan plan;
     take(p, &plan, sizeof plan);
-    guvrendik_plan_verdict got = guvrendik_judge_plan(current, plan);
+    guvrendik_plan_verdict got[2] = {guvrendik_judge_plan(current, plan), guvrendik_plain_plan(current, plan)};
+    uint32_t marks = memcmp(&got[0], &got[1], sizeof *got) == 0 ? 0 : PLAIN_DIFFERS;
+    answer_marked(marks | errno_mark(), got, sizeof got);
+}
+
+static void do_attach(payload *p) {
+    guvrendik_book book;
+    guvrendik_fingerprint fingerprint;
+    take(p, &book, sizeof book);
+    uint32_t actor = take32(p), resource = take32(p);
+    uint64_t now = take64(p);
+    take(p, &fingerprint, sizeof fingerprint);
+    guvrendik_attached got = guvrendik_attach(book, current, actor, resource, now, fingerprint);
+    answer_marked(errno_mark(), &got, sizeof got);
+}
+
+static void do_fetch(payload *p) {
+    guvrendik_book book;
+    take(p, &book, sizeof book);
+    uint32_t actor = take32(p), resource = take32(p);
+    guvrendik_fetched got = guvrendik_fetch(book, current, actor, resource, take64(p));
     answer_marked(errno_mark(), &got, sizeof got);
 }
 
@@ -927,6 +951,7 @@ typedef struct {
     guvrendik_action a;
     guvrendik_plan p;
     guvrendik_claim c;
+    guvrendik_book book;
     uint64_t now;
     uint32_t revoker, claim;
     uint32_t keeper, resource;
@@ -956,7 +981,11 @@ typedef struct {
     guvrendik_revoked cleared;
     guvrendik_revoked renewed;
     guvrendik_plan_text_verdict plan_judged;
+    guvrendik_verdict plain;
+    guvrendik_plan_verdict plainly;
     guvrendik_soundness table;
+    guvrendik_attached attached;
+    guvrendik_fetched fetched;
     uint8_t text[GUVRENDIK_TEXT_REGISTER];
     uint8_t lines[GUVRENDIK_TEXT_VERDICT];
     uint8_t page[GUVRENDIK_TEXT_JSON];
@@ -988,9 +1017,14 @@ static void take_input(payload *p, input *in) {
     in->action_len = take_text(p, in->action_text, sizeof in->action_text);
     in->json_len = take_text(p, in->json_text, sizeof in->json_text);
     in->plan_len = take_text(p, in->plan_text, sizeof in->plan_text);
+    /* A full book, with an entry of what the action first uses as its last. */
+    memset(&in->book, 0xA7, sizeof in->book);
+    in->book.count = GUVRENDIK_LIMIT_ENTRIES;
+    for (uint32_t i = 0; i < GUVRENDIK_LIMIT_ENTRIES; i++) in->book.entries[i].resource = 70000 + i;
+    in->book.entries[GUVRENDIK_LIMIT_ENTRIES - 1].resource = in->a.uses[0].resource;
 }
 
-enum { CALLS = 16 };
+enum { CALLS = 20 };
 
 /* Where each call leaves its answer: a struct, and a text where it writes one. */
 static const struct {
@@ -1005,6 +1039,8 @@ static const struct {
     {PART(json), 0, 0},         {PART(json_written), PART(page)},
     {PART(cleared), 0, 0},      {PART(renewed), 0, 0},
     {PART(plan_judged), 0, 0},  {PART(table), 0, 0},
+    {PART(plain), 0, 0},        {PART(plainly), 0, 0},
+    {PART(attached), 0, 0},     {PART(fetched), 0, 0},
 #undef PART
 };
 
@@ -1055,6 +1091,16 @@ static void make_call(size_t call, const input *in, const answers *known, answer
         break;
     case 15:
         out->table = guvrendik_sound_table(in->r.claims.list, in->r.claims.count, in->r.version, in->r.actors, in->r.resources);
+        break;
+    case 16: out->plain = guvrendik_plain_gate(in->r, in->a); break;
+    case 17:
+        out->plainly = guvrendik_plain_plan(in->r, in->p);
+        break;
+    case 18:
+        out->attached = guvrendik_attach(in->book, in->r, in->a.actor, in->a.uses[0].resource, in->a.now, in->book.entries[0].fingerprint);
+        break;
+    case 19:
+        out->fetched = guvrendik_fetch(in->book, in->r, in->a.actor, in->a.uses[0].resource, in->a.now);
         break;
     }
 }
@@ -1163,6 +1209,17 @@ static void stack_judge_plan(void) { stack_answers.judged = guvrendik_judge_plan
 static void stack_judge_plan_text(void) {
     stack_answers.plan_judged = guvrendik_judge_plan_text(stack_input.r, stack_input.plan_text, stack_input.plan_len);
 }
+static void stack_plain_gate(void) { stack_answers.plain = guvrendik_plain_gate(stack_input.r, stack_input.a); }
+static void stack_plain_plan(void) { stack_answers.plainly = guvrendik_plain_plan(stack_input.r, stack_input.p); }
+static void stack_attach(void) {
+    const guvrendik_action *a = &stack_input.a;
+    stack_answers.attached = guvrendik_attach(stack_input.book, stack_input.r, a->actor, a->uses[0].resource, a->now,
+                                              stack_input.book.entries[0].fingerprint);
+}
+static void stack_fetch(void) {
+    const guvrendik_action *a = &stack_input.a;
+    stack_answers.fetched = guvrendik_fetch(stack_input.book, stack_input.r, a->actor, a->uses[0].resource, a->now);
+}
 static void stack_contains(void) {
     const guvrendik_resource *one = &stack_input.r.resources.list[0], *two = &stack_input.r.resources.list[1];
     stack_answers.contained = guvrendik_contains(one->path, one->len, two->path, two->len);
@@ -1222,7 +1279,7 @@ static void do_stack(payload *p) {
         stack_sound,    stack_grant,          stack_revoke,        stack_gate,        stack_judge_plan,
         stack_contains, stack_write_register, stack_read_register, stack_read_action, stack_verdict_text,
         stack_read_json, stack_write_json,    stack_clear_resource, stack_clear_expired, stack_judge_plan_text,
-        stack_sound_table,
+        stack_sound_table, stack_plain_gate, stack_plain_plan, stack_attach, stack_fetch,
     };
     take_input(p, &stack_input);
     uint64_t idle = stack_of(no_call), used[CALLS];
@@ -1354,6 +1411,8 @@ int main(void) {
         case CLEAR_EXPIRED: do_clear_expired(&p); break;
         case PLAN_TEXT: do_plan_text(&p); break;
         case SOUND_TABLE: do_sound_table(&p); break;
+        case ATTACH: do_attach(&p); break;
+        case FETCH: do_fetch(&p); break;
         case BOUNDARY: do_boundary(&p); break;
         case THREADS: do_threads(&p); break;
         case STACK: do_stack(&p); break;

@@ -19,6 +19,7 @@ use Rattle.actions.specs.declared.Verdict.{Verdict}
 use Rattle.actions.specs.declared.Judgement.{Judgement}
 use Rattle.actions.specs.declared.PlanVerdict.{PlanVerdict}
 use Rattle.proposals.specs.Proposals.{checkedNumber}
+use Rattle.proposals.specs.declared.Proposed.{Proposed}
 use Rattle.proposals.specs.declared.Checked.{Checked}
 use Rattle.proposals.specs.declared.Checked.the-variants.{Passes, Fails, Stopped as Halted}
 use Rattle.text_rules.specs.declared.RegisterRead.{RegisterRead}
@@ -27,10 +28,13 @@ use Rattle.buffers.specs.declared.Written.{Written}
 use Rattle.json_rules.specs.declared.JsonRead.{JsonRead}
 use Rattle.steps.specs.Steps.{textActionLimit}
 use Rattle.steps.specs.declared.PlanTextVerdict.{PlanTextVerdict}
+use Rattle.fingerprints.specs.declared.Attached.{Attached}
+use Rattle.fingerprints.specs.declared.Fetched.{Fetched}
 use Rattle.answers.specs.declared.Containment.{Containment}
 use Rattle.answers.specs.declared.Soundness.{Soundness}
 use Rattle.answers.specs.declared.GrantAnswer.{GrantAnswer}
 use Rattle.answers.specs.declared.RevokeAnswer.{RevokeAnswer}
+use Rattle.answers.specs.declared.ProposalAnswer.{ProposalAnswer}
 use Rattle.answers.specs.declared.CheckAnswer.{CheckAnswer}
 use Rattle.answers.specs.declared.ViolationNumbers.{ViolationNumbers}
 use Rattle.answers.specs.declared.GateAnswer.{GateAnswer}
@@ -41,6 +45,8 @@ use Rattle.answers.specs.declared.RegisterAnswer.{RegisterAnswer}
 use Rattle.answers.specs.declared.ActionAnswer.{ActionAnswer}
 use Rattle.answers.specs.declared.WrittenAnswer.{WrittenAnswer}
 use Rattle.answers.specs.declared.JsonAnswer.{JsonAnswer}
+use Rattle.answers.specs.declared.AttachAnswer.{AttachAnswer}
+use Rattle.answers.specs.declared.FetchAnswer.{FetchAnswer}
 use Rattle.answers.specs.declared.VersionNumbers.{VersionNumbers}
 
 -- a yes is 1 and a no is 0
@@ -84,6 +90,10 @@ revokeAnswer g = record {
   refusal = refusalNumber (g .outcome);
   removed = g .removed;
 }
+
+-- the planner: its proposal, of zeros where there is none, beside the outcome
+abbrev pub proposalAnswer : Proposed → ProposalAnswer
+proposalAnswer p = record { proposal = p .proposal; accepted = acceptedNumber (p .outcome); refusal = refusalNumber (p .outcome) }
 
 -- the check of a proposal: the number of its answer, and 01's number of the refusal that stopped it, 0 where none did
 abbrev pub checkAnswer : Checked → CheckAnswer
@@ -197,6 +207,18 @@ jsonAnswer r = record {
   id = r .id;
 }
 
+-- an attach: the book as it leaves it, beside its outcome
+abbrev pub attachAnswer : Attached → AttachAnswer
+attachAnswer a = record { book = a .book; accepted = acceptedNumber (a .outcome); refusal = refusalNumber (a .outcome) }
+
+-- a fetch: the fingerprint beside its outcome
+abbrev pub fetchAnswer : Fetched → FetchAnswer
+fetchAnswer f = record {
+  fingerprint = record { bytes = f .fingerprint };
+  accepted = acceptedNumber (f .outcome);
+  refusal = refusalNumber (f .outcome);
+}
+
 -- the version of the calls, as the header has it
 abbrev pub versionNumbers : VersionNumbers
-versionNumbers = record { major = 3; minor = 1; patch = 0 }
+versionNumbers = record { major = 3; minor = 4; patch = 0 }

@@ -24,6 +24,10 @@ use Rattle.text_rules.specs.declared.RegisterRead.{RegisterRead}
 use Rattle.text_rules.specs.declared.ActionRead.{ActionRead}
 use Rattle.json_rules.specs.declared.JsonRead.{JsonRead}
 use Rattle.steps.specs.declared.PlanTextVerdict.{PlanTextVerdict}
+use Rattle.fingerprints.specs.declared.Attached.{Attached}
+use Rattle.fingerprints.specs.declared.Fetched.{Fetched}
+use Rattle.answers.specs.declared.AttachAnswer.{AttachAnswer}
+use Rattle.answers.specs.declared.FetchAnswer.{FetchAnswer}
 use Rattle.answers.specs.declared.GrantAnswer.{GrantAnswer}
 use Rattle.answers.specs.declared.RevokeAnswer.{RevokeAnswer}
 use Rattle.answers.specs.declared.ViolationNumbers.{ViolationNumbers}
@@ -34,7 +38,7 @@ use Rattle.answers.specs.declared.PlanTextAnswer.{PlanTextAnswer}
 use Rattle.answers.specs.declared.RegisterAnswer.{RegisterAnswer}
 use Rattle.answers.specs.declared.ActionAnswer.{ActionAnswer}
 use Rattle.answers.specs.declared.JsonAnswer.{JsonAnswer}
-use Rattle.answers.specs.Answers.{containment, yesNumber, acceptedNumber, refusalNumber, grantAnswer, revokeAnswer, decisionNumber, stopNumber, violationList, gateAnswer, judgementList, planAnswer, textJudgementList, planTextAnswer, registerAnswer, actionAnswer, jsonAnswer}
+use Rattle.answers.specs.Answers.{containment, yesNumber, acceptedNumber, refusalNumber, grantAnswer, revokeAnswer, decisionNumber, stopNumber, violationList, gateAnswer, judgementList, planAnswer, textJudgementList, planTextAnswer, registerAnswer, actionAnswer, jsonAnswer, attachAnswer, fetchAnswer}
 use Rattle.answers.specs.declared.Containment.{Containment}
 
 -- the same by the one answer that tells both
@@ -108,3 +112,11 @@ action-told same accepted refused = rw (sym same, accepted, refused)
 pub json-told : {g h : JsonRead} {a n : ℕ} → g ≡ h → a ≡ acceptedNumber (g .outcome) → n ≡ refusalNumber (g .outcome)
     → _≡_ {A = JsonAnswer} (record { action = g .action; accepted = a; refusal = n; kind = g .kind; len = g .len; id = g .id }) (jsonAnswer h)
 json-told same accepted refused = rw (sym same, accepted, refused)
+
+pub attach-told : {g h : Attached} {a n : ℕ} → g ≡ h → a ≡ acceptedNumber (g .outcome) → n ≡ refusalNumber (g .outcome)
+    → _≡_ {A = AttachAnswer} (record { book = g .book; accepted = a; refusal = n }) (attachAnswer h)
+attach-told same accepted refused = rw (sym same, accepted, refused)
+
+pub fetch-told : {g h : Fetched} {a n : ℕ} → g ≡ h → a ≡ acceptedNumber (g .outcome) → n ≡ refusalNumber (g .outcome)
+    → _≡_ {A = FetchAnswer} (record { fingerprint = record { bytes = g .fingerprint }; accepted = a; refusal = n }) (fetchAnswer h)
+fetch-told same accepted refused = rw (sym same, accepted, refused)

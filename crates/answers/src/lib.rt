@@ -2,7 +2,7 @@
 // They have no bytes between or behind their fields. Here is what gives the numbers of an inner
 // answer. No call asks anything of its caller, and no answer whose numbers are all zero is a yes.
 ghost use mathlib.Core.Path.{_≡_};
-ghost use Rattle.answers.specs.Answers.{yesNumber, acceptedNumber, refusalNumber, checkAnswer, decisionNumber, stopNumber, violationNumbers, violationList, judgementNumbers, judgementList, textJudgementList, writtenAnswer, versionNumbers};
+ghost use Rattle.answers.specs.Answers.{yesNumber, acceptedNumber, refusalNumber, proposalAnswer, checkAnswer, decisionNumber, stopNumber, violationNumbers, violationList, judgementNumbers, judgementList, textJudgementList, writtenAnswer, versionNumbers};
 ghost use Rattle.answers.specs.Laws.{containmentOf, grantedAnswer, withdrawnAnswer};
 use actions::Action;
 use actions::Decision;
@@ -12,9 +12,13 @@ use actions::PlanVerdict;
 use actions::Violation;
 use actions::Violations;
 use buffers::Written;
+use fingerprints::Book;
+use fingerprints::Entry;
 use json_rules::ID_BYTES;
 use paths::Reach;
 use proposals::Checked;
+use proposals::Proposal;
+use proposals::Proposed;
 use refusals::Outcome;
 use register::Actors;
 use register::Claim;
@@ -76,6 +80,14 @@ pub struct GateAnswer {
     pub violations: [ViolationNumbers; Violations::MOST],
     pub count: usize,
     pub hops: [usize; Action::USES],
+}
+
+// The answer of the planner: accepted is 1, with a proposal. Else it is 0, with 01's number and a proposal of zeros, which is of neither kind.
+#[repr(C)]
+pub struct ProposalAnswer {
+    pub proposal: Proposal,
+    pub accepted: u32,
+    pub refusal: u32,
 }
 
 // The answer of the check of a proposal: 1 where it passes, 2 where it does not, 3 where a test stopped the call, with 01's number.
@@ -155,6 +167,28 @@ pub struct WrittenAnswer {
     pub length: usize,
 }
 
+// A fingerprint by itself: C passes no array by value.
+#[repr(C)]
+pub struct Fingerprint {
+    pub bytes: [u8; Entry::BYTES],
+}
+
+// The answer of an attach: accepted is 1, with the entry in the book. Else it is 0, with 02's number and the book as it came.
+#[repr(C)]
+pub struct AttachAnswer {
+    pub book: Book,
+    pub accepted: u32,
+    pub refusal: u32,
+}
+
+// The answer of a fetch: accepted is 1, with the fingerprint. Else it is 0, with 02's number and 32 zeros.
+#[repr(C)]
+pub struct FetchAnswer {
+    pub fingerprint: Fingerprint,
+    pub accepted: u32,
+    pub refusal: u32,
+}
+
 // The version of the calls: another first number where a caller must be changed or compiled anew, another second one where a call is new.
 #[repr(C)]
 pub struct VersionNumbers {
@@ -169,7 +203,7 @@ pub fn version() -> VersionNumbers
 {
     VersionNumbers {
         major: 3,
-        minor: 1,
+        minor: 4,
         patch: 0,
     }
 }
@@ -214,6 +248,19 @@ pub fn refusal(o: Outcome) -> u32
     match o {
         Outcome::Accepted => 0,
         Outcome::Refused(why) => refusals::number(why),
+    }
+}
+
+// What the planner answers, as numbers.
+pub fn proposed(p: Proposed) -> ProposalAnswer
+    ensures { λ y. ⌜ y ≡ proposalAnswer p ⌝ }
+{
+    let outcome = p.outcome;
+    let proposal = p.proposal;
+    ProposalAnswer {
+        proposal,
+        accepted: accepted(outcome),
+        refusal: refusal(outcome),
     }
 }
 

@@ -18,7 +18,7 @@ use Rattle.granting.specs.Settled.{grantOutcome}
 use Rattle.actions.specs.Actions.{oneUse, isPermitted}
 use Rattle.actions.specs.declared.Usage.{Usage}
 use Rattle.actions.specs.declared.Action.{Action}
-use Rattle.actions.specs.declared.Verdict.{Verdict}
+use Rattle.actions.specs.declared.Decision.{Decision}
 use Rattle.gate_rules.specs.Gate.{gated}
 use Rattle.proposals.specs.Proposals.{noGrantKind, grantKind, signersOf, permits, ofForm, helping, passing, passingGrant}
 use Rattle.proposals.specs.declared.Signers.{Signers}
@@ -44,10 +44,10 @@ module _ (x : ℕ) (u : Usage) (s : Signers) (c : Claim) where
   grantor-decides held on single =
       simp (eq-eqb (c .holder) x held, eq-eqb (c .resource) (u .resource) on, eq-eqb (c .rights) (worthOf (u .right)) single, and-true)
 
--- whether the gate permits, by its verdict
-pub permits-by : (r : Register) (a : Action) (v : Verdict) → v ≡ gated r a → isPermitted (v .decision) ≡ permits r a
+-- whether the gate permits, by its decision
+pub permits-by : (r : Register) (a : Action) (d : Decision) → d ≡ gated r a .decision → isPermitted d ≡ permits r a
 unfolding permits
-permits-by r a v e = ap (λ w. isPermitted (w .decision)) e
+permits-by r a d e = ap isPermitted e
 
 taken : (r : Register) (c : Claim) (moment : ℕ) → grantOutcome r c moment .outcome ≡ Accepted → isAccepted (granted r c moment .outcome) ≡ true
 unfolding granted grantOutcome

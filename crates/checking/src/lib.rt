@@ -10,6 +10,7 @@ ghost use Rattle.refusals.specs.declared.Refusal.the-variants.{Range};
 ghost use Rattle.refusals.specs.declared.Outcome.the-variants.{Refused};
 ghost use Rattle.change_rules.specs.Changes.{appended};
 ghost use Rattle.actions.specs.Actions.{isPermitted};
+ghost use Rattle.gate_rules.specs.Gate.{gated};
 ghost use Rattle.proposals.specs.Proposals.{noGrantKind, grantKind, permits, ofForm, helping, passingGrant, checked};
 ghost use Rattle.checking.specs.Asked.{askedBy};
 ghost use Rattle.proposals.specs.declared.Checked.the-variants.{Passes, Fails};
@@ -55,6 +56,19 @@ fn asked(decided: Decision, inside: bool) -> Outcome
     }
 }
 
+// What the gate decides. It opens the register itself, so that the exported gate stays the one caller of `gate::gate` and keeps it in its own frame.
+fn decide(r: Register, a: Action) -> Decision
+    ensures { λ y. ⌜ y ≡ gated r a .decision ⌝ }
+{
+    let actors = r.actors;
+    let o = r.resources;
+    let k = r.claims;
+    let mut sheet = [0u32; columns::SHEET];
+    let found = soundness::examine(&mut sheet, r.version, actors, o, k);
+    let verdict = gate::gate_by(r, &sheet, found, a);
+    verdict.decision
+}
+
 // Whether a decision permits.
 fn is_permitted(d: Decision) -> bool
     ensures { λ y. ⌜ y ≡ isPermitted d ⌝ }
@@ -70,9 +84,7 @@ fn is_permitted(d: Decision) -> bool
 fn permitted(r: Register, a: Action) -> bool
     ensures { λ y. ⌜ y ≡ permits r a ⌝ }
 {
-    let verdict = gate::gate(r, a);
-    let decided = verdict.decision;
-    is_permitted(decided)
+    is_permitted(decide(r, a))
 }
 
 // Whether a claim is to the actor, of that single right on that resource, by one of the signers.
@@ -166,8 +178,7 @@ fn told(passes: bool) -> Checked
 pub fn check(r: Register, x: u32, u: Usage, moment: u64, s: Signers, p: Proposal) -> Checked
     ensures { λ y. ⌜ y ≡ checked r x u moment s p ⌝ }
 {
-    let verdict = gate::gate(r, actions::one_use(x, u, moment));
-    let decided = verdict.decision;
+    let decided = decide(r, actions::one_use(x, u, moment));
     let outcome = asked(decided, proposals::asks_fit(u, moment, s));
     match outcome {
         Outcome::Refused(why) => Checked::Stopped(why),

@@ -112,15 +112,17 @@ fn compose(buf: &mut [u8], register: &[u8], plan: &[u8]) -> usize
     ensures written { λ _. ⌜ now (buf .exit) ≡ splice 0 (planPrinted (now (register .entry)) (now (plan .entry))) (now (buf .entry)) ⌝ }
     ensures within { λ r. ⌜ r ≤ planPrintedLimit ⌝ }
 {
-    let read = register_reading::read_register(register);
-    let outcome = read.outcome;
-    match outcome {
-        Outcome::Accepted => {
-            let state = read.register;
-            put_answer(buf, nested_plans::plan_text(state, plan))
-        }
-        Outcome::Refused(why) => put_stopped(buf, why),
+    let form = register_reading::read_form(register);
+    let cursor = form.cursor;
+    if !lines::goes_on(register, cursor) {
+        let why = cursor.refusal;
+        return put_stopped(buf, why);
     }
+    let state = form.register;
+    if !soundness::is_sound(state) {
+        return put_stopped(buf, Refusal::Unsound);
+    }
+    put_answer(buf, nested_plans::plan_text(state, plan))
 }
 
 // The lines that the program prints of the two texts.

@@ -8,7 +8,7 @@ ghost use Rattle.soundness.specs.Judged.{findingsBy};
 ghost use Rattle.change_rules.specs.Changes.{granted, revoke, clearResource, clearExpired, withdrawn};
 ghost use Rattle.gate_rules.specs.Gate.{gated};
 ghost use Rattle.gate_rules.specs.Plans.{planned};
-ghost use Rattle.proposals.specs.Proposals.{checked as proposalChecked};
+ghost use Rattle.proposals.specs.Proposals.{proposed, checked as proposalChecked};
 ghost use Rattle.steps.specs.Judging.{planTextJudged};
 ghost use Rattle.text_rules.specs.Registers.{registerRead};
 ghost use Rattle.text_rules.specs.Actions.{actionRead};
@@ -18,24 +18,30 @@ ghost use Rattle.buffers.specs.Delivery.{delivered};
 ghost use Rattle.verdict_printing.specs.Printed.{printed, jsonPrinted};
 ghost use Rattle.plan_verdict_text.specs.PlanPrinted.{planPrinted};
 ghost use Rattle.json_rules.specs.Actions.{jsonRead, jsonWritten, jsonBuffer};
-ghost use Rattle.answers.specs.Answers.{containment, soundness, grantAnswer, revokeAnswer, checkAnswer, gateAnswer, planAnswer, planTextAnswer, registerAnswer, actionAnswer, writtenAnswer, jsonAnswer, versionNumbers};
+ghost use Rattle.fingerprints.specs.Fingerprints.{attached, fetched};
+ghost use Rattle.answers.specs.Answers.{containment, soundness, grantAnswer, revokeAnswer, proposalAnswer, checkAnswer, gateAnswer, planAnswer, planTextAnswer, registerAnswer, actionAnswer, writtenAnswer, jsonAnswer, attachAnswer, fetchAnswer, versionNumbers};
 ghost use Rattle.words.specs.Words.{refusalText, violationText, rightName, flagName};
 use actions::Action;
 use actions::Plan;
 use actions::Usage;
 use answers::ActionAnswer;
+use answers::AttachAnswer;
 use answers::CheckAnswer;
 use answers::Containment;
+use answers::FetchAnswer;
+use answers::Fingerprint;
 use answers::GateAnswer;
 use answers::GrantAnswer;
 use answers::JsonAnswer;
 use answers::PlanAnswer;
 use answers::PlanTextAnswer;
+use answers::ProposalAnswer;
 use answers::RegisterAnswer;
 use answers::RevokeAnswer;
 use answers::Soundness;
 use answers::VersionNumbers;
 use answers::WrittenAnswer;
+use fingerprints::Book;
 use proposals::Proposal;
 use proposals::Signers;
 use register::Actors;
@@ -131,6 +137,20 @@ pub extern "C" fn guvrendik_clear_expired(r: Register, caller: u32, moment: u64)
     answers::withdrawn(r, struck)
 }
 
+// Whose signature is missing: no grant, or one grant by one of the signers, that has the one use permitted.
+#[no_mangle]
+pub extern "C" fn guvrendik_propose(
+    r: Register,
+    actor: u32,
+    usage: Usage,
+    moment: u64,
+    signers: Signers,
+) -> ProposalAnswer
+    ensures { λ y. ⌜ y ≡ proposalAnswer (proposed r actor usage moment signers) ⌝ }
+{
+    answers::proposed(proposing::propose(r, actor, usage, moment, signers))
+}
+
 // Whether a proposal, whoever made it, would have the one use permitted.
 #[no_mangle]
 pub extern "C" fn guvrendik_check_proposal(
@@ -170,6 +190,40 @@ pub extern "C" fn guvrendik_judge_plan(r: Register, p: Plan) -> PlanAnswer
     ensures { λ y. ⌜ y ≡ planAnswer (planned r p) ⌝ }
 {
     let verdict = plans::plan(r, p);
+    let outcome = verdict.outcome;
+    PlanAnswer {
+        accepted: answers::accepted(outcome),
+        refusal: answers::refusal(outcome),
+        position: verdict.position,
+        list: answers::judgements(verdict),
+        count: verdict.count,
+    }
+}
+
+// The plain gate for an action: the gate's answer, by a table filled claim by claim.
+#[no_mangle]
+pub extern "C" fn guvrendik_plain_gate(r: Register, a: Action) -> GateAnswer
+    ensures { λ y. ⌜ y ≡ gateAnswer (gated r a) ⌝ }
+{
+    let verdict = plain_gate::gate(r, a);
+    let decided = verdict.decision;
+    let violated = verdict.violations;
+    let hops = verdict.hops;
+    GateAnswer {
+        decision: answers::decision(decided),
+        refusal: answers::stop(decided),
+        violations: answers::violations(violated),
+        count: violated.count,
+        hops,
+    }
+}
+
+// The plain gate for a plan.
+#[no_mangle]
+pub extern "C" fn guvrendik_plain_plan(r: Register, p: Plan) -> PlanAnswer
+    ensures { λ y. ⌜ y ≡ planAnswer (planned r p) ⌝ }
+{
+    let verdict = plain_gate::plan(r, p);
     let outcome = verdict.outcome;
     PlanAnswer {
         accepted: answers::accepted(outcome),
@@ -309,6 +363,50 @@ pub extern "C" fn guvrendik_write_json(
     ensures buffer { λ _. ⌜ now (buffer .exit) ≡ jsonBuffer a (now (id .entry)) kind (now (buffer .entry)) ⌝ }
 {
     answers::written(json_writing::write_json(a, id, kind, buffer))
+}
+
+// Attaches a fingerprint to the resource's number.
+#[no_mangle]
+pub extern "C" fn guvrendik_attach(
+    book: Book,
+    r: Register,
+    actor: u32,
+    resource: u32,
+    moment: u64,
+    fingerprint: Fingerprint,
+) -> AttachAnswer
+    ensures { λ y. ⌜ y ≡ attachAnswer (attached book r actor resource moment (fingerprint .bytes)) ⌝ }
+{
+    let bytes = fingerprint.bytes;
+    let answer = attaching::attach(book, r, actor, resource, moment, bytes);
+    let kept = answer.book;
+    let outcome = answer.outcome;
+    AttachAnswer {
+        book: kept,
+        accepted: answers::accepted(outcome),
+        refusal: answers::refusal(outcome),
+    }
+}
+
+// Fetches the fingerprint of the resource's number.
+#[no_mangle]
+pub extern "C" fn guvrendik_fetch(
+    book: Book,
+    r: Register,
+    actor: u32,
+    resource: u32,
+    moment: u64,
+) -> FetchAnswer
+    ensures { λ y. ⌜ y ≡ fetchAnswer (fetched book r actor resource moment) ⌝ }
+{
+    let answer = attaching::fetch(book, r, actor, resource, moment);
+    let bytes = answer.fingerprint;
+    let outcome = answer.outcome;
+    FetchAnswer {
+        fingerprint: Fingerprint { bytes },
+        accepted: answers::accepted(outcome),
+        refusal: answers::refusal(outcome),
+    }
 }
 
 // Puts what a refusal's number says into the buffer.

@@ -65,6 +65,20 @@ pub enum Call {
         room: usize,
         fill: u8,
     },
+    /// The book comes with the call: the generator hands it on from one to the next.
+    Attach {
+        book: Box<Book>,
+        actor: u32,
+        resource: u32,
+        now: u64,
+        fingerprint: Fingerprint,
+    },
+    Fetch {
+        book: Box<Book>,
+        actor: u32,
+        resource: u32,
+        now: u64,
+    },
 }
 
 /// Calls in order, on a register where one is given.
@@ -74,7 +88,7 @@ pub struct Script {
     pub calls: Vec<Call>,
 }
 
-pub const CALLS: usize = 16;
+pub const CALLS: usize = 18;
 
 /// The calls that withdraw claims, by `Call::number`.
 pub const WITHDRAWALS: [usize; 3] = [2, 12, 13];
@@ -103,6 +117,8 @@ pub const NAMES: [(&str, &[Outcome]); CALLS] = [
         &[1, 3, 19, 20, 22, 23, judgement(0), judgement(PERMITTED), judgement(REFUSED), judgement(CANCELLED)],
     ),
     ("sound_table", &[YES, NO]),
+    ("attach", &[YES, 1, 30, 2, 3, 27, 29]),
+    ("fetch", &[YES, 1, 30, 2, 3, 27, 28]),
 ];
 
 /// What an answer comes to: a refusal's number, or one of those below.
@@ -171,6 +187,8 @@ impl Call {
             Call::ClearExpired { .. } => 13,
             Call::PlanText(_) => 14,
             Call::SoundTable(_) => 15,
+            Call::Attach { .. } => 16,
+            Call::Fetch { .. } => 17,
         }
     }
 
@@ -229,6 +247,17 @@ impl Call {
                 [id.len(), *room].put(out);
                 out.extend_from_slice(id);
             }),
+            Call::Attach { book, actor, resource, now, fingerprint } => put_request(out, Request::Attach, |out| {
+                book.put(out);
+                [*actor, *resource].put(out);
+                now.put(out);
+                fingerprint.put(out);
+            }),
+            Call::Fetch { book, actor, resource, now } => put_request(out, Request::Fetch, |out| {
+                book.put(out);
+                [*actor, *resource].put(out);
+                now.put(out);
+            }),
         }
     }
 
@@ -238,13 +267,15 @@ impl Call {
                 Call::Sound | Call::SoundTable(_) => size_of::<Soundness>(),
                 Call::Grant { .. } => size_of::<Granted>(),
                 Call::Revoke { .. } | Call::ClearResource { .. } | Call::ClearExpired { .. } => size_of::<Revoked>(),
-                Call::Gate(_) => size_of::<Verdict>(),
-                Call::Plan(_) => size_of::<PlanVerdict>(),
+                Call::Gate(_) => 2 * size_of::<Verdict>(),
+                Call::Plan(_) => 2 * size_of::<PlanVerdict>(),
                 Call::PlanText(_) => size_of::<PlanTextVerdict>(),
                 Call::Contains { .. } => size_of::<Containment>(),
                 Call::ReadRegister(_) => size_of::<RegisterRead>(),
                 Call::ReadAction(_) => size_of::<ActionRead>(),
                 Call::ReadJson { .. } => size_of::<JsonRead>(),
+                Call::Attach { .. } => size_of::<Attached>(),
+                Call::Fetch { .. } => size_of::<Fetched>(),
                 Call::WriteRegister { room, .. } | Call::VerdictText { room, .. } | Call::WriteJson { room, .. } => {
                     size_of::<Written>() + room
                 }
@@ -296,6 +327,7 @@ impl Call {
             Call::Gate(action) => {
                 let verdict = model.gate(state, action);
                 verdict.put(out);
+                model.plain_gate(state, action).put(out);
                 match verdict.decision {
                     PERMITTED => YES,
                     REFUSED => violation(verdict.violations[0].kind),
@@ -305,6 +337,7 @@ impl Call {
             Call::Plan(plan) => {
                 let verdict = model.judge_plan(state, plan);
                 verdict.put(out);
+                model.plain_plan(state, plan).put(out);
                 planned(verdict.accepted, verdict.refusal, &verdict.list, verdict.count)
             }
             Call::PlanText(text) => {
@@ -341,6 +374,18 @@ impl Call {
             Call::WriteJson { action, id, kind, room, fill } => {
                 put_text(*room, *fill, out, |buffer| model.write_json(action, id, *kind, buffer))
             }
+            Call::Attach { book, actor, resource, now, fingerprint } => {
+                let mut book = book.clone();
+                let result = model.attach(&mut book, state, *actor, *resource, *now, *fingerprint);
+                book.put(out);
+                put_result(result, out);
+                outcome(result)
+            }
+            Call::Fetch { book, actor, resource, now } => {
+                let fetched = model.fetch(book, state, *actor, *resource, *now);
+                fetched.put(out);
+                fetched.refusal
+            }
         }
     }
 
@@ -365,13 +410,15 @@ impl Call {
             Call::Revoke { .. } | Call::ClearResource { .. } | Call::ClearExpired { .. } => {
                 fields(&Revoked::take(from))
             }
-            Call::Gate(_) => fields(&Verdict::take(from)),
-            Call::Plan(_) => fields(&PlanVerdict::take(from)),
+            Call::Gate(_) => both("plain", fields(&Verdict::take(from)), fields(&Verdict::take(from))),
+            Call::Plan(_) => both("plain", fields(&PlanVerdict::take(from)), fields(&PlanVerdict::take(from))),
             Call::PlanText(_) => fields(&PlanTextVerdict::take(from)),
             Call::Contains { .. } => fields(&Containment::take(from)),
             Call::ReadRegister(_) => fields(&RegisterRead::take(from)),
             Call::ReadAction(_) => fields(&ActionRead::take(from)),
             Call::ReadJson { .. } => fields(&JsonRead::take(from)),
+            Call::Attach { .. } => fields(&Attached::take(from)),
+            Call::Fetch { .. } => fields(&Fetched::take(from)),
             Call::WriteRegister { .. } | Call::VerdictText { .. } | Call::WriteJson { .. } => {
                 fields(&Written::take(from))
             }
@@ -380,6 +427,12 @@ impl Call {
         fields.extend(from.iter().enumerate().map(|(at, byte)| (format!("buffer[{at}]"), byte.to_string())));
         fields
     }
+}
+
+/// The fields of two answers, those of the second under a name.
+fn both(name: &str, mut first: Vec<(String, String)>, second: Vec<(String, String)>) -> Vec<(String, String)> {
+    first.extend(second.into_iter().map(|(field, value)| (format!("{name}.{field}"), value)));
+    first
 }
 
 fn yes_or_no(answer: bool) -> Outcome {

@@ -4,6 +4,7 @@ use crate::case::{outcome_name, Call, Outcome, Script, CALLS, KINDS, NAMES, WITH
 use crate::driver::Driver;
 use crate::generate::random::Random;
 use crate::generate::{actions, changes, json, registers, texts, trees};
+use crate::guesses::Guess;
 use crate::pairs::{Answers, Pair, DEMANDED};
 use crate::{saved, shrink};
 use guvrendik_model::model::words::Words;
@@ -51,6 +52,9 @@ pub struct Tally {
     pub pairs_on_one_chain: u64,
     /// How often a call of a pair had these outcomes, when it came first and when it came second.
     pub pair_outcomes: BTreeMap<(Outcome, Outcome), u64>,
+    /// How many registers were alike to an action's actor, and how many of these had a used number whose record differs.
+    pub alike: u64,
+    pub aimed: u64,
     /// How many calls were made on a register of each version; and of the grants among them, how often each outcome was met.
     pub versions: BTreeMap<u64, u64>,
     pub grants: BTreeMap<(u64, Outcome), u64>,
@@ -246,6 +250,33 @@ impl<'c> Comparison<'c> {
                 scripts.iter().for_each(|script| print!("{}", saved::write(script)));
             }
         }
+    }
+
+    /// Compares the answers on registers that look alike to an action's actor until there are `most` findings, and answers these: each
+    /// answer with the model's, and the library's on the one with those on the other.
+    pub fn guesses(&mut self, guesses: impl Iterator<Item = Guess>, most: usize) -> io::Result<Vec<Finding>> {
+        let mut findings = Vec::new();
+        for guess in guesses {
+            let known = findings.len();
+            self.tally.alike += 1;
+            self.tally.aimed += u64::from(guess.aims());
+            let scripts = guess.scripts();
+            let mut told = [Vec::new(), Vec::new()];
+            for (script, answers) in scripts.iter().zip(&mut told) {
+                if let Some(difference) = self.ask_seeing(script, |answer| answers.push(answer.to_vec()))? {
+                    findings.push(Finding { script: script.clone(), difference });
+                }
+            }
+            self.tally.count(told[0] == told[1]);
+            if told[0] != told[1] && findings.len() == known {
+                println!("two registers that look alike get two answers:");
+                scripts.iter().for_each(|script| print!("{}", saved::write(script)));
+            }
+            if findings.len() >= most {
+                break;
+            }
+        }
+        Ok(findings)
     }
 
     /// The model's answer to one call of a script.
@@ -588,6 +619,8 @@ impl Tally {
         self.summarise_versions();
         self.summarise_kinds();
         self.summarise_pairs();
+        println!("{:>7} registers that look alike, {} with a used number whose record differs", self.alike, self.aimed);
+        self.count(10 * self.aimed >= self.alike && self.aimed > 0);
     }
 
     /// Prints how many calls were on a register of each version, and counts that 0 to 3 were met, and in 1 and 2 each refusal that the version

@@ -98,6 +98,16 @@ pub extern "C" fn guvrendik_judge_plan(register: Register, plan: Plan) -> PlanVe
     MODEL.judge_plan(&register, &plan)
 }
 
+#[no_mangle]
+pub extern "C" fn guvrendik_plain_gate(register: Register, action: Action) -> Verdict {
+    MODEL.plain_gate(&register, &action)
+}
+
+#[no_mangle]
+pub extern "C" fn guvrendik_plain_plan(register: Register, plan: Plan) -> PlanVerdict {
+    MODEL.plain_plan(&register, &plan)
+}
+
 /// # Safety
 /// The pointer and length are good, as the header says.
 #[no_mangle]
@@ -213,6 +223,27 @@ pub unsafe extern "C" fn guvrendik_right_name(number: u32, buffer: *mut u8, buff
 #[no_mangle]
 pub unsafe extern "C" fn guvrendik_flag_name(number: u32, buffer: *mut u8, buffer_len: usize) -> Written {
     Words::Flag.write(number, lent_mut(buffer, buffer_len)).into()
+}
+
+#[no_mangle]
+pub extern "C" fn guvrendik_attach(
+    book: Book,
+    register: Register,
+    actor: u32,
+    resource: u32,
+    now: u64,
+    fingerprint: Fingerprint,
+) -> Attached {
+    let mut answer = Attached { book, accepted: 1, refusal: 0 };
+    if let Err(refusal) = MODEL.attach(&mut answer.book, &register, actor, resource, now, fingerprint) {
+        (answer.accepted, answer.refusal) = (0, refusal as u32);
+    }
+    answer
+}
+
+#[no_mangle]
+pub extern "C" fn guvrendik_fetch(book: Book, register: Register, actor: u32, resource: u32, now: u64) -> Fetched {
+    MODEL.fetch(&book, &register, actor, resource, now)
 }
 
 #[no_mangle]

@@ -42,6 +42,11 @@ layout! {
     "json_read" JsonRead { action, accepted, refusal, kind, id_len, id }
     "written" Written { accepted, refusal, length }
     "version_numbers" VersionNumbers { major, minor, patch }
+    "fingerprint" Fingerprint { bytes }
+    "entry" Entry { resource, fingerprint }
+    "book" Book { entries, count }
+    "attached" Attached { book, accepted, refusal }
+    "fetched" Fetched { fingerprint, accepted, refusal }
 }
 
 /// The first line where the two differ, as (the header's, the model's).

@@ -6,6 +6,7 @@ mod case;
 mod compare;
 mod driver;
 mod generate;
+mod guesses;
 mod pairs;
 mod saved;
 mod shrink;
@@ -126,6 +127,9 @@ fn run(options: &Options) -> io::Result<(u64, u64)> {
     let mut generator = Generator::new(options.seed);
     let pairs = (0..options.rounds).flat_map(move |round| generator.pairs(round));
     findings.extend(comparison.pairs(pairs, ENOUGH)?);
+    let mut generator = Generator::new(options.seed);
+    let guesses = (0..options.rounds).flat_map(move |round| generator.guesses(round));
+    findings.extend(comparison.guesses(guesses, ENOUGH)?);
     comparison.report(findings, &options.found, options.seed)?;
     comparison.tally.summarise();
     println!("{:.1} s until here", clock.elapsed().as_secs_f64());

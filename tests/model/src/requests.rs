@@ -23,6 +23,8 @@ pub enum Request {
     ClearExpired,
     PlanText,
     SoundTable,
+    Attach,
+    Fetch,
     Boundary,
     Threads,
     Stack,
@@ -42,7 +44,7 @@ pub fn put_request(out: &mut Vec<u8>, request: Request, put: impl FnOnce(&mut Ve
 }
 
 /// The calls, in the order in which the driver answers how much stack each of them took.
-pub const STACK_ORDER: [&str; 16] = [
+pub const STACK_ORDER: [&str; 20] = [
     "sound",
     "grant",
     "revoke",
@@ -59,4 +61,8 @@ pub const STACK_ORDER: [&str; 16] = [
     "clear_expired",
     "judge_plan_text",
     "sound_table",
+    "plain_gate",
+    "plain_plan",
+    "attach",
+    "fetch",
 ];

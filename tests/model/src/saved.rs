@@ -72,6 +72,25 @@ fn write_action(action: &Action, out: &mut String) {
     }
 }
 
+fn write_book(book: &Book, out: &mut String) {
+    for (at, Entry { resource, fingerprint }) in filled(&book.entries) {
+        line(out, format_args!("  entry at={at} resource={resource} fingerprint={}", quoted(&fingerprint.bytes)));
+    }
+}
+
+fn fingerprint(parts: &Parts) -> Result<Fingerprint, String> {
+    let bytes = unquoted(value(parts, "fingerprint")?)?.try_into().map_err(|_| "a fingerprint has 32 bytes".to_owned())?;
+    Ok(Fingerprint { bytes })
+}
+
+/// The book of the last call.
+fn book(script: &mut Script) -> Result<&mut Book, String> {
+    match script.calls.last_mut() {
+        Some(Call::Attach { book, .. } | Call::Fetch { book, .. }) => Ok(book),
+        _ => Err("the call before it has no book".to_owned()),
+    }
+}
+
 fn write_bytes(name: &str, bytes: &[u8], out: &mut String) {
     for part in bytes.split_inclusive(|&byte| byte == b'\n') {
         line(out, format_args!("  {name} bytes={}", quoted(part)));
@@ -128,6 +147,19 @@ fn write_call(call: &Call, out: &mut String) {
         Call::WriteJson { action, id, kind, room, fill } => {
             line(out, format_args!("call {name} id={} kind={kind} room={room} fill={fill}", quoted(id)));
             write_action(action, out);
+        }
+        Call::Attach { book, actor, resource, now, fingerprint } => {
+            let bytes = quoted(&fingerprint.bytes);
+            let count = book.count;
+            line(
+                out,
+                format_args!("call {name} actor={actor} resource={resource} now={now} fingerprint={bytes} count={count}"),
+            );
+            write_book(book, out);
+        }
+        Call::Fetch { book, actor, resource, now } => {
+            line(out, format_args!("call {name} actor={actor} resource={resource} now={now} count={}", book.count));
+            write_book(book, out);
         }
     }
 }
@@ -233,6 +265,10 @@ fn read_line(line: &str, script: &mut Script, planned: &mut usize) -> Result<(),
         "use" => {
             *at(&parts, &mut action(script, *planned)?.uses)? =
                 Usage { resource: number(&parts, "resource")?, right: number(&parts, "right")? };
+        }
+        "entry" => {
+            *at(&parts, &mut book(script)?.entries)? =
+                Entry { resource: number(&parts, "resource")?, fingerprint: fingerprint(&parts)? };
         }
         "govern" => *at(&parts, &mut action(script, *planned)?.governs)? = number(&parts, "actor")?,
         "text" | "register-text" | "action-text" => {
@@ -346,6 +382,19 @@ fn call(name: &str, parts: &Parts) -> Result<Call, String> {
             kind: number(parts, "kind")?,
             room: number(parts, "room")?,
             fill: number(parts, "fill")?,
+        },
+        "attach" => Call::Attach {
+            book: Box::new(Book { count: number(parts, "count")?, ..Book::EMPTY }),
+            actor: number(parts, "actor")?,
+            resource: number(parts, "resource")?,
+            now: number(parts, "now")?,
+            fingerprint: fingerprint(parts)?,
+        },
+        "fetch" => Call::Fetch {
+            book: Box::new(Book { count: number(parts, "count")?, ..Book::EMPTY }),
+            actor: number(parts, "actor")?,
+            resource: number(parts, "resource")?,
+            now: number(parts, "now")?,
         },
         _ => return Err(format!("unknown call: {name}")),
     })

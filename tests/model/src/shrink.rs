@@ -147,6 +147,7 @@ fn call_steps(call: &Call) -> usize {
         Call::Sound | Call::Grant { .. } | Call::Revoke { .. } => 0,
         Call::ClearResource { .. } | Call::ClearExpired { .. } => 0,
         Call::WriteRegister { .. } => 1,
+        Call::Attach { book, .. } | Call::Fetch { book, .. } => book.count.min(PLACES) + 1,
     }
 }
 
@@ -219,6 +220,16 @@ fn step_call(call: &mut Call, mut step: usize) {
             claims.remove(step);
         }
         Call::WriteRegister { room, .. } => *room /= 2,
+        Call::Attach { book, .. } | Call::Fetch { book, .. } => {
+            let count = book.count.min(PLACES);
+            if step < count {
+                book.entries.copy_within(step + 1..count, step);
+                book.entries[count - 1] = guvrendik_model::types::Entry::ZERO;
+                book.count -= usize::from(book.count <= PLACES);
+            } else {
+                book.entries[count..].fill(guvrendik_model::types::Entry::ZERO);
+            }
+        }
         Call::Sound | Call::Grant { .. } | Call::Revoke { .. } => (),
         Call::ClearResource { .. } | Call::ClearExpired { .. } => (),
     }

@@ -22,6 +22,10 @@ pub const REGISTER_TEXT: usize = 39_789;
 pub const JSON_TEXT: usize = 807;
 /// Bytes of a JSON action's id.
 pub const JSON_ID: usize = 64;
+/// Entries of a book.
+pub const PLACES: usize = 64;
+/// Bytes of a fingerprint.
+pub const FINGERPRINT: usize = 32;
 /// No text of a number is longer than this.
 pub const WORD_TEXT: usize = 128;
 
@@ -41,6 +45,7 @@ pub const HUMAN: u32 = 1;
 pub const MACHINE: u32 = 2;
 
 pub const READ: u32 = 0;
+pub const WRITE: u32 = 1;
 pub const DELEGATE: u32 = 4;
 /// AUDIT_WRITE, REGISTRY_MODIFY and POLICY_MODIFY: what a machine may hold and use, but not grant.
 pub const NOT_BY_MACHINE: u32 = 1 << 13 | 1 << 15 | 1 << 16;
@@ -338,4 +343,52 @@ pub struct VersionNumbers {
     pub major: u32,
     pub minor: u32,
     pub patch: u32,
+}
+
+#[repr(C)]
+#[derive(Clone, Copy, Debug, PartialEq, Eq)]
+pub struct Fingerprint {
+    pub bytes: [u8; FINGERPRINT],
+}
+
+impl Zero for Fingerprint {
+    const ZERO: Self = Fingerprint { bytes: [0; FINGERPRINT] };
+}
+
+#[repr(C)]
+#[derive(Clone, Copy, Debug, PartialEq, Eq)]
+pub struct Entry {
+    pub resource: u32,
+    pub fingerprint: Fingerprint,
+}
+
+impl Zero for Entry {
+    const ZERO: Self = Entry { resource: 0, fingerprint: Fingerprint::ZERO };
+}
+
+#[repr(C)]
+#[derive(Clone, Debug, PartialEq, Eq)]
+pub struct Book {
+    pub entries: [Entry; PLACES],
+    pub count: usize,
+}
+
+impl Book {
+    pub const EMPTY: Self = Book { entries: [Entry::ZERO; PLACES], count: 0 };
+}
+
+#[repr(C)]
+#[derive(Clone, Debug, PartialEq, Eq)]
+pub struct Attached {
+    pub book: Book,
+    pub accepted: u32,
+    pub refusal: u32,
+}
+
+#[repr(C)]
+#[derive(Clone, Copy, Debug, PartialEq, Eq)]
+pub struct Fetched {
+    pub fingerprint: Fingerprint,
+    pub accepted: u32,
+    pub refusal: u32,
 }

@@ -89,6 +89,11 @@ structs! {
     ActionRead { action, accepted, refusal, line }
     JsonRead { action, accepted, refusal, kind, id_len, id }
     Written { accepted, refusal, length }
+    Fingerprint { bytes }
+    Entry { resource, fingerprint }
+    Book { entries, count }
+    Attached { book, accepted, refusal }
+    Fetched { fingerprint, accepted, refusal }
 }
 
 #[cfg(test)]

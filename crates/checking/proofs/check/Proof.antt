@@ -15,7 +15,7 @@ returns c =
     let tests = c .before .before .before in
     let fit = tests .before in
     let judged = fit .before in
-    let told = rw (tests .asked .ensures, fit .asks-fit .ensures, judged .gate .ensures, judged .before .one-use .ensures) at (c .before .outcome .given .1) in
+    let told = rw (tests .asked .ensures, fit .asks-fit .ensures, judged .decide .ensures, judged .before .one-use .ensures) at (c .before .outcome .given .1) in
     sym (checked-stopped _ _ _ _ _ _ _ told)
 
 returns-2 : tie.Need-returns-2
@@ -24,8 +24,8 @@ returns-2 c =
     let tests = already .before .before .before in
     let fit = tests .before in
     let judged = fit .before in
-    let told = rw (tests .asked .ensures, fit .asks-fit .ensures, judged .gate .ensures, judged .before .one-use .ensures) at (already .before .enum-told .given .1) in
-    let permitted = already .is-permitted .ensures ∙ permits-by _ _ _ (judged .gate .ensures) ∙ ap (permits _) (judged .before .one-use .ensures) in
+    let told = rw (tests .asked .ensures, fit .asks-fit .ensures, judged .decide .ensures, judged .before .one-use .ensures) at (already .before .enum-told .given .1) in
+    let permitted = already .is-permitted .ensures ∙ permits-by _ _ _ (judged .decide .ensures) ∙ ap (permits _) (judged .before .one-use .ensures) in
     rw (c .told .ensures, c .before .passes .ensures)
     (ap (λ b. cond b Passes Fails) (passing-by _ _ _ _ _ _ _ permitted) ∙ sym (checked-passed _ _ _ _ _ _ told))
 

@@ -1,8 +1,10 @@
 //! What is compared: scripts made from a seed, in rounds that each have something of every kind, so that a run may stop early.
 
 pub mod actions;
+pub mod books;
 pub mod changes;
 pub mod defects;
+pub mod guesses;
 pub mod json;
 pub mod nested;
 pub mod paths;
@@ -13,6 +15,7 @@ pub mod texts;
 pub mod trees;
 
 use crate::case::{Call, Script};
+use crate::guesses::Guess;
 use crate::pairs::Pair;
 use defects::DEFECTS;
 use guvrendik_model::model::Model;
@@ -27,11 +30,18 @@ pub struct Generator {
     trees: Random,
     /// Of the tables alone, likewise.
     tables: Random,
+    /// Of the books alone, for the same.
+    books: Random,
 }
 
 impl Generator {
     pub fn new(seed: u64) -> Self {
-        Generator { random: Random::new(seed), trees: Random::new(!seed), tables: Random::new(seed.rotate_left(32)) }
+        Generator {
+            random: Random::new(seed),
+            trees: Random::new(!seed),
+            tables: Random::new(seed.rotate_left(32)),
+            books: Random::new(seed ^ 0x5555),
+        }
     }
 
     /// The scripts that are the same in every run: the rule book's texts and all that lies beside them.
@@ -76,6 +86,7 @@ impl Generator {
         ]
         .into_iter()
         .chain(self.as_two(&register, round))
+        .chain(self.books(&register))
         .collect()
     }
 
@@ -122,6 +133,17 @@ impl Generator {
         registers.into_iter().map(|register| changes::withdraw_pair(&mut self.random, register)).collect()
     }
 
+    /// The registers of one round that look alike to an action's actor.
+    pub fn guesses(&mut self, round: usize) -> Vec<Guess> {
+        let shape = self.shape(round);
+        let litter = self.random.chance(50);
+        let mut register = registers::sound(&mut self.random, shape, litter);
+        if round % 2 == 0 {
+            register = registers::as_two(&mut self.random, &register, false);
+        }
+        (0..20).filter_map(|_| guesses::guess(&mut self.random, &register)).collect()
+    }
+
     /// Large registers take the most time, and are the rarest.
     fn shape(&mut self, round: usize) -> Shape {
         let random = &mut self.random;
@@ -155,6 +177,21 @@ impl Generator {
             Call::WriteRegister { room, fill: random.word() as u8 }
         }));
         Script { register: Some(register), calls }
+    }
+
+    /// Attaches and fetches over the register, the same as version 2, another one and one that is not sound.
+    fn books(&mut self, register: &Register) -> Vec<Script> {
+        let random = &mut self.books;
+        let mut broken = Box::new(register.clone());
+        broken.version = 3;
+        let registers = [
+            Box::new(register.clone()),
+            registers::as_two(random, register, false),
+            registers::sound(random, SMALL, false),
+            registers::sound(random, SMALL, true),
+            broken,
+        ];
+        books::row(random, &registers)
     }
 
     /// Texts of plans in plans.

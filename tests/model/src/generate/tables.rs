@@ -18,6 +18,7 @@ pub fn own(register: &Register) -> Call {
 }
 
 /// So many roots on the first resource, which its keeper grants itself.
+#[inline(never)]
 fn roots(register: &Register, length: usize) -> Vec<Claim> {
     let first = &register.resources.list[0];
     let root = Claim { grantor: first.keeper, holder: first.keeper, resource: first.id, rights: 1, weight: 1, ..Claim::ZERO };
@@ -56,18 +57,18 @@ pub fn calls(random: &mut Random, register: &Register) -> Vec<Call> {
 
 /// Tables of roots of each length, in every version from 0 to 3, and with counts above the limits beside them.
 pub fn fixed() -> Vec<Script> {
-    let mut register = Register::EMPTY;
+    let mut register = Box::new(Register::EMPTY);
     register.actors.push(Actor { id: 1, kind: HUMAN, owner: 0 });
     register.resources.push(Resource { id: 10, keeper: 1, ..Resource::ZERO });
     let mut scripts = Vec::new();
     for version in 0..=VERSION_2 + 1 {
         register.version = version;
-        let calls = LENGTHS.map(|length| Call::SoundTable(roots(&register, length))).to_vec();
-        scripts.push(Script { register: Some(Box::new(register.clone())), calls });
+        let calls = LENGTHS.iter().map(|length| Call::SoundTable(roots(&register, *length))).collect();
+        scripts.push(Script { register: Some(register.clone()), calls });
     }
     register.version = VERSION_1;
     for (actors, resources) in [(ACTORS + 1, 1), (1, RESOURCES + 1), (usize::MAX, usize::MAX)] {
-        let mut above = Box::new(register.clone());
+        let mut above = register.clone();
         (above.actors.count, above.resources.count) = (actors, resources);
         scripts.push(Script { register: Some(above), calls: vec![Call::SoundTable(roots(&register, 1))] });
     }

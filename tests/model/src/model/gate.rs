@@ -103,6 +103,7 @@ impl Model {
             verdict.hops[position] = match nearest {
                 Some((_, 0)) if self.has(Fault::LengthZeroPassedOver) => 0,
                 Some((claim, _)) => sound.hops(claim),
+                None if self.has(Fault::HiddenTold) && !is_open => 1,
                 None => 0,
             };
             if is_open {

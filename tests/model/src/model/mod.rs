@@ -1,10 +1,12 @@
 //! The rules, each in the words of the rule book.
 
+mod book;
 mod gate;
 mod grant;
 mod ids;
 pub mod json;
 pub mod paths;
+mod plain;
 mod plan;
 mod plan_text;
 mod rules;
@@ -75,6 +77,14 @@ pub enum Refusal {
     JsonForm = 24,
     /// A right above 2 or a governed entry, for which a JSON action has no place.
     JsonLacks = 25,
+    /// The gate does not permit the action.
+    NotPermitted = 27,
+    /// No fingerprint is attached to the resource's number.
+    NoEntry = 28,
+    /// 64 entries stand in the book, and none of the resource's number.
+    BookFull = 29,
+    /// The book has more than 64 entries, or two for one number.
+    BadBook = 30,
 }
 
 /// A fault put into the model on purpose, to show that the comparison finds it.
@@ -110,6 +120,8 @@ pub enum Fault {
     UntrimmedLength,
     /// A nearest claim whose trimmed path is empty does not speak.
     LengthZeroPassedOver,
+    /// A use of a report that stands and is not covered has hop count 1.
+    HiddenTold,
     /// An action after a flagged one is judged.
     CancelledJudged,
     /// In a plan's text a flag cancels what follows in its own plan only.
@@ -120,10 +132,14 @@ pub enum Fault {
     SecondActorTaken,
     /// A buffer too short for a JSON action gets the beginning of it.
     ShortBufferBegun,
+    /// An attach goes to the place before the number's.
+    EntryBefore,
+    /// A fetch that is not permitted hands out the fingerprint beside its 27.
+    ToldWithRefusal,
 }
 
 impl Fault {
-    pub const ALL: [(&'static str, Fault); 20] = [
+    pub const ALL: [(&'static str, Fault); 23] = [
         ("expiry-equal-live", Fault::ExpiryEqualLive),
         ("source-unasked", Fault::SourceUnasked),
         ("direct-children", Fault::DirectChildren),
@@ -139,11 +155,14 @@ impl Fault {
         ("last-on-tie", Fault::LastOnTie),
         ("untrimmed-length", Fault::UntrimmedLength),
         ("length-zero-passed-over", Fault::LengthZeroPassedOver),
+        ("hidden-told", Fault::HiddenTold),
         ("cancelled-judged", Fault::CancelledJudged),
         ("flag-per-plan", Fault::FlagPerPlan),
         ("room-per-plan", Fault::RoomPerPlan),
         ("second-actor-taken", Fault::SecondActorTaken),
         ("short-buffer-begun", Fault::ShortBufferBegun),
+        ("entry-before", Fault::EntryBefore),
+        ("told-with-27", Fault::ToldWithRefusal),
     ];
 }
 

@@ -4,7 +4,7 @@ use super::{Fault, Model, Refusal, Sound};
 use crate::types::*;
 
 impl PlanVerdict {
-    fn stopped(refusal: Refusal, position: usize) -> Self {
+    pub fn stopped(refusal: Refusal, position: usize) -> Self {
         PlanVerdict { refusal: refusal as u32, position, ..PlanVerdict::EMPTY }
     }
 }

@@ -1,0 +1,9 @@
+pub mod Entries
+pub mod Outcomes
+pub mod Books
+pub mod Deeds
+pub mod Sheets
+pub mod Refusing
+pub mod Theorems
+pub mod TheoremsRefusals
+pub mod Cases

@@ -1,0 +1,2 @@
+pub mod Fingerprints
+pub mod Laws
