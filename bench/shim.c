@@ -26,8 +26,24 @@ guvrendik_revoked bench_clear_expired(const guvrendik_register *r, uint32_t call
 
 guvrendik_verdict bench_gate(const guvrendik_register *r, const guvrendik_action *a) { return guvrendik_gate(*r, *a); }
 
+guvrendik_proposed bench_propose(const guvrendik_register *r, uint32_t actor, const guvrendik_usage *u, uint64_t moment,
+                                 const guvrendik_signers *s) {
+    return guvrendik_propose(*r, actor, *u, moment, *s);
+}
+
+guvrendik_checked bench_check_proposal(const guvrendik_register *r, uint32_t actor, const guvrendik_usage *u, uint64_t moment,
+                                       const guvrendik_signers *s, const guvrendik_proposal *p) {
+    return guvrendik_check_proposal(*r, actor, *u, moment, *s, *p);
+}
+
 guvrendik_plan_verdict bench_judge_plan(const guvrendik_register *r, const guvrendik_plan *p) {
     return guvrendik_judge_plan(*r, *p);
+}
+
+guvrendik_verdict bench_plain_gate(const guvrendik_register *r, const guvrendik_action *a) { return guvrendik_plain_gate(*r, *a); }
+
+guvrendik_plan_verdict bench_plain_plan(const guvrendik_register *r, const guvrendik_plan *p) {
+    return guvrendik_plain_plan(*r, *p);
 }
 
 guvrendik_plan_text_verdict bench_judge_plan_text(const guvrendik_register *r, const uint8_t *text, size_t text_len) {

@@ -325,7 +325,7 @@ guvrendik_soundness guvrendik_sound(guvrendik_register r);
  *                     register without claims; more than 256 are a no, and none of them is looked at.
  *  version            GUVRENDIK_REGISTER_1 or GUVRENDIK_REGISTER_2; any other is a no.
  * No refusal: every table is answered.
- * Stack: 48,000 bytes. */
+ * Stack: 37,000 bytes. */
 guvrendik_soundness guvrendik_sound_table(const guvrendik_claim *claims, size_t claims_len, uint64_t version,
                                           guvrendik_actors actors, guvrendik_resources resources);
 
@@ -350,7 +350,7 @@ typedef struct guvrendik_granted {
  * Refused for no other cause: a claim of weight 0, whose expiry has passed or is later than its parent's, is granted.
  * Accepted, everything but the new claim and the count of claims is as it came, also what stands past the counts. The new claim is c; in
  * version 1 its left is 16 less its hop count.
- * Stack: 85,000 bytes. */
+ * Stack: 95,000 bytes. */
 guvrendik_granted guvrendik_grant(guvrendik_register r, guvrendik_claim c, uint64_t moment);
 
 /* The answer of guvrendik_revoke, guvrendik_clear_resource and guvrendik_clear_expired. */
@@ -370,7 +370,7 @@ typedef struct guvrendik_revoked {
  * Accepted, every place past the count of claims holds a claim of all zeros: nothing of a withdrawn claim is left.
  * Any two of this call and the two below leave the same register in either order, but a revocation that comes second may be told 17: the
  * first took its claim.
- * Stack: 81,000 bytes. */
+ * Stack: 87,000 bytes. */
 guvrendik_revoked guvrendik_revoke(guvrendik_register r, uint32_t revoker, uint32_t claim);
 
 /* Clears a resource: every claim on it goes, of whatever weight and expiry. The rest keep their order.
@@ -381,7 +381,7 @@ guvrendik_revoked guvrendik_revoke(guvrendik_register r, uint32_t revoker, uint3
  * is not its keeper, though it may be the keeper's machine or the keeper of another resource.
  * Where no claim is on it, the call is accepted and none goes. Accepted, every place past the count of claims holds a claim of all
  * zeros.
- * Stack: 81,000 bytes. */
+ * Stack: 87,000 bytes. */
 guvrendik_revoked guvrendik_clear_resource(guvrendik_register r, uint32_t caller, uint32_t resource);
 
 /* Clears old claims: every claim goes that has expired at the moment, its expiry not 0 and not above it, and every claim that has such a
@@ -393,7 +393,7 @@ guvrendik_revoked guvrendik_clear_resource(guvrendik_register r, uint32_t caller
  * not human.
  * Where nothing has expired, as at 0, the call is accepted and none goes. Accepted, every place past the count of claims holds a claim of
  * all zeros.
- * Stack: 81,000 bytes. */
+ * Stack: 87,000 bytes. */
 guvrendik_revoked guvrendik_clear_expired(guvrendik_register r, uint32_t caller, uint64_t moment);
 
 /* ---- The gate ---- */
@@ -519,7 +519,7 @@ typedef struct guvrendik_proposed {
  * not in the register; 26 no proposal would pass guvrendik_check_proposal. 26 is also told where the actor is a machine without owner or whose
  * owner does not cover the use, where the resource does not stand or its path has a `..`, and where 256 claims stand.
  * What is proposed passes guvrendik_check_proposal.
- * Stack: 100,000 bytes. */
+ * Stack: 95,000 bytes. */
 guvrendik_proposed guvrendik_propose(guvrendik_register r, uint32_t actor, guvrendik_usage usage, uint64_t moment,
                                      guvrendik_signers signers);
 
@@ -547,7 +547,7 @@ typedef struct guvrendik_checked {
  * Refusals, the first that applies: 1 register not sound; 2 more than 8 signers, or a field of the use or the moment out of range; 3 actor
  * not in the register.
  * Where the use is permitted already, a grant of the form passes where it is accepted, one of weight 0 too.
- * Stack: 100,000 bytes. */
+ * Stack: 126,000 bytes. */
 guvrendik_checked guvrendik_check_proposal(guvrendik_register r, uint32_t actor, guvrendik_usage usage, uint64_t moment,
                                            guvrendik_signers signers, guvrendik_proposal proposal);
 
@@ -583,14 +583,14 @@ guvrendik_plan_verdict guvrendik_judge_plan(guvrendik_register r, guvrendik_plan
  *  r  the register
  *  a  the action
  * The whole answer is that of guvrendik_gate, refusals and hop counts included: its contract is the same.
- * Stack: 85,000 bytes. */
+ * Stack: 92,000 bytes. */
 guvrendik_verdict guvrendik_plain_gate(guvrendik_register r, guvrendik_action a);
 
 /* Judges a plan by the plain gate, each action by a table of its own.
  *  r  the register
  *  p  the plan
  * The whole answer is that of guvrendik_judge_plan.
- * Stack: 85,000 bytes. */
+ * Stack: 107,000 bytes. */
 guvrendik_plan_verdict guvrendik_plain_plan(guvrendik_register r, guvrendik_plan p);
 
 /* ---- The fingerprint book ----
@@ -631,7 +631,7 @@ typedef struct guvrendik_attached {
  * and 64 entries stand. Refused, the book is as it came, whole.
  * Accepted, every entry but the number's, and what stands past the count, is as it came.
  * Entries go by number: where another register gives the number to another report, its old fingerprint stands.
- * Stack: 82,000 bytes. */
+ * Stack: 103,000 bytes. */
 guvrendik_attached guvrendik_attach(guvrendik_book book, guvrendik_register r, uint32_t actor, uint32_t resource, uint64_t moment,
                                     guvrendik_fingerprint fingerprint);
 
@@ -647,7 +647,7 @@ typedef struct guvrendik_fetched {
  *  book, r, actor, resource, moment  as for guvrendik_attach
  * Refusals, the first that applies: 1, 30, 2, 3 and 27 as for guvrendik_attach; 28 nothing is attached to the number. Where the action
  * is not permitted, the answer is the same of every book that is not refused with 30: it does not tell whether an entry stands.
- * Stack: 82,000 bytes. */
+ * Stack: 98,000 bytes. */
 guvrendik_fetched guvrendik_fetch(guvrendik_book book, guvrendik_register r, uint32_t actor, uint32_t resource, uint64_t moment);
 
 /* ---- Paths ---- */
@@ -693,7 +693,7 @@ typedef struct guvrendik_register_read {
  * Refusals: the first failing line decides between 19, not of the form or a number or path outside its field's range, and 20, a
  * count above its limit, whatever its length; a text that ends early, and bytes after the end, fail as the next line with 19.
  * Soundness comes last, with 1.
- * Stack: 92,000 bytes. */
+ * Stack: 109,000 bytes. */
 guvrendik_register_read guvrendik_read_register(const uint8_t *text, size_t text_len);
 
 /* The answer of a call that writes a text. */
@@ -746,7 +746,7 @@ typedef struct guvrendik_plan_text_verdict {
  * count above its limit, 64 of plan=, 32 of uses=, 8 of governs=; 22, a line step=plan that would open a ninth level; and 23, a line
  * step=action that would begin the 65th action. Then 1 register not sound. Then 3, the first action whose actor is not in the
  * register, also one that would be cancelled. Refused, there are no verdicts. 2 cannot happen: such a number is a 19.
- * Stack: 80,000 bytes. */
+ * Stack: 90,000 bytes. */
 guvrendik_plan_text_verdict guvrendik_judge_plan_text(guvrendik_register r, const uint8_t *text, size_t text_len);
 
 /* Writes the lines that the printing program prints for a register's text and an action's text: verdict=permitted and
@@ -758,7 +758,7 @@ guvrendik_plan_text_verdict guvrendik_judge_plan_text(guvrendik_register r, cons
  *                              are enough for every verdict.
  * Refusal: 21 buffer too short. Then the buffer keeps every byte. A text that is not read is no refusal of this call: its answer
  * is the text with verdict=stopped.
- * Stack: 80,000 bytes. */
+ * Stack: 88,000 bytes. */
 guvrendik_written guvrendik_verdict_text(const uint8_t *register_text, size_t register_len, const uint8_t *action_text,
                                          size_t action_len, uint8_t *buffer, size_t buffer_len);
 
@@ -771,7 +771,7 @@ guvrendik_written guvrendik_verdict_text(const uint8_t *register_text, size_t re
  *  buffer/buffer_len           where to, as for guvrendik_write_register. It overlaps none of the texts. GUVRENDIK_TEXT_VERDICT bytes are
  *                              enough for every verdict.
  * Refusal: 21 buffer too short. Then the buffer keeps every byte.
- * Stack: 98,000 bytes. */
+ * Stack: 88,000 bytes. */
 guvrendik_written guvrendik_json_verdict_text(const uint8_t *register_text, size_t register_len, const uint8_t *clock_text,
                                               size_t clock_len, const uint8_t *action_text, size_t action_len, uint8_t *buffer,
                                               size_t buffer_len);
@@ -785,7 +785,7 @@ guvrendik_written guvrendik_json_verdict_text(const uint8_t *register_text, size
  *  buffer/buffer_len           where to, as for guvrendik_write_register. It overlaps neither text. GUVRENDIK_TEXT_PLAN_VERDICT bytes are
  *                              enough for every answer.
  * Refusal: 21 buffer too short. Then the buffer keeps every byte.
- * Stack: 98,000 bytes. */
+ * Stack: 110,000 bytes. */
 guvrendik_written guvrendik_plan_verdict_text(const uint8_t *register_text, size_t register_len, const uint8_t *plan_text,
                                               size_t plan_len, uint8_t *buffer, size_t buffer_len);
 
@@ -822,7 +822,7 @@ typedef struct guvrendik_json_read {
  *  moment         the action's, in seconds, below 2^32
  * Refusals, the first that applies: 2 the moment out of range, whatever the text; 24 for everything else: another form, a number out
  * of range, more than 32 uses.
- * Stack: 2,000 bytes. */
+ * Stack: 3,000 bytes. */
 guvrendik_json_read guvrendik_read_json(const uint8_t *text, size_t text_len, uint64_t moment);
 
 /* Writes an action as JSON: all nine keys in their order, no blanks. Reading that text at the action's moment gives the same id

@@ -98,9 +98,9 @@ def written(calls, head, function, struct, bytes_type, length_type, struct_type)
 
 def values(calls):
     head = """#include "guvrendik.h"
-typedef struct { const uint8_t *at; size_t length; } slice;
-/* A slice of no bytes has a pointer that is not NULL. */
-#define SLICE(at, length) (&(slice){(length) > 0 ? (at) : (const uint8_t *)1, (length)})"""
+typedef struct { const void *at; size_t length; } slice;
+/* A slice of nothing has a pointer that is not NULL, aligned as a struct is. */
+#define SLICE(at, length) (&(slice){(length) > 0 ? (const void *)(at) : (const void *)8, (length)})"""
 
     def function(name, answer, taken, given):
         yield f"{answer} guvrendik_{name}({', '.join(taken) or 'void'}) {{"
@@ -113,7 +113,7 @@ def places(calls):
     head = """#include <stdint.h>
 /* Of 8 bytes each: the pointer has the lower four of its own. */
 typedef struct { const void *at; uint32_t none; uint64_t length; } slice;
-#define SLICE(at, length) (&(slice){(length) > 0 ? (at) : (const void *)1, 0, (length)})"""
+#define SLICE(at, length) (&(slice){(length) > 0 ? (const void *)(at) : (const void *)8, 0, (length)})"""
 
     def function(name, answer, taken, given):
         yield f'__attribute__((export_name("guvrendik_{name}_at")))'

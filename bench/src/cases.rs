@@ -5,6 +5,7 @@ use crate::inputs::*;
 use crate::library;
 use crate::measure::Timed;
 use crate::random::Random;
+use guvrendik_model::model::proposals::{Question, PROPOSES_GRANT};
 use guvrendik_model::model::{paths as model_paths, Model, Sound};
 use guvrendik_model::types::*;
 use std::fmt::Debug;
@@ -235,6 +236,64 @@ pub fn gate(shape: Shape, world: &World, what: &str, actions: Vec<Action>) -> Ca
     }
 }
 
+/// The planner stands against the library's own gate of the one use.
+pub fn propose(shape: Shape, world: &World, name: &str, questions: Vec<Question>) -> Case {
+    let register = leak(*world.register.clone());
+    let questions = leak(questions);
+    let actions: &[Action] = leak(questions.iter().map(Question::action).collect::<Vec<_>>());
+    let name = name.to_owned();
+    let (mut ours, mut theirs) = (Box::new(place()), Box::new(place()));
+    for (at, question) in questions.iter().enumerate() {
+        same(&name, at, library::propose(&mut ours, register, question), &MODEL.propose(register, question));
+    }
+    Case {
+        name,
+        shape: Some(shape),
+        bytes: None,
+        goal: Goal::Times(2.0),
+        library: Box::new(move |at| {
+            black_box(library::propose(&mut ours, black_box(register), &questions[at % VARIED]));
+        }),
+        model: Box::new(move |at| {
+            black_box(library::gate(&mut theirs, black_box(register), &actions[at % VARIED]));
+        }),
+        parts: None,
+    }
+}
+
+/// The check of a grant stands against the library's own two gates of the one use and a grant.
+pub fn check_proposal(shape: Shape, world: &World, name: &str, grants: Vec<Claim>) -> Case {
+    let register = leak(*world.register.clone());
+    let questions = leak(world.questions(&grants));
+    let actions: &[Action] = leak(questions.iter().map(Question::action).collect::<Vec<_>>());
+    let single = |(grant, question): (&Claim, &Question)| Claim { rights: 1 << question.usage.right, ..*grant };
+    let grants: &[Claim] = leak(grants.iter().zip(questions.iter()).map(single).collect::<Vec<_>>());
+    let proposals: &[Proposal] =
+        leak(grants.iter().map(|&claim| Proposal { kind: PROPOSES_GRANT, claim }).collect::<Vec<_>>());
+    let name = name.to_owned();
+    for (at, (question, proposal)) in questions.iter().zip(proposals).enumerate() {
+        let model = MODEL.check_proposal(register, question, proposal);
+        same(&name, at, &library::check_proposal(register, question, proposal), &model);
+    }
+    let (mut verdict, mut granted) = (Box::new(place()), Box::new(place()));
+    Case {
+        name,
+        shape: Some(shape),
+        bytes: None,
+        goal: Goal::Times(1.2),
+        library: Box::new(|at| {
+            let (question, proposal) = (&questions[at % VARIED], &proposals[at % VARIED]);
+            black_box(library::check_proposal(black_box(register), question, proposal));
+        }),
+        model: Box::new(move |at| {
+            black_box(library::gate(&mut verdict, black_box(register), &actions[at % VARIED]));
+            black_box(library::grant(&mut granted, black_box(register), &grants[at % VARIED], NOW));
+            black_box(library::gate(&mut verdict, black_box(register), &actions[at % VARIED]));
+        }),
+        parts: None,
+    }
+}
+
 pub fn plan(shape: Shape, world: &World, used: usize, whose: &str) -> Case {
     let register = leak(*world.register.clone());
     let plans = leak(world.plans(used));
@@ -253,6 +312,53 @@ pub fn plan(shape: Shape, world: &World, used: usize, whose: &str) -> Case {
         }),
         model: Box::new(|at| {
             black_box(MODEL.judge_plan(black_box(register), &plans[at % VARIED]));
+        }),
+        parts: None,
+    }
+}
+
+/// The plain gate, beside the model's own walk.
+pub fn plain_gate(shape: Shape, world: &World, what: &str, actions: Vec<Action>) -> Case {
+    let register = leak(*world.register.clone());
+    let actions = leak(actions);
+    let name = format!("plain gate, {what}");
+    let mut ours = Box::new(place());
+    for (at, action) in actions.iter().enumerate() {
+        same(&name, at, library::plain_gate(&mut ours, register, action), &MODEL.plain_gate(register, action));
+    }
+    Case {
+        name,
+        shape: Some(shape),
+        bytes: None,
+        goal: Goal::judging(shape, 1.8, 4.5),
+        library: Box::new(move |at| {
+            black_box(library::plain_gate(&mut ours, black_box(register), &actions[at % VARIED]));
+        }),
+        model: Box::new(|at| {
+            black_box(MODEL.plain_gate(black_box(register), &actions[at % VARIED]));
+        }),
+        parts: None,
+    }
+}
+
+pub fn plain_plan(shape: Shape, world: &World, used: usize) -> Case {
+    let register = leak(*world.register.clone());
+    let plans = leak(world.plans(used));
+    let name = format!("plain plan of 16, {used} uses each");
+    let mut ours = Box::new(place());
+    for (at, plan) in plans.iter().enumerate() {
+        same(&name, at, library::plain_plan(&mut ours, register, plan), &MODEL.plain_plan(register, plan));
+    }
+    Case {
+        name,
+        shape: Some(shape),
+        bytes: None,
+        goal: Goal::judging(shape, 1.8, 4.5),
+        library: Box::new(move |at| {
+            black_box(library::plain_plan(&mut ours, black_box(register), &plans[at % VARIED]));
+        }),
+        model: Box::new(|at| {
+            black_box(MODEL.plain_plan(black_box(register), &plans[at % VARIED]));
         }),
         parts: None,
     }
@@ -442,6 +548,8 @@ pub fn all() -> Vec<Case> {
             cases.push(sound_table(shape, &deep(), "sound table, chains of 16 hops"));
         }
         cases.push(grant(shape, &roomy(), "grant", roomy().grants()));
+        cases.push(propose(shape, &roomy(), "propose", roomy().questions(&roomy().grants())));
+        cases.push(check_proposal(shape, &roomy(), "check proposal", roomy().grants()));
         cases.push(revoke(shape, &usual()));
         cases.push(clear_resource(shape, &usual()));
         cases.push(clear_expired(shape, usual()));
@@ -469,6 +577,7 @@ pub fn all() -> Vec<Case> {
             cases.push(plan(shape, &chains, 4, ", chains of 16 hops"));
             let chains = chains.cut(CLAIMS - 1);
             cases.push(grant(shape, &chains, "grant, claim of 16 hops", chains.deep_grants()));
+            cases.push(propose(shape, &chains, "propose, claims of 15 hops, all circles", chains.circling_questions()));
             for (by, what) in [(Covering::OnePath, "each by all 256 claims"), (Covering::Nested, "by 64 paths in each other")] {
                 let world = covering(by);
                 let actions = world.actions(world.human, USES, Covered::All);
@@ -477,6 +586,7 @@ pub fn all() -> Vec<Case> {
         }
         cases.push(plan(shape, &usual(), 4, ""));
         cases.push(plan(shape, &usual(), USES, ""));
+        plain_calls(shape, &usual(), &mut cases);
         cases.push(read(shape, &usual(), "read register", Goal::texts(shape)));
         cases.push(write(shape, &usual(), "write register", Goal::texts(shape)));
         if shape == FULL {
@@ -499,6 +609,21 @@ pub fn all() -> Vec<Case> {
     cases.push(write_json("32 uses", json_actions(USES)));
     cases.extend(paths().into_iter().map(|(what, outer, inner)| contains(what, outer, inner)));
     cases
+}
+
+/// The plain gate of a human and, where there is one, of a machine, and the plain plan.
+fn plain_calls(shape: Shape, world: &World, cases: &mut Vec<Case>) {
+    let actions = world.actions(world.human, USES, Covered::All);
+    cases.push(plain_gate(shape, world, "32 uses, 8 claims", actions));
+    if shape != SMALL {
+        let actions = world.actions(world.machine, USES, Covered::All);
+        cases.push(plain_gate(shape, world, "32 uses, machine and owner with 8 claims each", actions));
+    }
+    if shape == FULL {
+        let all = crate::inputs::world(shape, Holding { human: CLAIMS, machine: 0 });
+        cases.push(plain_gate(shape, &all, "32 uses, 256 claims", all.actions(all.human, USES, Covered::All)));
+    }
+    cases.push(plain_plan(shape, world, 4));
 }
 
 /// Plan texts flat and of eight levels, whole and with a last line that lacks its LF.
@@ -526,6 +651,7 @@ pub fn grown(claims: usize) -> Vec<Case> {
     if claims > 0 {
         cases.push(revoke(shape, &cut()));
     }
+    cases.push(plain_gate(shape, &cut(), "32 uses", uses.clone()));
     cases.push(gate(shape, &cut(), "32 uses", uses));
     cases.push(plan(shape, &cut_for_plan(claims), 4, ""));
     cases.push(read(shape, &cut(), "read register", Goal::texts(shape)));

@@ -2,6 +2,7 @@
 
 use crate::random::Random;
 use guvrendik_model::model::json::{FLAG_NAMES, KEYS, KINDS};
+use guvrendik_model::model::proposals::Question;
 use guvrendik_model::model::{Model, Sound};
 pub use guvrendik_model::shapes::*;
 use guvrendik_model::types::*;
@@ -286,6 +287,34 @@ impl World {
             }
         };
         (0..VARIED).map(grant).collect()
+    }
+
+    /// Questions to which the grants would be an answer, each with who signs it behind seven who hold claims.
+    pub fn questions(&self, grants: &[Claim]) -> Vec<Question> {
+        let holders = &self.register.claims.list[..self.register.claims.count];
+        let question = |grant: &Claim| {
+            let mut list: [u32; SIGNERS] = std::array::from_fn(|at| holders[at % holders.len()].holder);
+            list[SIGNERS - 1] = grant.grantor;
+            let usage = Usage { resource: grant.resource, right: RIGHT_MAX.min(grant.rights.trailing_zeros()) };
+            Question { actor: grant.holder, usage, moment: NOW, signers: Signers { list, count: SIGNERS } }
+        };
+        grants.iter().map(question).collect()
+    }
+
+    /// Questions of who granted the roots about claims of 15 hops, by the holders of eight claims on the chain: all fail at the circle.
+    pub fn circling_questions(&self) -> Vec<Question> {
+        let register = &self.register;
+        let sound = Sound::of(register).expect("it is sound");
+        let ends: Vec<usize> = (0..register.claims.count).filter(|&at| sound.hops(at) == HOPS - 1).collect();
+        let question = |number: usize| {
+            let end = ends[number % ends.len()];
+            let chain: Vec<&Claim> = sound.chain(end).collect();
+            let list = std::array::from_fn(|at| chain[at].holder);
+            let root = chain[HOPS - 1];
+            let usage = Usage { resource: root.resource, right: WRITE };
+            Question { actor: root.grantor, usage, moment: NOW, signers: Signers { list, count: SIGNERS } }
+        };
+        (0..VARIED).map(question).collect()
     }
 
     /// Grants that are accepted under claims of 15 hops.

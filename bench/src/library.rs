@@ -2,6 +2,7 @@
 //! library's own code on another processor.
 
 use crate::inputs::Withdrawn;
+use guvrendik_model::model::proposals::Question;
 use guvrendik_model::types::*;
 use std::mem::MaybeUninit;
 
@@ -13,7 +14,25 @@ extern "C" {
     fn bench_clear_resource(answer: *mut Revoked, register: *const Register, caller: u32, resource: u32);
     fn bench_clear_expired(answer: *mut Revoked, register: *const Register, caller: u32, now: u64);
     fn bench_gate(answer: *mut Verdict, register: *const Register, action: *const Action);
+    fn bench_propose(
+        answer: *mut Proposed,
+        register: *const Register,
+        actor: u32,
+        usage: *const Usage,
+        moment: u64,
+        signers: *const Signers,
+    );
+    fn bench_check_proposal(
+        register: *const Register,
+        actor: u32,
+        usage: *const Usage,
+        moment: u64,
+        signers: *const Signers,
+        proposal: *const Proposal,
+    ) -> Checked;
     fn bench_judge_plan(answer: *mut PlanVerdict, register: *const Register, plan: *const Plan);
+    fn bench_plain_gate(answer: *mut Verdict, register: *const Register, action: *const Action);
+    fn bench_plain_plan(answer: *mut PlanVerdict, register: *const Register, plan: *const Plan);
     fn bench_judge_plan_text(answer: *mut PlanTextVerdict, register: *const Register, text: *const u8, text_len: usize);
     fn bench_contains(outer: *const u8, outer_len: usize, inner: *const u8, inner_len: usize) -> Containment;
     fn bench_read_register(answer: *mut RegisterRead, text: *const u8, text_len: usize);
@@ -69,9 +88,36 @@ pub fn gate<'a>(answer: &'a mut MaybeUninit<Verdict>, register: &Register, actio
     }
 }
 
+pub fn propose<'a>(answer: &'a mut MaybeUninit<Proposed>, register: &Register, question: &Question) -> &'a Proposed {
+    let Question { actor, usage, moment, signers } = question;
+    unsafe {
+        bench_propose(answer.as_mut_ptr(), register, *actor, usage, *moment, signers);
+        answer.assume_init_ref()
+    }
+}
+
+pub fn check_proposal(register: &Register, question: &Question, proposal: &Proposal) -> Checked {
+    let Question { actor, usage, moment, signers } = question;
+    unsafe { bench_check_proposal(register, *actor, usage, *moment, signers, proposal) }
+}
+
 pub fn judge_plan<'a>(answer: &'a mut MaybeUninit<PlanVerdict>, register: &Register, plan: &Plan) -> &'a PlanVerdict {
     unsafe {
         bench_judge_plan(answer.as_mut_ptr(), register, plan);
+        answer.assume_init_ref()
+    }
+}
+
+pub fn plain_gate<'a>(answer: &'a mut MaybeUninit<Verdict>, register: &Register, action: &Action) -> &'a Verdict {
+    unsafe {
+        bench_plain_gate(answer.as_mut_ptr(), register, action);
+        answer.assume_init_ref()
+    }
+}
+
+pub fn plain_plan<'a>(answer: &'a mut MaybeUninit<PlanVerdict>, register: &Register, plan: &Plan) -> &'a PlanVerdict {
+    unsafe {
+        bench_plain_plan(answer.as_mut_ptr(), register, plan);
         answer.assume_init_ref()
     }
 }

@@ -82,7 +82,7 @@ static void refused_lines(void) {
     fetch("of a public one by a machine without owner", b, r, 4, 11, 0);
     fetch("of a public one", b, r, 1, 11, 0);
     fetch("of no entry by who may not", no_entries(), r, 4, 10, 0);
-    attach("of a public one", b, r, 1, 11, 0, 9);
+    attach("of a public one", b, r, 3, 11, 0, 9);
     attach("by a machine whose owner lacks WRITE", b, base_and(claim(6, 0, 1, 5, 2)), 5, 10, 0, 9);
     attach("in a full book by who may not", filled(64), r, 3, 10, 0, 9);
     fetch("of number 0", b, r, 1, 0, 0);

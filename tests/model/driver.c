@@ -47,6 +47,8 @@ enum {
     SOUND_TABLE,
     ATTACH,
     FETCH,
+    PROPOSE,
+    CHECK_PROPOSAL,
     BOUNDARY,
     THREADS,
     STACK,
@@ -335,6 +337,37 @@ static void do_fetch(payload *p) {
     take(p, &book, sizeof book);
     uint32_t actor = take32(p), resource = take32(p);
     guvrendik_fetched got = guvrendik_fetch(book, current, actor, resource, take64(p));
+    answer_marked(errno_mark(), &got, sizeof got);
+}
+
+/* A question: whose signature is missing. */
+typedef struct {
+    uint32_t actor;
+    guvrendik_usage usage;
+    uint64_t moment;
+    guvrendik_signers signers;
+} question;
+
+static question take_question(payload *p) {
+    question q;
+    q.actor = take32(p);
+    take(p, &q.usage, sizeof q.usage);
+    q.moment = take64(p);
+    take(p, &q.signers, sizeof q.signers);
+    return q;
+}
+
+static void do_propose(payload *p) {
+    question q = take_question(p);
+    guvrendik_proposed got = guvrendik_propose(current, q.actor, q.usage, q.moment, q.signers);
+    answer_marked(errno_mark(), &got, sizeof got);
+}
+
+static void do_check_proposal(payload *p) {
+    question q = take_question(p);
+    guvrendik_proposal proposal;
+    take(p, &proposal, sizeof proposal);
+    guvrendik_checked got = guvrendik_check_proposal(current, q.actor, q.usage, q.moment, q.signers, proposal);
     answer_marked(errno_mark(), &got, sizeof got);
 }
 
@@ -952,6 +985,9 @@ typedef struct {
     guvrendik_plan p;
     guvrendik_claim c;
     guvrendik_book book;
+    guvrendik_signers signers;
+    guvrendik_proposal proposal;
+    guvrendik_usage usage;
     uint64_t now;
     uint32_t revoker, claim;
     uint32_t keeper, resource;
@@ -986,6 +1022,8 @@ typedef struct {
     guvrendik_soundness table;
     guvrendik_attached attached;
     guvrendik_fetched fetched;
+    guvrendik_proposed proposed;
+    guvrendik_checked checked;
     uint8_t text[GUVRENDIK_TEXT_REGISTER];
     uint8_t lines[GUVRENDIK_TEXT_VERDICT];
     uint8_t page[GUVRENDIK_TEXT_JSON];
@@ -1022,9 +1060,18 @@ static void take_input(payload *p, input *in) {
     in->book.count = GUVRENDIK_LIMIT_ENTRIES;
     for (uint32_t i = 0; i < GUVRENDIK_LIMIT_ENTRIES; i++) in->book.entries[i].resource = 70000 + i;
     in->book.entries[GUVRENDIK_LIMIT_ENTRIES - 1].resource = in->a.uses[0].resource;
+    /* The last of eight signers is who signs the claim, which is proposed. */
+    memset(&in->signers, 0, sizeof in->signers);
+    in->signers.count = GUVRENDIK_LIMIT_SIGNERS;
+    for (size_t i = 0; i < GUVRENDIK_LIMIT_SIGNERS; i++) in->signers.list[i] = in->r.actors.list[i].id;
+    in->signers.list[GUVRENDIK_LIMIT_SIGNERS - 1] = in->c.grantor;
+    in->proposal = (guvrendik_proposal){.kind = GUVRENDIK_PROPOSES_GRANT, .claim = in->c};
+    in->usage = (guvrendik_usage){.resource = in->c.resource, .right = 0};
+    while (in->usage.right < GUVRENDIK_LIMIT_RIGHTS - 1 && (in->c.rights >> in->usage.right & 1) == 0) in->usage.right++;
+    in->proposal.claim.rights = UINT32_C(1) << in->usage.right;
 }
 
-enum { CALLS = 20 };
+enum { CALLS = 22 };
 
 /* Where each call leaves its answer: a struct, and a text where it writes one. */
 static const struct {
@@ -1041,6 +1088,7 @@ static const struct {
     {PART(plan_judged), 0, 0},  {PART(table), 0, 0},
     {PART(plain), 0, 0},        {PART(plainly), 0, 0},
     {PART(attached), 0, 0},     {PART(fetched), 0, 0},
+    {PART(proposed), 0, 0},     {PART(checked), 0, 0},
 #undef PART
 };
 
@@ -1101,6 +1149,12 @@ static void make_call(size_t call, const input *in, const answers *known, answer
         break;
     case 19:
         out->fetched = guvrendik_fetch(in->book, in->r, in->a.actor, in->a.uses[0].resource, in->a.now);
+        break;
+    case 20:
+        out->proposed = guvrendik_propose(in->r, in->c.holder, in->usage, in->now, in->signers);
+        break;
+    case 21:
+        out->checked = guvrendik_check_proposal(in->r, in->c.holder, in->usage, in->now, in->signers, in->proposal);
         break;
     }
 }
@@ -1220,6 +1274,14 @@ static void stack_fetch(void) {
     const guvrendik_action *a = &stack_input.a;
     stack_answers.fetched = guvrendik_fetch(stack_input.book, stack_input.r, a->actor, a->uses[0].resource, a->now);
 }
+static void stack_propose(void) {
+    const input *in = &stack_input;
+    stack_answers.proposed = guvrendik_propose(in->r, in->c.holder, in->usage, in->now, in->signers);
+}
+static void stack_check_proposal(void) {
+    const input *in = &stack_input;
+    stack_answers.checked = guvrendik_check_proposal(in->r, in->c.holder, in->usage, in->now, in->signers, in->proposal);
+}
 static void stack_contains(void) {
     const guvrendik_resource *one = &stack_input.r.resources.list[0], *two = &stack_input.r.resources.list[1];
     stack_answers.contained = guvrendik_contains(one->path, one->len, two->path, two->len);
@@ -1280,6 +1342,7 @@ static void do_stack(payload *p) {
         stack_contains, stack_write_register, stack_read_register, stack_read_action, stack_verdict_text,
         stack_read_json, stack_write_json,    stack_clear_resource, stack_clear_expired, stack_judge_plan_text,
         stack_sound_table, stack_plain_gate, stack_plain_plan, stack_attach, stack_fetch,
+        stack_propose, stack_check_proposal,
     };
     take_input(p, &stack_input);
     uint64_t idle = stack_of(no_call), used[CALLS];
@@ -1413,6 +1476,8 @@ int main(void) {
         case SOUND_TABLE: do_sound_table(&p); break;
         case ATTACH: do_attach(&p); break;
         case FETCH: do_fetch(&p); break;
+        case PROPOSE: do_propose(&p); break;
+        case CHECK_PROPOSAL: do_check_proposal(&p); break;
         case BOUNDARY: do_boundary(&p); break;
         case THREADS: do_threads(&p); break;
         case STACK: do_stack(&p); break;

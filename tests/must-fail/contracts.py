@@ -65,8 +65,8 @@ def calls(crate, kept):
         taken = re.split(r"^\s*(?:requires|ensures) ", rest, maxsplit=1, flags=re.M)[0]
         owner = next((owner + "::" for start, end, owner in spans if start < found.start() < end), "")
         said, parts = above(text, found.start(), "//"), list(stated(rest))
-        if re.search(r"^\s*requires ", rest, re.M):
-            faults.append(f"{crate}::{name} asks something of its caller")
+        if re.search(r"^\s*requires ", rest, re.M) and f"`{crate}::{name}`" not in kept:
+            faults.append(f"{crate}::{name} asks something of its caller, and {PAGE} does not name it as an exception")
         if not parts and f"`{crate}::{name}`" not in kept:
             faults.append(f"{crate}::{name} has no contract, and {PAGE} does not name it as an exception")
         yield entry(f"`{owner}{name}({parameters(taken)})`: {said}")

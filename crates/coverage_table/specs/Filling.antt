@@ -107,10 +107,10 @@ module _ (e : Resource → ℕ → Entry) (resources : List Resource) (u : Usage
   abbrev cell : Resource → ℕ → Cell
   cell o b = record { right = b; entry = e o b }
 
-  row-found : (K : List Resource) → firstOf (λ o. eqb (u .resource) (o .id)) resources ≡ K
+  row-looked-up : (K : List Resource) → firstOf (λ o. eqb (u .resource) (o .id)) resources ≡ K
       → lookedUp (tableBy e resources) u ≡ entryIn (firstOf (λ c. eqb (u .right) (c .right)) (cellsIn (map (rowBy e) K)))
   unfolding lookedUp
-  row-found K found =
+  row-looked-up K found =
       ap (λ rows. entryIn (firstOf (λ c. eqb (u .right) (c .right)) (cellsIn rows)))
       (first-map (rowBy e) (λ row. eqb (u .resource) (row .resource .id)) resources ∙ ap (map (rowBy e)) found)
 
@@ -120,14 +120,14 @@ module _ (e : Resource → ℕ → Entry) (resources : List Resource) (u : Usage
 
   pub lookup-there : (o : Resource) → firstOf (λ o. eqb (u .resource) (o .id)) resources ≡ o ∷ [] → isRight (u .right) ≡ true
       → lookedUp (tableBy e resources) u ≡ e o (u .right)
-  lookup-there o found right = row-found (o ∷ []) found ∙ cell-found o (u .right ∷ []) (first-right (u .right) right)
+  lookup-there o found right = row-looked-up (o ∷ []) found ∙ cell-found o (u .right ∷ []) (first-right (u .right) right)
 
   pub lookup-past : (o : Resource) → firstOf (λ o. eqb (u .resource) (o .id)) resources ≡ o ∷ [] → isRight (u .right) ≡ false
       → lookedUp (tableBy e resources) u ≡ nothing
-  lookup-past o found right = row-found (o ∷ []) found ∙ cell-found o [] (past-right (u .right) right)
+  lookup-past o found right = row-looked-up (o ∷ []) found ∙ cell-found o [] (past-right (u .right) right)
 
   pub lookup-absent : firstOf (λ o. eqb (u .resource) (o .id)) resources ≡ [] → lookedUp (tableBy e resources) u ≡ nothing
-  lookup-absent found = row-found [] found ∙ ap entryIn (first-none (λ c. eqb (u .right) (c .right)) [] refl)
+  lookup-absent found = row-looked-up [] found ∙ ap entryIn (first-none (λ c. eqb (u .right) (c .right)) [] refl)
 
 -- ---- the paper of a register
 

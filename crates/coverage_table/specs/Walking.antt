@@ -1,10 +1,9 @@
 -- Laws: What code that walks claim by claim and cell by cell cites: a cell after one claim more, and that in a sound register containment by numbers is
 -- that of the paths. Assumes nothing.
-use mathlib.Core.Path.{_≡_, refl, ap, sym, _∙_}
+use mathlib.Core.Path.{_≡_, refl, _∙_}
 use mathlib.Core.Bool.{true, not, _&&_, cond}
-use mathlib.Core.List.{List, [], _∷_, _++_, map, append-nil}
+use mathlib.Core.List.{List, [], _∷_, _++_}
 use Prim.Native.Nat.{ℕ}
-use borrow.Author.Tests.{eqb-true}
 use lib.Dec.{eqb}
 use Rattle.lists.specs.Lists.{any, ands}
 use Rattle.lists.specs.Each.{ands-out}
@@ -19,7 +18,6 @@ use Rattle.soundness_rules.specs.Sound.{namesStand, sound}
 use Rattle.soundness_rules.specs.Places.{place-acceptable}
 use Rattle.soundness_rules.specs.Registers.{sound-out}
 use Rattle.gate_rules.specs.Gate.{contains}
-use Rattle.gate_rules.specs.Places.{any-place}
 use Rattle.gate_rules.specs.Coverage.{sound-place}
 use Rattle.gate_rules.specs.Reaching.{reach-natural}
 use Rattle.gate_rules.specs.Authority.{IsIn}

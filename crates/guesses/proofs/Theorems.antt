@@ -1,7 +1,7 @@
 -- What is proved of a guessed number: it tells the one who guesses nothing that is hidden from them. Assumes nothing.
 use mathlib.Core.Path.{_≡_}
 use mathlib.Core.Bool.{true, false}
-use mathlib.Core.List.{[], _∷_}
+use mathlib.Core.List.{List, [], _∷_}
 use Prim.Native.Nat.{ℕ}
 use Rattle.lists.specs.Lists.{All}
 use Rattle.register.specs.declared.Register.{Register}
@@ -13,11 +13,17 @@ use Rattle.actions.specs.declared.Violation.the-variants.{NotCovered}
 use Rattle.gate_rules.specs.Gate.{covers, useViolation, hopsFor, gated}
 use Rattle.gate_rules.specs.Plans.{actionsOf, planned}
 use Rattle.gate_rules.specs.Coverage.{not-covered-violation, not-covered-hops}
+use Rattle.refusals.specs.declared.Outcome.the-variants.{Refused}
+use Rattle.refusals.specs.declared.Refusal.the-variants.{NotPermitted}
+use Rattle.fingerprints.specs.Fingerprints.{bookFits, attaching, fetching, attached, fetched}
+use Rattle.fingerprints.specs.declared.Book.{Book}
+use Rattle.coverage_table.specs.Table.{plainlyGated}
 use Rattle.guesses.specs.Alike.{recordOf, ownerOf, hidden, LooksAlike}
 use Rattle.guesses.proofs.Hiding as hiding
 use Rattle.guesses.proofs.Blind as blind
 use Rattle.guesses.proofs.Planning as planning
 use Rattle.guesses.proofs.Owners as owners
+use Rattle.guesses.proofs.Books as books
 
 -- 1. The gate's whole answer, verdict, violations and hop counts, is one on registers that look alike to the actor.
 pub guess-blind : (r s : Register) (a : Action) → LooksAlike r s a → gated r a ≡ gated s a
@@ -47,3 +53,29 @@ plan-blind = planning.plan-blind
 pub owner-record-same : (r s : Register) → sound r ≡ true → sound s ≡ true → (x : ℕ) → recordOf r x ≡ recordOf s x
     → recordOf r (ownerOf r x) ≡ recordOf s (ownerOf s x)
 owner-record-same = owners.owner-record-same
+
+-- 5a. An attach is told the same, with the same book handed back, whatever book is lent.
+pub attach-blind : (b : Book) (r s : Register) (x n moment : ℕ) (f : List ℕ) → LooksAlike r s (attaching x n moment)
+    → attached b r x n moment f ≡ attached b s x n moment f
+attach-blind = books.attach-blind
+
+-- 5b. So is a fetch, with the same fingerprint.
+pub fetch-blind-register : (b : Book) (r s : Register) (x n moment : ℕ) → LooksAlike r s (fetching x n moment)
+    → fetched b r x n moment ≡ fetched b s x n moment
+fetch-blind-register = books.fetch-blind-register
+
+-- 5c. With two books that fit, an attach is told 27 with the one where it is with the other.
+pub attach-permission : (b c : Book) → bookFits b ≡ true → bookFits c ≡ true → (r s : Register) (x n moment : ℕ) (f g : List ℕ)
+    → LooksAlike r s (attaching x n moment) → attached b r x n moment f .outcome ≡ Refused NotPermitted
+    → attached c s x n moment g .outcome ≡ Refused NotPermitted
+attach-permission = books.attach-permission
+
+-- 5d. So is a fetch.
+pub fetch-permission : (b c : Book) → bookFits b ≡ true → bookFits c ≡ true → (r s : Register) (x n moment : ℕ)
+    → LooksAlike r s (fetching x n moment) → fetched b r x n moment .outcome ≡ Refused NotPermitted
+    → fetched c s x n moment .outcome ≡ Refused NotPermitted
+fetch-permission = books.fetch-permission
+
+-- 6. The plain gate's whole answer is one too.
+pub plain-blind : (r s : Register) (a : Action) → LooksAlike r s a → plainlyGated r a ≡ plainlyGated s a
+plain-blind = books.plain-blind

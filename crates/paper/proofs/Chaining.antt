@@ -1,23 +1,22 @@
 -- A claim's hop count and whether it lives, by what is remarked on the parent that stands at the place that is lent: in a sound register these are its hop
 -- count and whether it is live among all claims. Assumes nothing.
-use mathlib.Core.Path.{_≡_, refl, ap, sym, _∙_}
+use mathlib.Core.Path.{_≡_, ap, sym, _∙_}
 use mathlib.Core.Bool.{true, _&&_, cond}
-use mathlib.Core.List.{List, [], _∷_, _++_, map}
+use mathlib.Core.List.{List, [], _∷_, map}
 use Prim.Native.Nat.{ℕ, suc, _+_, _<_, _≤_}
 use native.Mathlib.Numerals.{add-one}
 use native.Mathlib.Omega.{arith}
 use borrow.Author.Tests.{lt-ltb, le-ltb}
 use lib.Dec.{ltb}
-use lib.ListN.{length, getD, take, drop, length-take}
-use lib.Seq.{split-at, getD-take, take-take}
+use lib.ListN.{length, getD, take, drop}
+use lib.Seq.{take-take}
 use Rattle.lists.specs.Lists.{every}
 use Rattle.register.specs.Limits.{claimLimit, hopLimit}
-use Rattle.register.specs.Register.{claimsOf, noClaim}
+use Rattle.register.specs.Register.{claimsOf}
 use Rattle.register.specs.Chain.{latest, above, hopsOf, live, current}
 use Rattle.register.specs.declared.Claim.{Claim}
 use Rattle.register.specs.declared.Register.{Register}
 use Rattle.soundness_rules.specs.Sound.{sound}
-use Rattle.soundness_rules.specs.Registers.{sound-out}
 use Rattle.soundness_rules.specs.Chains.{place-above}
 use Rattle.columns.specs.Columns.{latestPlace, placesUp}
 use Rattle.columns.specs.Laws.{place-cases, place-found, places-up-at, places-up-none}
@@ -29,9 +28,9 @@ use Rattle.lookup.specs.Walks.{above-natural, sheet-few, sheet-at, sheet-number
 use Rattle.gate_rules.specs.Places.{latest-split}
 use Rattle.gate_rules.specs.Coverage.{sound-place}
 use Rattle.gate_rules.specs.Trace.{place-hops-most}
-use Rattle.gate_rules.specs.Authority.{IsIn}
 use Rattle.coverage_table.specs.Remarks.{worldAround}
 use Rattle.paper.specs.Paper.{claimStands}
+use Rattle.paper.specs.Laws.{claim-in}
 
 module _ (r : Register) (whole : sound r ≡ true) (room : length (r .claims .list) ≡ claimLimit) where
   abbrev all : List Claim
@@ -49,23 +48,10 @@ module _ (r : Register) (whole : sound r ≡ true) (room : length (r .claims .li
   abbrev ups : List ℕ
   ups = earlierPlaces ids parents (r .claims .count)
 
-  -- as many claims stand as are counted
-  pub claims-counted : length (claimsOf (r .claims)) ≡ r .claims .count
-  claims-counted = omega (arith, length-take (r .claims .count) (r .claims .list), sheet-few r room whole, room)
-
   module _ (j : ℕ) (within : j < r .claims .count) where
-    -- the claim at a place stands
-    abbrev pub claim-in : IsIn (claimsOf (r .claims)) (claimStands r j)
-    claim-in = record {
-      before = take j (claimsOf (r .claims));
-      after = drop (suc j) (claimsOf (r .claims));
-      split = split-at (claimsOf (r .claims)) j noClaim (omega (arith, claims-counted, within))
-          ∙ ap (λ c. take j (claimsOf (r .claims)) ++ c ∷ drop (suc j) (claimsOf (r .claims))) (getD-take (r .claims .count) (r .claims .list) j noClaim within);
-    }
-
     -- it has at most 16 hops
     pub hops-few : hopsOf all (claimStands r j) ≤ hopLimit
-    hops-few = place-hops-most r whole (claimStands r j) claim-in
+    hops-few = place-hops-most r whole (claimStands r j) (claim-in r whole room j within)
 
     -- the claims before it are those of the sheet
     earlier-sheet : take j (claimsOf (r .claims)) ≡ take j (claimsIn sheet)
@@ -75,8 +61,8 @@ module _ (r : Register) (whole : sound r ≡ true) (room : length (r .claims .li
     above-places : above all (claimStands r j) ≡ map (claimAt sheet) (placesUp ups j)
     above-places =
         let rest : List Claim = drop (suc j) (claimsOf (r .claims)) in
-        ap (λ l. above l (claimStands r j)) (ap latest (claim-in .split) ∙ latest-split (take j (claimsOf (r .claims))) (claimStands r j) rest)
-        ∙ place-above (worldAround r) (latest rest) (claimStands r j) (latest (take j (claimsOf (r .claims)))) (sound-place r whole (claimStands r j) claim-in)
+        ap (λ l. above l (claimStands r j)) (ap latest (claim-in r whole room j within .split) ∙ latest-split (take j (claimsOf (r .claims))) (claimStands r j) rest)
+        ∙ place-above (worldAround r) (latest rest) (claimStands r j) (latest (take j (claimsOf (r .claims)))) (sound-place r whole (claimStands r j) (claim-in r whole room j within))
         ∙ ap (λ l. above (latest l) (claimStands r j)) earlier-sheet
         ∙ ap (above (latest (take j (claimsIn sheet)))) (sym (sheet-at r room whole j within))
         ∙ sym (above-natural sheet (sheet-long (r .claims)) (r .claims .count) (sheet-few r room whole) (sheet-numbered r room whole) j within)

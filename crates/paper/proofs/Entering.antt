@@ -1,12 +1,12 @@
 -- A loop that enters a claim in the cells of one row, right by right. Assumes nothing.
-use mathlib.Core.Path.{_≡_, refl, ap, sym, _∙_}
+use mathlib.Core.Path.{_≡_, refl, _∙_}
 use mathlib.Core.Bool.{true, false, _&&_}
 use mathlib.Core.List.{List}
 use Prim.Native.Nat.{ℕ, _+_, _*_, _<_, _≤_}
 use native.Mathlib.Omega.{arith}
 use borrow.Author.Tests.{eqb-true, eqb-false}
 use lib.Dec.{eqb, ltb}
-use lib.ListN.{length, getD, set, length-set}
+use lib.ListN.{length, set, length-set}
 use lib.Seq.{getD-set-same, getD-set-other}
 use Rattle.lists.specs.Tests.{cases}
 use Rattle.rights.specs.Rights.{rightCount, hasRight}
@@ -41,9 +41,6 @@ module _ {before : List ℕ} {row rights place far first mine : ℕ} where
   }
 
   module _ {i : ℕ} {after : List ℕ} (s : Entering before row rights place far first mine i after) where
-    pub entering-length : length after ≡ cellLimit
-    entering-length = s .long ∙ s .room
-
     module _ (h : i < rightCount) where
       pub entering-room : row * rightCount + i < length after
       entering-room = omega (arith, h, s .inside, s .long, s .room)

@@ -2,16 +2,16 @@
 use mathlib.Core.Path.{_≡_, refl, ap, sym, _∙_}
 use mathlib.Core.Bool.{Bool, true, false, not, _&&_, cond}
 use mathlib.Core.List.{List, [], _∷_, _++_, map, map-append}
-use Prim.Native.Nat.{ℕ, suc, _+_, _<_, _≤_}
+use Prim.Native.Nat.{ℕ, _+_, _<_, _≤_}
 use native.Mathlib.Numerals.{add-one}
 use native.Mathlib.Omega.{arith}
-use borrow.Author.Tests.{lt-ltb, le-ltb, le-leb, lt-leb, leb-true, leb-false}
+use borrow.Author.Tests.{lt-ltb, le-ltb, leb-true, leb-false}
 use lib.Dec.{eqb, ltb, leb}
-use lib.ListN.{length, getD, take}
+use lib.ListN.{length, take}
 use lib.Seq.{take-suc, getD-take}
-use Rattle.lists.specs.Tests.{cases, clash, and-left, and-right}
+use Rattle.lists.specs.Tests.{cases, clash}
 use Rattle.lists.specs.Lists.{ands, any}
-use Rattle.rights.specs.Rights.{rightCount, hasRight}
+use Rattle.rights.specs.Rights.{hasRight}
 use Rattle.paths.specs.Containment.{contained, reached, reachBetween}
 use Rattle.register.specs.Limits.{resourceLimit, claimLimit}
 use Rattle.register.specs.Register.{resourcesOf, claimsOf, pathOf, noClaim}
@@ -23,29 +23,28 @@ use Rattle.soundness_rules.specs.Sound.{sound}
 use Rattle.columns.specs.Columns.{resourceId, resourcesTo, latestPlace}
 use Rattle.columns.specs.Laws.{place-cases}
 use Rattle.columns.specs.declared.Place.{Place}
-use Rattle.columns.specs.declared.Place.the-variants.{At, Nowhere}
+use Rattle.columns.specs.declared.Place.the-variants.{At}
 use Rattle.lookup.specs.Walks.{sheet-few}
-use Rattle.gate_rules.specs.Gate.{contains, reachOf}
-use Rattle.coverage_table.specs.Table.{Remark, Entry, nothing, openly, claimed, isOpen, openEntry, speaks, keepsOff, entryAfter}
+use Rattle.gate_rules.specs.Gate.{contains}
+use Rattle.coverage_table.specs.Table.{Entry, nothing, openly, claimed, isOpen, openEntry, speaks, keepsOff, entryAfter}
 use Rattle.coverage_table.specs.Remarks.{remarkAmong}
 use Rattle.coverage_table.specs.Filling.{heard}
 use Rattle.coverage_table.specs.Walking.{heard-next, resource-stands, entered-natural}
 use Rattle.paper.specs.Cells.{cellAt, firstNumber, resourceAt, numberOver, OpenCells, RowsEntered, EnteredFrom, ClaimEntered}
-use Rattle.paper.specs.Paper.{claimStands, Tells, entryBy, Filled}
-use Rattle.paper.specs.Laws.{row-stands, row-found, row-absent}
-use Rattle.paper.proofs.Chaining.{claims-counted, claim-in}
+use Rattle.paper.specs.Paper.{claimStands, CellTells, entryBy, Filled}
+use Rattle.paper.specs.Laws.{row-stands, row-found, row-absent, claims-counted, claim-in}
 
 -- what a number tells, it tells of the same entry, and further on in the walk
-tells-same : (r : Register) (i : ℕ) (e f : Entry) (n m : ℕ) → e ≡ f → n ≡ m → Tells r i f m → Tells r i e n
+tells-same : (r : Register) (i : ℕ) (e f : Entry) (n m : ℕ) → e ≡ f → n ≡ m → CellTells r i f m → CellTells r i e n
 tells-same r i e f n m same number told = rw (same, number) told
 
-tells-later : (r : Register) (i : ℕ) (e : Entry) (n : ℕ) → Tells r i e n → Tells r (i + 1) e n
+tells-later : (r : Register) (i : ℕ) (e : Entry) (n : ℕ) → CellTells r i e n → CellTells r (i + 1) e n
 tells-later r i nothing n told = told
 tells-later r i openly n told = told
 tells-later r i (claimed c hops far) n told = (told .0, omega (arith, told .1), told .2, told .3, told .4)
 
 -- a cell keeps a length off where its number is not below the first number of the length
-keeps-number : (r : Register) (i : ℕ) (e : Entry) (n : ℕ) → Tells r i e n → i ≤ claimLimit → (far : ℕ) → not (keepsOff e far) ≡ ltb n (firstNumber far)
+keeps-number : (r : Register) (i : ℕ) (e : Entry) (n : ℕ) → CellTells r i e n → i ≤ claimLimit → (far : ℕ) → not (keepsOff e far) ≡ ltb n (firstNumber far)
 keeps-number r i nothing n told few far = sym (lt-ltb n (firstNumber far) (omega (arith, told)))
 keeps-number r i openly n told few far = sym (lt-ltb n (firstNumber far) (omega (arith, told)))
 keeps-number r i (claimed c hops most) n told few far =
@@ -81,9 +80,9 @@ module _ (r : Register) (i : ℕ) (few : i ≤ claimLimit) (c : Claim) (stands :
   abbrev numberTurned : ℕ → List ℕ → List ℕ → ℕ → ℕ
   numberTurned n p q b = numberOver (reachBetween p q) (c .rights) b i n
 
-  tells-turn : (e : Entry) (n : ℕ) → Tells r i e n → (p q : List ℕ) (b : ℕ) → Tells r (i + 1) (entryTurned e p q b) (numberTurned n p q b)
+  tells-turn : (e : Entry) (n : ℕ) → CellTells r i e n → (p q : List ℕ) (b : ℕ) → CellTells r (i + 1) (entryTurned e p q b) (numberTurned n p q b)
   tells-turn e n told p q b =
-      let kept : (entryTurned e p q b ≡ e → numberTurned n p q b ≡ n → Tells r (i + 1) (entryTurned e p q b) (numberTurned n p q b)) =
+      let kept : (entryTurned e p q b ≡ e → numberTurned n p q b ≡ n → CellTells r (i + 1) (entryTurned e p q b) (numberTurned n p q b)) =
       λ same number. tells-same r (i + 1) (entryTurned e p q b) e (numberTurned n p q b) n same number (tells-later r i e n told) in
       let keeps : not (keepsOff e (reached p q)) ≡ ltb n (firstNumber (reached p q)) = keeps-number r i e n told few (reached p q) in
       cases (contained p q)

@@ -4,24 +4,22 @@ use mathlib.Core.Bool.{Bool, true, false, _&&_, cond}
 use mathlib.Core.List.{List, map}
 use Prim.Native.Nat.{ℕ, _+_, _<_, _≤_}
 use native.Mathlib.Omega.{arith}
-use borrow.Author.Tests.{eqb-true, eqb-false, ne-eqb, lt-ltb, le-ltb, ltb-true}
+use borrow.Author.Tests.{eqb-true, eqb-false, ne-eqb, ltb-true}
 use lib.Dec.{eqb, ltb}
 use lib.ListN.{length, getD, set, replicate, length-set, length-map, length-replicate, List·getD-eq-default}
 use lib.Seq.{getD-set-same, getD-set-other}
-use Rattle.lists.specs.Tests.{cases, and-left, and-right}
+use Rattle.lists.specs.Tests.{cases, and-right}
 use Rattle.register.specs.Limits.{resourceLimit, claimLimit, hopLimit}
 use Rattle.register.specs.Register.{claimsOf, noResource}
 use Rattle.register.specs.Chain.{latest, hopsOf, live, current}
 use Rattle.register.specs.declared.Claim.{Claim}
 use Rattle.register.specs.declared.Register.{Register}
 use Rattle.soundness_rules.specs.Sound.{sound}
-use Rattle.soundness_rules.specs.Registers.{sound-out}
 use Rattle.columns.specs.Columns.{resourceId, resourcesTo}
 use Rattle.columns.specs.Laws.{up-to-length}
 use Rattle.lookup.specs.Walks.{sheet-few}
 use Rattle.paper.specs.Cells.{cellLimit, OpenCells, ClaimEntered}
 use Rattle.paper.specs.Paper.{claimStands, Filled, Walkable, Written}
-use Rattle.paper.specs.declared.Page.{Page}
 use Rattle.paper.proofs.Chaining.{ups-long, up-cases, hops-few, hops-next, lives-next}
 use Rattle.paper.proofs.Turning.{filled-start, filled-passed, filled-entered, entered-long}
 

@@ -1,5 +1,5 @@
 -- Working: The cells of a table as numbers of one list, seventeen to a resource, and what comes of them when a claim is entered. They are shaped for the
--- code; what a number says of its cell is `Tells` of Paper.
+-- code; what a number says of its cell is `CellTells` of Paper.
 use mathlib.Core.Path.{_≡_}
 use mathlib.Core.Bool.{Bool, _&&_, cond}
 use mathlib.Core.List.{List, []}

@@ -1,37 +1,38 @@
 -- Laws: What stands in the cell of a use says of the paper what the definition's table says of the use. Assumes nothing.
 use mathlib.Core.Path.{_≡_, refl, sym, ap, _∙_}
-use mathlib.Core.Bool.{Bool, true, false, _&&_, cond}
-use mathlib.Core.List.{List, [], _∷_, _++_, map, append-nil}
-use Prim.Native.Nat.{ℕ, suc, _≤_, _<_}
+use mathlib.Core.Bool.{true, false}
+use mathlib.Core.List.{List, [], _∷_, _++_, map}
+use Prim.Native.Nat.{ℕ, suc, _<_}
 use native.Mathlib.Omega.{arith}
-use borrow.Author.Tests.{eqb-true, eq-eqb, lt-ltb, ltb-true, ltb-false}
+use borrow.Author.Tests.{eqb-true, eq-eqb, lt-ltb, ltb-true}
 use lib.Dec.{eqb, ltb}
-use lib.ListN.{length, getD, take, drop, length-take, List·getD-map}
+use lib.ListN.{length, take, drop, length-take, List·getD-map}
 use lib.Seq.{split-at, getD-take, take-take}
 use Rattle.lists.specs.Tests.{cases}
 use Rattle.lists.specs.Lists.{any}
 use Rattle.rights.specs.Rights.{rightCount, isRight}
-use Rattle.register.specs.Limits.{resourceLimit}
-use Rattle.register.specs.Register.{resourcesOf, claimsOf, noResource}
+use Rattle.register.specs.Limits.{resourceLimit, claimLimit}
+use Rattle.register.specs.Register.{resourcesOf, claimsOf, noResource, noClaim}
 use Rattle.register.specs.Chain.{latest}
 use Rattle.register.specs.declared.Resource.{Resource}
+use Rattle.register.specs.declared.Claim.{Claim}
 use Rattle.register.specs.declared.Register.{Register}
 use Rattle.soundness_rules.specs.Sound.{sound}
 use Rattle.soundness_rules.specs.Registers.{sound-out}
 use Rattle.columns.specs.Columns.{resourceId, resourcesTo, latestPlace}
 use Rattle.columns.specs.declared.Place.{Place}
 use Rattle.columns.specs.declared.Place.the-variants.{At, Nowhere}
-use Rattle.columns.specs.Laws.{up-to-at, up-to-first, place-cases, place-found, nowhere-none, among-natural}
+use Rattle.columns.specs.Laws.{up-to-at, up-to-first, place-found, nowhere-none, among-natural}
 use Rattle.actions.specs.declared.Usage.{Usage}
 use Rattle.gate_rules.specs.Gate.{firstOf}
 use Rattle.gate_rules.specs.Places.{place-any, first-none, first-found}
 use Rattle.gate_rules.specs.Trace.{distinct-place}
 use Rattle.gate_rules.specs.Authority.{IsIn}
-use Rattle.coverage_table.specs.Table.{Entry, nothing, openEntry, coverTable, lookedUp}
+use Rattle.coverage_table.specs.Table.{Entry, openEntry, coverTable, lookedUp}
 use Rattle.coverage_table.specs.Remarks.{remarkAmong}
-use Rattle.coverage_table.specs.Filling.{tableBy, heard, remarksAdded, table-heard, added-sound, lookup-there, lookup-past, lookup-absent}
+use Rattle.coverage_table.specs.Filling.{tableBy, heard, table-heard, added-sound, lookup-there, lookup-past, lookup-absent}
 use Rattle.paper.specs.Cells.{pastResource, resourceAt, cellIn}
-use Rattle.paper.specs.Paper.{Tells, entryBy, Filled}
+use Rattle.paper.specs.Paper.{claimStands, CellTells, entryBy, Filled}
 
 module _ (r : Register) (whole : sound r ≡ true) (room : length (r .resources .list) ≡ resourceLimit) where
   -- as many resources stand as are counted
@@ -83,27 +84,29 @@ module _ (r : Register) (whole : sound r ≡ true) (room : length (r .resources 
       found .1 .alone ∙ ap (λ o. o ∷ []) one
 
   module _ (moment x : ℕ) where
-    abbrev entries : Resource → ℕ → Entry
-    entries o b = heard r x o b (remarksAdded moment [] (claimsOf (r .claims))) (openEntry o b)
+    -- the table after the last claim, cell by cell
+    pub table-whole : coverTable r moment x ≡ tableBy (λ o b. entryBy r moment x o b (r .claims .count)) (resourcesOf (r .resources))
+    table-whole =
+        let all : List Claim = latest (claimsOf (r .claims)) in
+        table-heard r moment x
+        ∙ ap (λ l. tableBy (λ o b. heard r x o b l (openEntry o b)) (resourcesOf (r .resources)))
+        (added-sound r moment x whole
+        ∙ ap (map (remarkAmong moment all)) (sym (take-take (r .claims .count) (r .claims .count) (r .claims .list) (omega arith))))
 
-    -- after the last claim the entry of a cell is that of the table
-    entry-whole : (o : Resource) (b : ℕ) → entryBy r moment x o b (r .claims .count) ≡ entries o b
-    entry-whole o b =
-        ap (λ cs. heard r x o b (map (remarkAmong moment (latest (claimsOf (r .claims)))) cs) (openEntry o b))
-        (take-take (r .claims .count) (r .claims .count) (r .claims .list) (omega arith))
-        ∙ ap (λ l. heard r x o b l (openEntry o b)) (sym (added-sound r moment x whole))
+    abbrev entries : Resource → ℕ → Entry
+    entries o b = entryBy r moment x o b (r .claims .count)
 
     -- what is looked up in the table, by the place of the used resource
     looked-up-at : (cells : List ℕ) → Filled r moment x (r .claims .count) cells → (u : Usage) (p : Place)
         → latestPlace reportsOf (r .resources .count) (u .resource) ≡ p
-        → Tells r (r .claims .count) (lookedUp (tableBy entries (resourcesOf (r .resources))) u) (cellIn cells (u .right) p)
+        → CellTells r (r .claims .count) (lookedUp (tableBy entries (resourcesOf (r .resources))) u) (cellIn cells (u .right) p)
     looked-up-at cells f u (At row) q =
         let found = row-found (u .resource) row q in
         let first = first-row (u .resource) row (found .0) (found .1) in
         let inside : ltb row resourceLimit ≡ true = lt-ltb row resourceLimit (omega (arith, found .0, sound-out r whole .limits .resourceCount)) in
         cases (isRight (u .right))
         (λ right.
-        rw (lookup-there entries (resourcesOf (r .resources)) u (resourceAt (r .resources) row) first right, ← entry-whole (resourceAt (r .resources) row) (u .right), inside, right)
+        rw (lookup-there entries (resourcesOf (r .resources)) u (resourceAt (r .resources) row) first right, inside, right)
         (f .tells row (u .right) (found .0) (ltb-true (u .right) rightCount right)))
         (λ past.
         rw (lookup-past entries (resourcesOf (r .resources)) u (resourceAt (r .resources) row) first past, inside, past) refl)
@@ -112,6 +115,19 @@ module _ (r : Register) (whole : sound r ≡ true) (room : length (r .resources 
 
     -- the number in the cell of a use tells what is looked up in the table
     pub cell-looked-up : (cells : List ℕ) → Filled r moment x (r .claims .count) cells → (u : Usage)
-        → Tells r (r .claims .count) (lookedUp (coverTable r moment x) u) (cellIn cells (u .right) (latestPlace reportsOf (r .resources .count) (u .resource)))
-    cell-looked-up cells f u =
-        rw (table-heard r moment x) (looked-up-at cells f u (latestPlace reportsOf (r .resources .count) (u .resource)) refl)
+        → CellTells r (r .claims .count) (lookedUp (coverTable r moment x) u) (cellIn cells (u .right) (latestPlace reportsOf (r .resources .count) (u .resource)))
+    cell-looked-up cells f u = rw table-whole (looked-up-at cells f u (latestPlace reportsOf (r .resources .count) (u .resource)) refl)
+
+module _ (r : Register) (whole : sound r ≡ true) (room : length (r .claims .list) ≡ claimLimit) where
+  -- as many claims stand as are counted
+  pub claims-counted : length (claimsOf (r .claims)) ≡ r .claims .count
+  claims-counted = omega (arith, length-take (r .claims .count) (r .claims .list), sound-out r whole .limits .claimCount, room)
+
+  -- the claim at a place stands
+  abbrev pub claim-in : (j : ℕ) → j < r .claims .count → IsIn (claimsOf (r .claims)) (claimStands r j)
+  claim-in j within = record {
+    before = take j (claimsOf (r .claims));
+    after = drop (suc j) (claimsOf (r .claims));
+    split = split-at (claimsOf (r .claims)) j noClaim (omega (arith, claims-counted, within))
+        ∙ ap (λ c. take j (claimsOf (r .claims)) ++ c ∷ drop (suc j) (claimsOf (r .claims))) (getD-take (r .claims .count) (r .claims .list) j noClaim within);
+  }

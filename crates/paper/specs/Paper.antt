@@ -26,10 +26,10 @@ abbrev pub claimStands : Register → ℕ → Claim
 claimStands r j = getD (r .claims .list) j noClaim
 
 -- what a cell's number says of its entry: a claim stands at a place that the walk has come past
-abbrev pub Tells : Register → ℕ → Entry → ℕ → Type 0
-Tells r i nothing n = n ≡ 0
-Tells r i openly n = n ≡ 1
-Tells r i (claimed c hops far) n =
+abbrev pub CellTells : Register → ℕ → Entry → ℕ → Type 0
+CellTells r i nothing n = n ≡ 0
+CellTells r i openly n = n ≡ 1
+CellTells r i (claimed c hops far) n =
     (p : ℕ) × (p < i) × (n ≡ firstNumber far + p) × (c ≡ claimStands r p) × (hops ≡ hopsOf (latest (claimsOf (r .claims))) c)
 
 -- the entry of x in the cell of a resource and a right after the first i claims
@@ -39,7 +39,7 @@ entryBy r moment x o b i = heard r x o b (map (remarkAmong moment (latest (claim
 -- the table of x after the first i claims
 pub record Filled (r : Register) (moment x i : ℕ) (cells : List ℕ) : Type 0 where
   pub long : length cells ≡ cellLimit
-  pub tells : (row b : ℕ) → row < r .resources .count → b < rightCount → Tells r i (entryBy r moment x (resourceAt (r .resources) row) b i) (cellAt cells row b)
+  pub tells : (row b : ℕ) → row < r .resources .count → b < rightCount → CellTells r i (entryBy r moment x (resourceAt (r .resources) row) b i) (cellAt cells row b)
 
 -- what the walk is lent of a sound register: where the parents stand, and the ids of the resources
 pub record Walkable (r : Register) (ups reports : List ℕ) : Type 0 where

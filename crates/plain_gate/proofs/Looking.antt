@@ -14,12 +14,12 @@ use Rattle.register.specs.Chain.{latest, hopsOf}
 use Rattle.register.specs.declared.Register.{Register}
 use Rattle.coverage_table.specs.Table.{Entry, nothing, openly, claimed, isNothing, entryHops}
 use Rattle.paper.specs.Cells.{firstNumber}
-use Rattle.paper.specs.Paper.{claimStands, Tells}
+use Rattle.paper.specs.Paper.{claimStands, CellTells}
 use Rattle.plain_gate.specs.Cells.{hopsTold}
 
 module _ (r : Register) (i : ℕ) where
   -- nothing is 0, and nothing else is
-  pub tells-nothing : (e : Entry) (n : ℕ) → Tells r i e n → isNothing e ≡ eqb n 0
+  pub tells-nothing : (e : Entry) (n : ℕ) → CellTells r i e n → isNothing e ≡ eqb n 0
   tells-nothing nothing n told = rw told
   tells-nothing openly n told = rw told
   tells-nothing (claimed c hops far) n told =
@@ -34,7 +34,7 @@ module _ (r : Register) (i : ℕ) where
 
   -- the hop count
   pub tells-hops : (hops : List ℕ) → i ≤ claimLimit → ((j : ℕ) → j < i → getD hops j 0 ≡ hopsOf (latest (claimsOf (r .claims))) (claimStands r j))
-      → (e : Entry) (n : ℕ) → Tells r i e n → entryHops e ≡ hopsTold hops n
+      → (e : Entry) (n : ℕ) → CellTells r i e n → entryHops e ≡ hopsTold hops n
   tells-hops hops few remarked nothing n told = rw told
   tells-hops hops few remarked openly n told = rw told
   tells-hops hops few remarked (claimed c count far) n told =

@@ -95,17 +95,7 @@ free-from-greatest (suc tries) n cs =
     let ih = free-from-greatest tries (suc n) cs in
     cases (any (λ c. eqb n (c .id)) cs) (λ e. rw (free-hit tries n cs e) (omega (arith, ih))) (λ e. rw (free-miss tries n cs e) (omega arith))
 
-free-below : (tries n : ℕ) (cs : List Claim) (m : ℕ) → n ≤ m → m < freeFrom tries n cs → any (λ c. eqb m (c .id)) cs ≡ true
-free-below zero n cs m low high = let end = free-end n cs in absurd (omega (arith, end, high))
-free-below (suc tries) n cs m low high =
-    cases (any (λ c. eqb n (c .id)) cs)
-    (λ e. cases (eqb n m)
-    (λ k. let same : n ≡ m = eqb-true n m k in rw (← same) e)
-    (λ k. let other : (n ≡ m → ⊥) = eqb-false n m k in
-    free-below tries (suc n) cs m (omega arith) (rw (free-hit tries n cs e) at high)))
-    (λ e. let end = free-miss tries n cs e in absurd (omega (arith, end, high)))
-
--- the least free id is at least 1, at most one more than there are claims, no claim's, and the least such
+-- the least free id is at least 1, at most one more than there are claims, and no claim's
 pub least-free-least : (cs : List Claim) → 1 ≤ leastFree cs
 least-free-least cs = free-from-least (length cs) 1 cs
 
@@ -114,6 +104,3 @@ least-free-greatest cs = free-from-greatest (length cs) 1 cs
 
 pub least-free-alone : (cs : List Claim) → any (λ c. eqb (leastFree cs) (c .id)) cs ≡ false
 least-free-alone cs = free-found (length cs) 1 cs (ids-from-few 1 cs)
-
-pub least-free-below : (cs : List Claim) (m : ℕ) → 1 ≤ m → m < leastFree cs → any (λ c. eqb m (c .id)) cs ≡ true
-least-free-below cs m low high = free-below (length cs) 1 cs m low high

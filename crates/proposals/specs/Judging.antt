@@ -1,5 +1,4 @@
--- Laws: What the gate's violations of the one-use action tell the planner: any list but the empty one and a single kind 4 bars every grant; and under a kind 4 a
--- machine's owner is asked by the owner's own one-use action; and a resource's path contains itself where it has no `..`. Assumes nothing.
+-- Laws: A machine's owner is asked by the owner's own one-use action. Assumes nothing.
 use mathlib.Core.Path.{_≡_, refl, ap, sym, _∙_}
 use mathlib.Core.Bool.{Bool, true, false, not, _&&_, cond, and-false}
 use mathlib.Core.List.{List, [], _∷_, _++_, append-nil}
@@ -33,41 +32,6 @@ use Rattle.proposals.specs.Permitting.{flagless, permits-out, permits-in
 use Rattle.proposals.specs.Owners.{one-by-id}
 use Rattle.proposals.specs.Ranges.{human-known, human-unlike}
 use Rattle.proposals.specs.Exact.{Asked, one-fits}
-
--- the violations of the one-use action: kind 2 of an ownerless machine, then that of the use
-pub one-violations : (r : Register) (x : ℕ) (u : Usage) (moment : ℕ)
-    → violationsOf r (oneUse x u moment) ≡ cond (isOwnerless r x) (NoOwner x ∷ []) [] ++ useViolation r moment x 0 u
-unfolding violationsOf
-one-violations r x u moment =
-    let uses : useViolations r moment x 0 (u ∷ []) ≡ useViolation r moment x 0 u =
-    use-violations-cons r moment x 0 u [] ∙ rw (use-violations-nil r moment x 1) (append-nil (useViolation r moment x 0 u)) in
-    rw (flagless, governed-nil 0, uses)
-    (ap (λ l. cond (isOwnerless r x) (NoOwner x ∷ []) [] ++ l)
-    (cases (isMachine (actorsOf (r .actors)) x) (λ e. rw e) (λ e. rw e)))
-
-barred-ownerless : (r : Register) (x : ℕ) (u : Usage) (moment : ℕ) → isOwnerless r x ≡ true → clear r x u moment ≡ false
-unfolding clear
-barred-ownerless r x u moment e = rw e
-
-barred-owner : (r : Register) (x : ℕ) (u : Usage) (moment : ℕ) → ownerLacks r moment x u ≡ true → clear r x u moment ≡ false
-unfolding clear
-barred-owner r x u moment e = rw e (and-false (not (isOwnerless r x)))
-
--- any list but the empty one and a single kind 4 bars every grant
-pub others-barred : (r : Register) (x : ℕ) (u : Usage) (moment : ℕ) → (violationsOf r (oneUse x u moment) ≡ [] → ⊥)
-    → (violationsOf r (oneUse x u moment) ≡ NotCovered 0 ∷ [] → ⊥) → clear r x u moment ≡ false
-others-barred r x u moment some other =
-    cases (isOwnerless r x) (λ e. barred-ownerless r x u moment e)
-    (λ e. let alone : violationsOf r (oneUse x u moment) ≡ useViolation r moment x 0 u = one-violations r x u moment ∙ rw e in
-    cases (covers r moment x u)
-    (λ c. cases (ownerLacks r moment x u) (λ l. barred-owner r x u moment l)
-    (λ l. absurd (some (alone ∙ use-violation-in r moment x 0 u record { covered = c; ownerCovers = l }))))
-    (λ c. absurd (other (alone ∙ not-covered-violation r moment x 0 u c))))
-
--- a single kind 4 says that the actor does not cover the use and is no machine without owner; of its owner it says nothing
-pub kind-four : (r : Register) (x : ℕ) (u : Usage) (moment : ℕ) → isOwnerless r x ≡ false → covers r moment x u ≡ false
-    → violationsOf r (oneUse x u moment) ≡ NotCovered 0 ∷ []
-kind-four r x u moment owned c = one-violations r x u moment ∙ rw owned (not-covered-violation r moment x 0 u c)
 
 -- who is no machine has no owner to ask
 unlike-owned : (r : Register) (x : ℕ) → worldIn r .machine x ≡ false → isOwnerless r x ≡ false
@@ -134,29 +98,3 @@ module _ (r : Register) (x : ℕ) (u : Usage) (moment : ℕ) (asked : Asked r x 
       lacks-owner
       ∙ ap not (sym (human-permits r (a .owner) u moment
       record { judged = asked .judged; ranged = asked .ranged; right = asked .right; timely = asked .timely; known = human-known r (a .owner) person } person))
-
--- the used resource's path contains itself exactly where it has no `..`
-pub itself-natural : (r : Register) → sound r ≡ true → (o : Resource) → IsIn (resourcesOf (r .resources)) o
-    → contains r (o .id) (o .id) ≡ not (climbing (pathOf o))
-unfolding contains
-itself-natural r h o at =
-    let all : List Resource = resourcesOf (r .resources) in
-    let inner : Resource → Resource → Bool = λ p i. eqb (o .id) (i .id) && contained (pathOf p) (pathOf i) in
-    let outer : Resource → Bool = λ p. eqb (o .id) (p .id) && any (inner p) all in
-    iff-same (any outer all) (not (climbing (pathOf o)))
-    (λ e. let found = any-place outer all e in
-    let p : Resource = found .0 in
-    let within = any-place (inner p) all (and-right (eqb (o .id) (p .id)) (any (inner p) all) (found .2)) in
-    let i : Resource = within .0 in
-    let first : o ≡ p = one-by-id (λ (c : Resource). c .id) all (sound-out r h .resources .apart) o p at (found .1)
-    (eqb-true (o .id) (p .id) (and-left (eqb (o .id) (p .id)) (any (inner p) all) (found .2))) in
-    let second : o ≡ i = one-by-id (λ (c : Resource). c .id) all (sound-out r h .resources .apart) o i at (within .1)
-    (eqb-true (o .id) (i .id) (and-left (eqb (o .id) (i .id)) (contained (pathOf p) (pathOf i)) (within .2))) in
-    let held : contained (pathOf p) (pathOf i) ≡ true = and-right (eqb (o .id) (i .id)) (contained (pathOf p) (pathOf i)) (within .2) in
-    sym (contained-refl (pathOf o)) ∙ both (pathOf o) (pathOf p) (pathOf i) (ap (λ c. pathOf c) first) (ap (λ c. pathOf c) second) held)
-    (λ e. place-any outer all o at (and-both (eqb (o .id) (o .id)) (any (inner o) all) (eq-eqb (o .id) (o .id) refl)
-    (place-any (inner o) all o at (and-both (eqb (o .id) (o .id)) (contained (pathOf o) (pathOf o)) (eq-eqb (o .id) (o .id) refl)
-    (contained-refl (pathOf o) ∙ e)))))
-  where
-    both : (a b c : List ℕ) → a ≡ b → a ≡ c → contained b c ≡ true → contained a a ≡ true
-    both a b c e f held = rw (← e, ← f) at held

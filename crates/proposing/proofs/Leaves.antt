@@ -21,7 +21,7 @@ use Rattle.register.specs.declared.Resources.{Resources}
 use Rattle.columns.specs.Laws.{getD-inside}
 use Rattle.actions.specs.declared.Usage.{Usage}
 use Rattle.lists.specs.Tests.{cases}
-use Rattle.proposing.specs.Planned.{cleanAt, handsTaken, roomOfRoot, roomUnder, markedBy, maySignBy}
+use Rattle.proposing.specs.Planned.{cleanAt, ownerAllows, handsTaken, roomOfRoot, roomUnder, markedBy, maySignBy}
 
 -- the hands that a step down takes
 pub taken-none : (version : ℕ) → version ≡ versionTwo → 0 ≡ handsTaken version
@@ -64,6 +64,20 @@ module _ (actors : ActorColumns) (h rights g : ℕ) where
 
   pub may-owned : isMachineIn ≡ true → isOwnerlessIn ≡ false → not (barsMachine rights) ≡ maySignBy actors h rights g
   may-owned e f = rw (e, f)
+
+-- whether the owner allows
+module _ (actors : ActorColumns) (n x owner : ℕ) (permitted : Bool) where
+  abbrev machineIs : Bool
+  machineIs = beside (take n (actors .names)) (take n (actors .kinds)) x machineKind
+
+  pub allows-human : machineIs ≡ false → true ≡ ownerAllows actors n x owner permitted
+  allows-human e = rw e
+
+  pub allows-unowned : machineIs ≡ true → owner ≡ 0 → false ≡ ownerAllows actors n x owner permitted
+  allows-unowned e none = rw (e, eq-eqb owner 0 none)
+
+  pub allows-owned : machineIs ≡ true → (owner ≡ 0 → ⊥) → permitted ≡ ownerAllows actors n x owner permitted
+  allows-owned e some = rw (e, ne-eqb owner 0 some)
 
 -- whether one path contains another, by the answer
 pub reach-outside : (p q : List ℕ) → reachBetween p q ≡ Outside → false ≡ contained p q

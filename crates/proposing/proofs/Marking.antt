@@ -91,9 +91,6 @@ room-test : (circle : Bool) (n : ℕ) → ltb 0 (cond circle 0 n) ≡ ltb 0 n &&
 room-test true n = le-ltb 0 0 (omega arith) ∙ sym (and-false (ltb 0 n))
 room-test false n = sym (and-true (ltb 0 n))
 
-and-last : (a : Bool) → a && (not false || true) ≡ a
-and-last a = and-true a
-
 module _ (u : Usage) (moment : ℕ) (c : Claim) (end : ℕ) (live : Bool) (timely : ltb moment end ≡ live) (circle : Bool) (n : ℕ) where
   abbrev onUsed : Bool
   onUsed = eqb (c .resource) (u .resource)

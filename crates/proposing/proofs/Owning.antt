@@ -4,7 +4,7 @@ use mathlib.Core.Bool.{Bool, true, false, not, _&&_}
 use mathlib.Core.List.{List, map}
 use Prim.Native.Nat.{ℕ, _≤_, _<_, min}
 use native.Mathlib.Omega.{arith}
-use borrow.Author.Tests.{eq-eqb, eqb-true, lt-ltb, le-ltb}
+use borrow.Author.Tests.{eq-eqb, eqb-true, eqb-false, lt-ltb, le-ltb}
 use lib.Dec.{eqb}
 use lib.ListN.{take, getD, List·getD-map}
 use Rattle.lists.specs.Tests.{cases, clash, and-left, and-right, and-both}
@@ -41,7 +41,7 @@ use Rattle.proposals.specs.Proposals.{permits}
 use Rattle.proposals.specs.Exact.{Asked}
 use Rattle.proposals.specs.Owners.{one-by-id}
 use Rattle.proposals.specs.Judging.{unlike-lacks, owner-own-use}
-use Rattle.proposing.specs.Planned.{cleanAt}
+use Rattle.proposing.specs.Planned.{cleanAt, ownerAllows}
 
 -- ---- the owner
 
@@ -122,15 +122,15 @@ module _ (r : Register) (x : ℕ) (u : Usage) (moment : ℕ) (asked : Asked r x 
   owns = not (isOwnerless r x) && not (ownerLacks r moment x u)
 
   -- one who is no machine has no owner to ask
-  pub owner-unasked : worldIn r .machine x ≡ false → true ≡ owns
+  owner-unasked : worldIn r .machine x ≡ false → true ≡ owns
   owner-unasked h = rw (unlike-ownerless r x h, unlike-lacks r moment x u h)
 
-  pub owner-missing : worldIn r .machine x ≡ true → ownerFound r (asked .judged) x ≡ 0 → false ≡ owns
+  owner-missing : worldIn r .machine x ≡ true → ownerFound r (asked .judged) x ≡ 0 → false ≡ owns
   owner-missing h none =
       let b = machine-named r x h in
       rw (unowned-told r (asked .judged) x (b .0) (b .1) (b .2) (b .3) (sym (found-owner r (asked .judged) x (b .0) (b .1) (b .2)) ∙ none))
 
-  pub owner-told : worldIn r .machine x ≡ true → (ownerFound r (asked .judged) x ≡ 0 → ⊥) → permits r (oneUse (ownerFound r (asked .judged) x) u moment) ≡ owns
+  owner-told : worldIn r .machine x ≡ true → (ownerFound r (asked .judged) x ≡ 0 → ⊥) → permits r (oneUse (ownerFound r (asked .judged) x) u moment) ≡ owns
   owner-told h some =
       let b = machine-named r x h in
       let same = found-owner r (asked .judged) x (b .0) (b .1) (b .2) in
@@ -153,6 +153,21 @@ pub permits-read : (r : Register) (u : Usage) (moment : ℕ) {a : Action} {v : V
     → isPermitted (v .decision) ≡ permits r (oneUse x u moment)
 unfolding permits
 permits-read r u moment e f same = ap (λ w. isPermitted (w .decision)) (f ∙ ap (gated r) (e ∙ ap (λ z. oneUse z u moment) same))
+
+-- so whether the owner allows, by the owner's number and whether the owner is permitted the use
+pub owns-read : (r : Register) (x : ℕ) (u : Usage) (moment : ℕ) (asked : Asked r x u moment) {s : List ℕ} {found : Findings} → Opened r s found
+    → {owner : ℕ} {permitted : Bool} → owner ≡ ownerAt (found .actors .owners) (latestPlace (found .actors .names) (r .actors .count) x)
+    → permitted ≡ permits r (oneUse owner u moment)
+    → ownerAllows (found .actors) (r .actors .count) x owner permitted ≡ not (isOwnerless r x) && not (ownerLacks r moment x u)
+owns-read r x u moment asked opened {owner = owner} of-owner of-permitted =
+    let same : owner ≡ ownerFound r (asked .judged) x =
+    of-owner ∙ ap (λ l. ownerAt (l .owners) (latestPlace (l .names) (r .actors .count) x)) (judged-actors r opened) in
+    let machine = machine-read r opened x in
+    cases (worldIn r .machine x)
+    (λ t. cases (eqb (ownerFound r (asked .judged) x) 0)
+    (λ z. rw (machine ∙ t, same, z) (owner-missing r x u moment asked t (eqb-true (ownerFound r (asked .judged) x) 0 z)))
+    (λ z. rw (machine ∙ t, of-permitted, same, z) (owner-told r x u moment asked t (eqb-false (ownerFound r (asked .judged) x) 0 z))))
+    (λ t. rw (machine ∙ t) (owner-unasked r x u moment asked t))
 
 -- ---- the used path
 

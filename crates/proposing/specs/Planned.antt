@@ -1,5 +1,5 @@
 -- Working: The planner by columns: the claims under which a claim of the actor may be drawn, the least free id, and what each signer would sign. It is
--- shaped for the code; what it is in 02's words is proved in proofs/Marking and proofs/Natural.
+-- shaped for the code; what it comes to is `planned-proposed` of proposals/Planning, by the contract of `propose`.
 use mathlib.Core.Bool.{Bool, false, not, _&&_, _||_, cond}
 use mathlib.Core.List.{List, [], _∷_, _++_, map}
 use Prim.Native.Nat.{ℕ, zero, suc, _-_, min}
@@ -49,6 +49,11 @@ pub record Ready (r : Register) (s : List ℕ) (found : Findings) (x : ℕ) (u :
 -- a resource stands at the place, and its path contains itself
 abbrev pub cleanAt : Resources → ℕ → Bool
 cleanAt k spot = ltb spot (min (k .count) resourceLimit) && contained (pathOf (getD (k .list) spot noResource)) (pathOf (getD (k .list) spot noResource))
+
+-- whether x is no machine, or one with an owner, who is permitted, by the first n actors
+abbrev pub ownerAllows : ActorColumns → ℕ → ℕ → ℕ → Bool → Bool
+ownerAllows actors n x owner permitted =
+    not (beside (take n (actors .names)) (take n (actors .kinds)) x machineKind) || (not (eqb owner 0) && permitted)
 
 -- how many hands a step down takes of what is left: in version 2 none, as each claim tells what is left
 abbrev pub handsTaken : ℕ → ℕ

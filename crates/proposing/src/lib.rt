@@ -5,7 +5,7 @@
 // be drawn are marked in one pass, whoever signs, and the signers are asked in their order: the
 // keeper signs a root, any other below his first marked claim. No grant is tried.
 ghost use mathlib.Core.Path.{_≡_};
-ghost use mathlib.Core.Bool.{false, _&&_, not};
+ghost use mathlib.Core.Bool.{false};
 ghost use Prim.Native.Nat.{_≤_};
 ghost use lib.ListN.{length, take};
 ghost use Rattle.register.specs.Limits.{claimLimit};
@@ -15,12 +15,11 @@ ghost use Rattle.columns.specs.Columns.{latestPlace};
 ghost use Rattle.columns.specs.Sheet.{sheetLimit, claimsIn};
 ghost use Rattle.refusals.specs.Refusals.{outcomeOf};
 ghost use Rattle.actions.specs.Actions.{isPermitted};
-ghost use Rattle.gate_rules.specs.Gate.{isOwnerless, ownerLacks};
 ghost use Rattle.uses.specs.Sights.{ownerAt};
 ghost use Rattle.refusals.specs.declared.Outcome.the-variants.{Accepted};
 ghost use Rattle.proposals.specs.Proposals.{signersOf, askTests, leastFree, aGrant, unproposed, proposedFirst, proposed};
 ghost use Rattle.proposals.specs.Marks.{byMarks};
-ghost use Rattle.proposing.specs.Planned.{testsOn, Ready, cleanAt, handsTaken, roomOfRoot, roomUnder, roomsOf, markedBy, marksBy, placeFirst, firstMarked, idsUsed, signedAs, maySignBy, signingBy, signedThrough, grantFirst, drawnBy};
+ghost use Rattle.proposing.specs.Planned.{testsOn, Ready, cleanAt, ownerAllows, handsTaken, roomOfRoot, roomUnder, roomsOf, markedBy, marksBy, placeFirst, firstMarked, idsUsed, signedAs, maySignBy, signingBy, signedThrough, grantFirst, drawnBy};
 use actions::Decision;
 use actions::Usage;
 use columns::ActorColumns;
@@ -122,36 +121,17 @@ fn owner_of(actors: ActorColumns, n: usize, x: u32) -> u32
     }
 }
 
-// Whether the actor is no machine, or one whose owner is permitted the use.
-fn owner_permits<'a>(
-    r: Register,
-    sheet: &'a [u32],
-    found: Findings,
-    actor: u32,
-    usage: Usage,
-    moment: u64,
-) -> bool
-    requires { ⌜ Ready r (now sheet) found actor usage moment ⌝ }
-    ensures { λ y. ⌜ y ≡ not (isOwnerless r actor) && not (ownerLacks r moment actor usage) ⌝ }
+// Whether the actor is no machine, or one with an owner who is permitted the use.
+fn owner_allows(actors: ActorColumns, n: usize, x: u32, owner: u32, permitted: bool) -> bool
+    ensures { λ y. ⌜ y ≡ ownerAllows actors n x owner permitted ⌝ }
 {
-    let n = r.actors.count;
-    let machine = columns::is_beside(
-        &found.actors.names,
-        &found.actors.kinds,
-        n,
-        actor,
-        Actor::MACHINE,
-    );
-    if !machine {
+    if !columns::is_beside(&actors.names, &actors.kinds, n, x, Actor::MACHINE) {
         return true;
     }
-    let owner = owner_of(found.actors, n, actor);
     if owner == 0 {
         return false;
     }
-    let verdict = gate::gate_by(r, sheet, found, actions::one_use(owner, usage, moment));
-    let decided = verdict.decision;
-    is_permitted(decided)
+    permitted
 }
 
 // ---- the marks
@@ -496,7 +476,11 @@ fn propose_by(
     if !is_clean(k, spot) {
         return refused(Refusal::NoProposal);
     }
-    if !owner_permits(r, sheet, found, actor, usage, moment) {
+    let owner = owner_of(found.actors, counts.actors, actor);
+    let second = gate::gate_by(r, sheet, found, actions::one_use(owner, usage, moment));
+    let told = second.decision;
+    let permitted = is_permitted(told);
+    if !owner_allows(found.actors, counts.actors, actor, owner, permitted) {
         return refused(Refusal::NoProposal);
     }
     draw(

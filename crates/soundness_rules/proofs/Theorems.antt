@@ -4,23 +4,20 @@
 use mathlib.Core.Path.{_≡_}
 use mathlib.Core.Bool.{Bool, true, false, not, _&&_}
 use mathlib.Core.List.{List, [], _∷_, _++_, map}
-use Prim.Native.Nat.{ℕ, suc, _≤_, _<_}
+use Prim.Native.Nat.{ℕ, suc, _≤_}
 use lib.Dec.{eqb}
 use lib.ListN.{length, take}
 use Rattle.lists.specs.Lists.{any, every, ands, filter, All, distinct}
-use Rattle.register.specs.Limits.{hopLimit, claimLimit}
-use Rattle.register.specs.Register.{claimsOf, Same, Shaped}
+use Rattle.register.specs.Limits.{hopLimit}
+use Rattle.register.specs.Register.{Same}
 use Rattle.register.specs.Chain.{latest, chain, above, hopsOf, chainOf}
-use Rattle.register.specs.declared.Actors.{Actors}
-use Rattle.register.specs.declared.Resources.{Resources}
 use Rattle.register.specs.declared.Claim.{Claim}
 use Rattle.register.specs.declared.Register.{Register}
-use Rattle.soundness_rules.specs.Sound.{World, claimFits, namesStand, rootKept, machineMay, acceptable, soundClaims, sound, tableSound}
+use Rattle.soundness_rules.specs.Sound.{World, claimFits, namesStand, rootKept, machineMay, acceptable, soundClaims, sound}
 use Rattle.soundness_rules.specs.Places as places
 use Rattle.soundness_rules.specs.Chains as chains
 use Rattle.soundness_rules.specs.Striking as striking
 use Rattle.soundness_rules.specs.Sameness as sameness
-use Rattle.soundness_rules.specs.Tables as tables
 use Rattle.soundness_rules.proofs.Natural as natural
 use Rattle.soundness_rules.proofs.Circles as circles
 use Rattle.soundness_rules.specs.Struck.{struck, strike}
@@ -95,11 +92,3 @@ doubled-unsound = places.doubled-unsound
 -- 7b. In a sound register a parent's number that is not 0 is an earlier claim's id: no parent stands later, and there is no circle.
 pub parent-earlier : (w : World) (L : List Claim) (c : Claim) (M : List Claim) → soundClaims w (L ++ c ∷ M) ≡ true → (c .parent ≡ 0 → ⊥) → any (λ d. eqb (c .parent) (d .id)) M ≡ true
 parent-earlier = places.place-parent
-
--- 9a. A table that holds the claims of a register, which are at most 256, is sound with its version, actors and resources exactly where the register is.
-pub table-natural : (r : Register) → Shaped r → r .claims .count ≤ claimLimit → tableSound (r .version) (r .actors) (r .resources) (claimsOf (r .claims)) ≡ sound r
-table-natural = tables.table-natural
-
--- 9b. A table of more than 256 claims is never sound.
-pub table-many : (version : ℕ) (a : Actors) (o : Resources) (cs : List Claim) → claimLimit < length cs → tableSound version a o cs ≡ false
-table-many = tables.table-many

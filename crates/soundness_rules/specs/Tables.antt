@@ -21,8 +21,8 @@ use Rattle.soundness_rules.specs.Registers.{sound-out}
 abbrev pub tableRegister : ℕ → Actors → Resources → List Claim → Register
 tableRegister version a o cs = record { actors = a; resources = o; claims = record { list = cs; count = length cs }; version = version }
 
-pub table-natural : (r : Register) → Shaped r → r .claims .count ≤ claimLimit → tableSound (r .version) (r .actors) (r .resources) (claimsOf (r .claims)) ≡ sound r
-table-natural r shaped few =
+pub table-as-register : (r : Register) → Shaped r → r .claims .count ≤ claimLimit → tableSound (r .version) (r .actors) (r .resources) (claimsOf (r .claims)) ≡ sound r
+table-as-register r shaped few =
     let cs = claimsOf (r .claims) in
     sound-same (tableRegister (r .version) (r .actors) (r .resources) cs) r (record {
       actorCount = refl;

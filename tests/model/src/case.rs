@@ -1,5 +1,6 @@
 //! One call with its arguments: what it asks of the driver, and what the model answers.
 
+use guvrendik_model::model::proposals::{Question, CHECK_FAILS, CHECK_PASSES, PROPOSES_GRANT};
 use guvrendik_model::model::{Model, Refusal};
 use guvrendik_model::requests::{put_request, Request};
 use guvrendik_model::types::*;
@@ -79,6 +80,11 @@ pub enum Call {
         resource: u32,
         now: u64,
     },
+    Propose(Box<Question>),
+    CheckProposal {
+        question: Box<Question>,
+        proposal: Proposal,
+    },
 }
 
 /// Calls in order, on a register where one is given.
@@ -88,7 +94,7 @@ pub struct Script {
     pub calls: Vec<Call>,
 }
 
-pub const CALLS: usize = 18;
+pub const CALLS: usize = 20;
 
 /// The calls that withdraw claims, by `Call::number`.
 pub const WITHDRAWALS: [usize; 3] = [2, 12, 13];
@@ -119,6 +125,8 @@ pub const NAMES: [(&str, &[Outcome]); CALLS] = [
     ("sound_table", &[YES, NO]),
     ("attach", &[YES, 1, 30, 2, 3, 27, 29]),
     ("fetch", &[YES, 1, 30, 2, 3, 27, 28]),
+    ("propose", &[YES, GRANT, 1, 2, 3, 26]),
+    ("check_proposal", &[YES, NO, 1, 2, 3]),
 ];
 
 /// What an answer comes to: a refusal's number, or one of those below.
@@ -126,6 +134,8 @@ pub type Outcome = u32;
 
 pub const YES: Outcome = 0;
 pub const NO: Outcome = 99;
+/// A grant is proposed.
+pub const GRANT: Outcome = 98;
 
 /// The first violation of a verdict is of this kind.
 pub const fn violation(kind: u32) -> Outcome {
@@ -141,7 +151,8 @@ pub fn outcome_name(outcome: Outcome) -> String {
     match outcome {
         YES => "yes".to_owned(),
         NO => "no".to_owned(),
-        1..=98 => format!("refusal {outcome}"),
+        GRANT => "grant".to_owned(),
+        1..=97 => format!("refusal {outcome}"),
         100..=199 => format!("violation {}", outcome - 100),
         _ => format!("judgement {}", outcome - 200),
     }
@@ -189,6 +200,8 @@ impl Call {
             Call::SoundTable(_) => 15,
             Call::Attach { .. } => 16,
             Call::Fetch { .. } => 17,
+            Call::Propose(_) => 18,
+            Call::CheckProposal { .. } => 19,
         }
     }
 
@@ -258,6 +271,11 @@ impl Call {
                 [*actor, *resource].put(out);
                 now.put(out);
             }),
+            Call::Propose(question) => put_request(out, Request::Propose, |out| put_question(question, out)),
+            Call::CheckProposal { question, proposal } => put_request(out, Request::CheckProposal, |out| {
+                put_question(question, out);
+                proposal.put(out);
+            }),
         }
     }
 
@@ -276,6 +294,8 @@ impl Call {
                 Call::ReadJson { .. } => size_of::<JsonRead>(),
                 Call::Attach { .. } => size_of::<Attached>(),
                 Call::Fetch { .. } => size_of::<Fetched>(),
+                Call::Propose(_) => size_of::<Proposed>(),
+                Call::CheckProposal { .. } => size_of::<Checked>(),
                 Call::WriteRegister { room, .. } | Call::VerdictText { room, .. } | Call::WriteJson { room, .. } => {
                     size_of::<Written>() + room
                 }
@@ -386,6 +406,24 @@ impl Call {
                 fetched.put(out);
                 fetched.refusal
             }
+            Call::Propose(question) => {
+                let proposed = model.propose(state, question);
+                proposed.put(out);
+                if proposed.proposal.kind == PROPOSES_GRANT {
+                    GRANT
+                } else {
+                    proposed.refusal
+                }
+            }
+            Call::CheckProposal { question, proposal } => {
+                let checked = model.check_proposal(state, question, proposal);
+                checked.put(out);
+                match checked.answer {
+                    CHECK_PASSES => YES,
+                    CHECK_FAILS => NO,
+                    _ => checked.refusal,
+                }
+            }
         }
     }
 
@@ -419,6 +457,8 @@ impl Call {
             Call::ReadJson { .. } => fields(&JsonRead::take(from)),
             Call::Attach { .. } => fields(&Attached::take(from)),
             Call::Fetch { .. } => fields(&Fetched::take(from)),
+            Call::Propose(_) => fields(&Proposed::take(from)),
+            Call::CheckProposal { .. } => fields(&Checked::take(from)),
             Call::WriteRegister { .. } | Call::VerdictText { .. } | Call::WriteJson { .. } => {
                 fields(&Written::take(from))
             }
@@ -427,6 +467,13 @@ impl Call {
         fields.extend(from.iter().enumerate().map(|(at, byte)| (format!("buffer[{at}]"), byte.to_string())));
         fields
     }
+}
+
+fn put_question(question: &Question, out: &mut Vec<u8>) {
+    question.actor.put(out);
+    question.usage.put(out);
+    question.moment.put(out);
+    question.signers.put(out);
 }
 
 /// The fields of two answers, those of the second under a name.

@@ -445,10 +445,11 @@ impl<'c> Comparison<'c> {
 
     /// Prints how much stack each call took at most, over inputs from small to full, and counts it where it is no more than the header says.
     pub fn stack(&mut self, random: &mut Random) -> io::Result<()> {
-        let mut most = [0; CALLS];
+        const MEASURED: usize = STACK_ORDER.len();
+        let mut most = [0; MEASURED];
         for shape in [SMALL, MEDIUM, FULL].repeat(8) {
-            let answer = self.special(Request::Stack, CALLS * size_of::<u64>(), |out| put_input(random, shape, out))?;
-            let used = <[u64; CALLS]>::take(&mut &answer[..]);
+            let answer = self.special(Request::Stack, MEASURED * size_of::<u64>(), |out| put_input(random, shape, out))?;
+            let used = <[u64; MEASURED]>::take(&mut &answer[..]);
             most = std::array::from_fn(|call| most[call].max(used[call]));
         }
         for (name, used) in STACK_ORDER.iter().zip(most) {

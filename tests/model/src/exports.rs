@@ -1,5 +1,6 @@
 //! The model under the names and the calling convention of `include/guvrendik.h`.
 
+use crate::model::proposals::Question;
 use crate::model::words::Words;
 use crate::model::{Model, Refusal};
 use crate::types::*;
@@ -247,6 +248,29 @@ pub extern "C" fn guvrendik_fetch(book: Book, register: Register, actor: u32, re
 }
 
 #[no_mangle]
+pub extern "C" fn guvrendik_propose(
+    register: Register,
+    actor: u32,
+    usage: Usage,
+    moment: u64,
+    signers: Signers,
+) -> Proposed {
+    MODEL.propose(&register, &Question { actor, usage, moment, signers })
+}
+
+#[no_mangle]
+pub extern "C" fn guvrendik_check_proposal(
+    register: Register,
+    actor: u32,
+    usage: Usage,
+    moment: u64,
+    signers: Signers,
+    proposal: Proposal,
+) -> Checked {
+    MODEL.check_proposal(&register, &Question { actor, usage, moment, signers }, &proposal)
+}
+
+#[no_mangle]
 pub extern "C" fn guvrendik_version() -> VersionNumbers {
-    VersionNumbers { major: 2, minor: 1, patch: 0 }
+    VersionNumbers { major: 3, minor: 4, patch: 0 }
 }

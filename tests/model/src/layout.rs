@@ -42,6 +42,10 @@ layout! {
     "json_read" JsonRead { action, accepted, refusal, kind, id_len, id }
     "written" Written { accepted, refusal, length }
     "version_numbers" VersionNumbers { major, minor, patch }
+    "signers" Signers { list, count }
+    "proposal" Proposal { kind, claim }
+    "proposed" Proposed { proposal, accepted, refusal }
+    "checked" Checked { answer, refusal }
     "fingerprint" Fingerprint { bytes }
     "entry" Entry { resource, fingerprint }
     "book" Book { entries, count }

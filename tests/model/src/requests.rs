@@ -25,6 +25,8 @@ pub enum Request {
     SoundTable,
     Attach,
     Fetch,
+    Propose,
+    CheckProposal,
     Boundary,
     Threads,
     Stack,
@@ -44,7 +46,7 @@ pub fn put_request(out: &mut Vec<u8>, request: Request, put: impl FnOnce(&mut Ve
 }
 
 /// The calls, in the order in which the driver answers how much stack each of them took.
-pub const STACK_ORDER: [&str; 20] = [
+pub const STACK_ORDER: [&str; 22] = [
     "sound",
     "grant",
     "revoke",
@@ -65,4 +67,6 @@ pub const STACK_ORDER: [&str; 20] = [
     "plain_plan",
     "attach",
     "fetch",
+    "propose",
+    "check_proposal",
 ];

@@ -4,6 +4,7 @@
 //! what stands past a count is there. Bytes are quoted, one line of the file to a line of a text.
 
 use crate::case::{Call, Script};
+use guvrendik_model::model::proposals::Question;
 use guvrendik_model::types::*;
 use std::fmt::Write as _;
 
@@ -161,7 +162,32 @@ fn write_call(call: &Call, out: &mut String) {
             line(out, format_args!("call {name} actor={actor} resource={resource} now={now} count={}", book.count));
             write_book(book, out);
         }
+        Call::Propose(question) => line(out, format_args!("call {name} {}", question_parts(question))),
+        Call::CheckProposal { question, proposal } => {
+            let claim = claim_parts(&proposal.claim);
+            line(out, format_args!("call {name} {} proposes={} {claim}", question_parts(question), proposal.kind));
+        }
     }
+}
+
+fn question_parts(question: &Question) -> String {
+    let Question { actor, usage, moment, signers } = question;
+    let list = signers.list.map(|signer| signer.to_string()).join(",");
+    format!(
+        "actor={actor} used={} right={} moment={moment} signers={list} count={}",
+        usage.resource, usage.right, signers.count
+    )
+}
+
+fn question(parts: &Parts) -> Result<Box<Question>, String> {
+    let list: Result<Vec<u32>, _> = value(parts, "signers")?.split(',').map(str::parse).collect();
+    let list = list.map_err(|_| "a signer is no number")?.try_into().map_err(|_| "there are eight signers")?;
+    Ok(Box::new(Question {
+        actor: number(parts, "actor")?,
+        usage: Usage { resource: number(parts, "used")?, right: number(parts, "right")? },
+        moment: number(parts, "moment")?,
+        signers: Signers { list, count: number(parts, "count")? },
+    }))
 }
 
 /// Printable bytes as they are, the rest, blanks and backslashes as `\xNN`, LF as `\n`.
@@ -395,6 +421,11 @@ fn call(name: &str, parts: &Parts) -> Result<Call, String> {
             actor: number(parts, "actor")?,
             resource: number(parts, "resource")?,
             now: number(parts, "now")?,
+        },
+        "propose" => Call::Propose(question(parts)?),
+        "check_proposal" => Call::CheckProposal {
+            question: question(parts)?,
+            proposal: Proposal { kind: number(parts, "proposes")?, claim: claim(parts)? },
         },
         _ => return Err(format!("unknown call: {name}")),
     })

@@ -148,6 +148,7 @@ fn call_steps(call: &Call) -> usize {
         Call::ClearResource { .. } | Call::ClearExpired { .. } => 0,
         Call::WriteRegister { .. } => 1,
         Call::Attach { book, .. } | Call::Fetch { book, .. } => book.count.min(PLACES) + 1,
+        Call::Propose(question) | Call::CheckProposal { question, .. } => question.signers.count.min(SIGNERS) + 1,
     }
 }
 
@@ -228,6 +229,17 @@ fn step_call(call: &mut Call, mut step: usize) {
                 book.count -= usize::from(book.count <= PLACES);
             } else {
                 book.entries[count..].fill(guvrendik_model::types::Entry::ZERO);
+            }
+        }
+        Call::Propose(question) | Call::CheckProposal { question, .. } => {
+            let signers = &mut question.signers;
+            let count = signers.count.min(SIGNERS);
+            if step < count {
+                signers.list.copy_within(step + 1..count, step);
+                signers.list[count - 1] = 0;
+                signers.count -= usize::from(signers.count <= SIGNERS);
+            } else {
+                signers.list[count..].fill(0);
             }
         }
         Call::Sound | Call::Grant { .. } | Call::Revoke { .. } => (),

@@ -24,6 +24,8 @@ pub const JSON_TEXT: usize = 807;
 pub const JSON_ID: usize = 64;
 /// Entries of a book.
 pub const PLACES: usize = 64;
+/// Actors who are willing to sign a grant.
+pub const SIGNERS: usize = 8;
 /// Bytes of a fingerprint.
 pub const FINGERPRINT: usize = 32;
 /// No text of a number is longer than this.
@@ -343,6 +345,40 @@ pub struct VersionNumbers {
     pub major: u32,
     pub minor: u32,
     pub patch: u32,
+}
+
+/// Actors who are willing to sign a grant.
+#[repr(C)]
+#[derive(Clone, Copy, Debug, PartialEq, Eq)]
+pub struct Signers {
+    pub list: [u32; SIGNERS],
+    pub count: usize,
+}
+
+#[repr(C)]
+#[derive(Clone, Copy, Debug, PartialEq, Eq)]
+pub struct Proposal {
+    pub kind: u64,
+    pub claim: Claim,
+}
+
+impl Zero for Proposal {
+    const ZERO: Self = Proposal { kind: 0, claim: Claim::ZERO };
+}
+
+#[repr(C)]
+#[derive(Clone, Copy, Debug, PartialEq, Eq)]
+pub struct Proposed {
+    pub proposal: Proposal,
+    pub accepted: u32,
+    pub refusal: u32,
+}
+
+#[repr(C)]
+#[derive(Clone, Copy, Debug, PartialEq, Eq)]
+pub struct Checked {
+    pub answer: u32,
+    pub refusal: u32,
 }
 
 #[repr(C)]

@@ -94,6 +94,10 @@ structs! {
     Book { entries, count }
     Attached { book, accepted, refusal }
     Fetched { fingerprint, accepted, refusal }
+    Signers { list, count }
+    Proposal { kind, claim }
+    Proposed { proposal, accepted, refusal }
+    Checked { answer, refusal }
 }
 
 #[cfg(test)]

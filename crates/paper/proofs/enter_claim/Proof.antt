@@ -1,5 +1,5 @@
 -- `paper::enter_claim` meets its contract: the claim is entered where its resource is found. Assumes nothing.
-use mathlib.Core.Path.{_≡_, refl, sym, _∙_}
+use mathlib.Core.Path.{sym, _∙_}
 use native.Mathlib.Omega.{arith}
 use borrow.Author.Needs.{needs}
 use Rattle.columns.specs.Laws.{place-found}

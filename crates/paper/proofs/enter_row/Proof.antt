@@ -1,12 +1,10 @@
 -- `paper::enter_row` meets its contract. The loop's invariant: the claim is entered at the rights before `right` (Entering). The measure is how many rights
 -- are left. Assumes nothing.
-use mathlib.Core.Path.{refl, ap, _∙_}
-use mathlib.Core.Bool.{_&&_}
+use mathlib.Core.Path.{refl}
 use Prim.Native.Nat.{_-_}
-use native.Mathlib.Omega.{arith}
 use borrow.Author.Needs.{needs}
 use Rattle.rights.specs.Rights.{rightCount}
-use Rattle.paper.proofs.Entering.{Entering, entering-start, entering-length, entering-room, entering-taken, entering-kept, entering-done}
+use Rattle.paper.proofs.Entering.{Entering, entering-start, entering-room, entering-taken, entering-kept, entering-done}
 use Rattle.paper.proofs.enter_row.Statement.{statement}
 use Rattle.paper.proofs.enter_row.Tie as tie
 

@@ -1,13 +1,8 @@
 -- `paper::enter_rows` meets its contract. The loop's invariant: the claim is entered in the rows before `row` (Filling). The measure is how many rows are
 -- left. Assumes nothing.
-use mathlib.Core.Path.{_≡_, refl, sym, _∙_}
+use mathlib.Core.Path.{refl, sym, _∙_}
 use Prim.Native.Nat.{_-_}
-use native.Mathlib.Omega.{arith}
 use borrow.Author.Needs.{needs}
-use lib.ListN.{length}
-use Rattle.lists.specs.Loops.{length-mapped}
-use Rattle.register.specs.Limits.{resourceLimit}
-use Rattle.register.specs.Register.{pathOf}
 use Rattle.paper.proofs.Filling.{Filling, filling-start, filling-length, filling-room, filling-outside, filling-inside, filling-done, reach-short}
 use Rattle.paper.proofs.enter_rows.Statement.{statement}
 use Rattle.paper.proofs.enter_rows.Tie as tie

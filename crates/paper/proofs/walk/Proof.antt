@@ -1,6 +1,6 @@
 -- `paper::walk` meets its contract. The loop's invariant: the claims before place `i` are remarked on and entered (Walking). The measure is how many
 -- claims are left. Assumes nothing.
-use mathlib.Core.Path.{_≡_, refl, sym, _∙_}
+use mathlib.Core.Path.{_≡_}
 use Prim.Native.Nat.{_-_, _<_}
 use native.Mathlib.Omega.{arith}
 use mir.Facts.{fits-widen}

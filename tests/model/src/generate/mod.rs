@@ -8,6 +8,7 @@ pub mod guesses;
 pub mod json;
 pub mod nested;
 pub mod paths;
+pub mod proposals;
 pub mod random;
 pub mod registers;
 pub mod tables;
@@ -32,6 +33,8 @@ pub struct Generator {
     tables: Random,
     /// Of the books alone, for the same.
     books: Random,
+    /// Of the proposals alone, for the same.
+    proposals: Random,
 }
 
 impl Generator {
@@ -41,6 +44,7 @@ impl Generator {
             trees: Random::new(!seed),
             tables: Random::new(seed.rotate_left(32)),
             books: Random::new(seed ^ 0x5555),
+            proposals: Random::new(seed ^ 0xAAAA),
         }
     }
 
@@ -87,6 +91,7 @@ impl Generator {
         .into_iter()
         .chain(self.as_two(&register, round))
         .chain(self.books(&register))
+        .chain(self.proposals(&register))
         .collect()
     }
 
@@ -192,6 +197,22 @@ impl Generator {
             broken,
         ];
         books::row(random, &registers)
+    }
+
+    /// Questions about the register, the same as version 2, a small one of each version and one that is not sound.
+    fn proposals(&mut self, register: &Register) -> Vec<Script> {
+        let random = &mut self.proposals;
+        let small = registers::sound(random, SMALL, true);
+        let mut broken = Box::new(register.clone());
+        broken.version = 3;
+        let registers = [
+            (Box::new(register.clone()), 2),
+            (registers::as_two(random, register, false), 2),
+            (registers::as_two(random, &small, false), 5),
+            (small, 3),
+            (broken, 1),
+        ];
+        registers.map(|(register, questions)| proposals::questions(random, register, questions)).into()
     }
 
     /// Texts of plans in plans.

@@ -9,6 +9,7 @@ pub mod paths;
 mod plain;
 mod plan;
 mod plan_text;
+pub mod proposals;
 mod rules;
 pub mod text;
 mod withdraw;
@@ -18,6 +19,8 @@ pub mod words;
 mod json_tests;
 #[cfg(test)]
 mod plan_text_tests;
+#[cfg(test)]
+mod proposals_tests;
 #[cfg(test)]
 mod tests;
 
@@ -77,6 +80,8 @@ pub enum Refusal {
     JsonForm = 24,
     /// A right above 2 or a governed entry, for which a JSON action has no place.
     JsonLacks = 25,
+    /// No single grant by one of the signers would permit the use.
+    NoProposal = 26,
     /// The gate does not permit the action.
     NotPermitted = 27,
     /// No fingerprint is attached to the resource's number.
@@ -136,10 +141,14 @@ pub enum Fault {
     EntryBefore,
     /// A fetch that is not permitted hands out the fingerprint beside its 27.
     ToldWithRefusal,
+    /// A grant is proposed to a machine whose owner does not cover the use.
+    OwnerNotAsked,
+    /// A grant is proposed below a claim that has nothing left.
+    LeftZeroParent,
 }
 
 impl Fault {
-    pub const ALL: [(&'static str, Fault); 23] = [
+    pub const ALL: [(&'static str, Fault); 25] = [
         ("expiry-equal-live", Fault::ExpiryEqualLive),
         ("source-unasked", Fault::SourceUnasked),
         ("direct-children", Fault::DirectChildren),
@@ -163,6 +172,8 @@ impl Fault {
         ("short-buffer-begun", Fault::ShortBufferBegun),
         ("entry-before", Fault::EntryBefore),
         ("told-with-27", Fault::ToldWithRefusal),
+        ("owner-not-asked", Fault::OwnerNotAsked),
+        ("left-zero-parent", Fault::LeftZeroParent),
     ];
 }
 
