@@ -32,7 +32,7 @@ import papers
 BAR = 1230
 THEOREM_LINES = 100
 MARKS = ("Believed", "Working", "Laws")
-APART = re.compile(r"json|steps|plan_text|plan_verdict_text|words|refusal_text|violation_text|right_name|flag_name|version$|propos|attach|fetch|fingerprints|cover_table|table_showing")
+APART = re.compile(r"json|steps|plan_text|plan_verdict_text|words|refusal_text|violation_text|right_name|flag_name|version$|propos|attach|fetch|fingerprints|cover_table|table_showing|why|who|reason")
 REPOSITORY = os.path.dirname(os.path.dirname(os.path.dirname(os.path.abspath(__file__))))
 EXPORTED, PRINTED = "portal", ("verdict_printing", "plan_verdict_text")
 DEMANDS = (("history", "History", "History"), ("gate_rules", "Authority", "Authority"), ("gate_rules", "Authority", "Traced"))

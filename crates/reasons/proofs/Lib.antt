@@ -1,0 +1,6 @@
+pub mod Holding
+pub mod Reasoning
+pub mod Using
+pub mod TheoremsUses
+pub mod TheoremsWho
+pub mod Cases
