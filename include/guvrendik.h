@@ -1,4 +1,4 @@
-/* Guvrendik: a proved authority gate, for x86-64. `./install PREFIX` puts libguvrendik.a and libguvrendik.so.3, this header and
+/* Guvrendik: a proved authority gate, in C99 or C++98 and later. `./install PREFIX` puts libguvrendik.a and libguvrendik.so.3, this header and
  * guvrendik.pc in place; `pkg-config --cflags --libs guvrendik` says how to build with them.
  *
  * No call allocates, keeps a pointer, writes a global or touches errno: any number of threads may call at once, also on the same
