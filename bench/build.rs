@@ -1,4 +1,4 @@
-//! Links the library: GUVRENDIK_LIBRARY is the object that `bench/run` makes of it, with the calls of shim.c.
+//! Links the library: GUVRENDIK_LIBRARY is the object that `bench/run` makes of the delivered archive, with the calls of shim.c.
 
 fn main() {
     let library = std::env::var("GUVRENDIK_LIBRARY").expect("bench/run says where the library is");

@@ -2,7 +2,8 @@
  * program, with that program's name and the refusal that it printed, 0 for none:
  *     explain verdict|plan_verdict|json_verdict NUMBER
  * It reads the same files with the library, in the same order, and names the first text that is refused with that number: the file, and
- * the line with what stands there. A file that could not be read, is empty, has a byte order mark or other line ends is told as that.
+ * the line with what stands there; where that is a number outside its field's range, the range. A file that could not be read, is empty,
+ * has a byte order mark or other line ends is told as that.
  * Where no text is refused so, the line has the refusal's words alone. Nothing is printed on standard output and nothing is judged here. */
 #include "guvrendik.h"
 #include "system.h"
@@ -99,32 +100,124 @@ static void say_longer(const text *t) {
     say(": longer than 65,536 bytes; the rest is not read");
 }
 
+/* The fields that are numbers, and what they go from and to, as RULES.md has them: of a register, and of an action or a plan. */
+typedef struct {
+    const char *key;
+    size_t least, greatest;
+} range;
+
+static const range of_register[] = {
+    {"register", 1, 2},
+    {"actor", 1, GUVRENDIK_MAX_ID},
+    {"owner", 0, GUVRENDIK_MAX_ID},
+    {"resource", 1, GUVRENDIK_MAX_ID},
+    {"public", 0, 1},
+    {"keeper", 1, GUVRENDIK_MAX_ID},
+    {"claim", 1, GUVRENDIK_MAX_ID},
+    {"parent", 0, GUVRENDIK_MAX_ID},
+    {"grantor", 1, GUVRENDIK_MAX_ID},
+    {"holder", 1, GUVRENDIK_MAX_ID},
+    {"rights", 1, GUVRENDIK_MAX_RIGHTS},
+    {"weight", 0, GUVRENDIK_MAX_WEIGHT},
+    {"left", 0, GUVRENDIK_MAX_LEFT},
+    {"expiry", 0, GUVRENDIK_MAX_MOMENT},
+    {0, 0, 0},
+};
+
+static const range of_action[] = {
+    {"now", 0, GUVRENDIK_MAX_MOMENT},
+    {"actor", 0, GUVRENDIK_MAX_ID},
+    {"flags", 0, GUVRENDIK_MAX_FLAGS},
+    {"use", 0, GUVRENDIK_MAX_ID},
+    {"right", 0, GUVRENDIK_LIMIT_RIGHTS - 1},
+    {"govern", 0, GUVRENDIK_MAX_ID},
+    {0, 0, 0},
+};
+
+/* How many bytes of a line are this key and its equals sign, 0 where it begins otherwise. */
+static size_t begins_key(const uint8_t *line, size_t length, const char *key) {
+    size_t i = 0;
+    while (i < length && key[i] != 0 && line[i] == (uint8_t)key[i]) i++;
+    return i < length && key[i] == 0 && line[i] == '=' ? i + 1 : 0;
+}
+
+/* Whether these bytes are a number as the texts have it, without zeros before it, below the least or above the greatest. */
+static int is_outside(const uint8_t *digits, size_t length, const range *r) {
+    size_t number = 0;
+    if (length == 0 || (length > 1 && digits[0] == '0')) return 0;
+    for (size_t i = 0; i < length; i++) {
+        if (digits[i] < '0' || digits[i] > '9') return 0;
+        if (number <= r->greatest) number = 10 * number + (size_t)(digits[i] - '0');
+    }
+    return number < r->least || number > r->greatest;
+}
+
+/* The range that a line's number is outside of, or none. */
+static const range *range_missed(const text *t, const uint8_t *line, size_t length) {
+    for (const range *r = t == &texts[0] ? of_register : of_action; r->key != 0; r++) {
+        size_t key = begins_key(line, length, r->key);
+        if (key > 0) return is_outside(line + key, length - key, r) ? r : 0;
+    }
+    return 0;
+}
+
+static void say_place(const text *t, size_t line) {
+    say(t->name);
+    say(", line ");
+    say_number(line);
+    say(": ");
+}
+
+static void say_range(const text *t, uint32_t number, size_t line, const uint8_t *bytes, size_t length, const range *r) {
+    say("refusal ");
+    say_number(number);
+    say(", out of range: ");
+    say_place(t, line);
+    say("\"");
+    say_bytes(bytes, length);
+    say("\"; ");
+    say(r->key);
+    say(" goes from ");
+    say_number(r->least);
+    say(" to ");
+    say_number(r->greatest);
+}
+
+/* A line with a carriage return, which no line of a text has: its end, before a line feed or alone. */
+static void say_return(const text *t, size_t line, int with_line_feed) {
+    say(t->name);
+    say(": line ");
+    say_number(line);
+    say(with_line_feed ? " ends in CR LF" : " ends in CR alone");
+    say(": save the file with line ends of LF alone");
+}
+
 /* The refused line of a text, from 1, with what stands there. */
 static void say_line(const text *t, uint32_t number, size_t line) {
-    size_t from = 0, to;
+    size_t from = 0, to, back;
     for (size_t n = 1; n < line && from < t->length; from++) {
         if (t->bytes[from] == '\n') n++;
     }
     for (to = from; to < t->length && t->bytes[to] != '\n';) to++;
-    if (to == t->length && t->longer) {
+    for (back = from; back < to && t->bytes[back] != '\r';) back++;
+    const int ends = to < t->length;
+    const range *missed = ends ? range_missed(t, t->bytes + from, to - from) : 0;
+    if (back < to) {
+        say_return(t, line, ends && back + 1 == to);
+    } else if (!ends && t->longer) {
         say_longer(t);
-    } else if (to < t->length && to > from && t->bytes[to - 1] == '\r') {
-        say(t->name);
-        say(": line ");
-        say_number(line);
-        say(" ends in CR LF: save the file with line ends of LF alone");
+    } else if (missed != 0) {
+        say_range(t, number, line, t->bytes + from, to - from, missed);
     } else {
         say_refusal(number);
         say(": ");
-        say(t->name);
-        say(", line ");
-        say_number(line);
+        say_place(t, line);
         if (from == t->length) {
-            say(": the text ends before it");
+            say("the text ends before it");
         } else {
-            say(": \"");
+            say("\"");
             say_bytes(t->bytes + from, to - from);
-            say(to == t->length ? "\", without a line feed at its end" : "\"");
+            say(ends ? "\"" : "\", without a line feed at its end");
         }
     }
 }

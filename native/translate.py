@@ -18,6 +18,7 @@ from pathlib import Path
 
 INNER = "guvrendik_inner_"
 WIDTHS = {"uint32_t": "i32", "uint64_t": "i64"}
+ALIGNED = {"uint8_t": 1, "uint32_t": 4, "uint64_t": 8, "size_t": 8}
 HEAD = "/* Written by native/translate.py. */\n"
 
 
@@ -44,11 +45,19 @@ def size(header, kind):
     return int(re.search(rf"^#define GUVRENDIK_SIZE_{kind.removeprefix('guvrendik_').upper()} (\d+)$", header, flags=re.M).group(1))
 
 
+def alignment(header, kind):
+    """That of the widest field of a struct."""
+    inside = re.search(rf"^typedef struct \w* ?\{{([^}}]*)\}} {kind};", re.sub(r"/\*.*?\*/", "", header, flags=re.S), flags=re.M).group(1)
+    return max(ALIGNED.get(field) or alignment(header, field) for field in re.findall(r"^ +(\w+) ", inside, flags=re.M))
+
+
 def attributes(header, kind, of):
-    """What is said of a parameter of an inner function; the pointer to a slice's pointer and length is 16 bytes."""
+    """What is said of a parameter of an inner function; the pointer to a slice's pointer and length is 16 bytes. LLVM finds the first two by itself
+    (tests/delivery/attributes.py), and values.c holds the others."""
     if kind == "number":
         return WIDTHS[of]
-    return f"ptr noalias readonly captures(none) align 8 dereferenceable({16 if kind == 'slice' else size(header, of)})"
+    align, bytes_there = (8, 16) if kind == "slice" else (alignment(header, of), size(header, of))
+    return f"ptr noalias readonly captures(none) align {align} dereferenceable({bytes_there})"
 
 
 def module(header, calls, text):
@@ -96,11 +105,13 @@ def written(calls, head, function, struct, bytes_type, length_type, struct_type)
     return "\n".join(lines) + "\n"
 
 
-def values(calls):
+def values(header, calls):
     head = """#include "guvrendik.h"
 typedef struct { const void *at; size_t length; } slice;
 /* A slice of nothing has a pointer that is not NULL, aligned as a struct is. */
 #define SLICE(at, length) (&(slice){(length) > 0 ? (const void *)(at) : (const void *)8, (length)})"""
+    for of in sorted({of for _, _, parameters in calls for kind, of, _, _ in parameters if kind == "struct"}):
+        head += f'\n_Static_assert(sizeof({of}) == {size(header, of)} && _Alignof({of}) == {alignment(header, of)}, "{of}");'
 
     def function(name, answer, taken, given):
         yield f"{answer} guvrendik_{name}({', '.join(taken) or 'void'}) {{"
@@ -126,7 +137,7 @@ def main(header, text, folder):
     header, text, folder = Path(header).read_text(), Path(text).read_text(), Path(folder)
     calls = list(declared(header))
     (folder / "module.ll").write_text(module(header, calls, text))
-    (folder / "values.c").write_text(values(calls))
+    (folder / "values.c").write_text(values(header, calls))
     (folder / "places.c").write_text(places(calls))
 
 

@@ -39,6 +39,10 @@ archive() {
     fi
     if [ ! -e $library.a ] || [ -n "$(find $portal native include -newer $library.a -print -quit)" ]; then with_twins; fi
 }
+# Each exported call is one function, all that it calls put in line: what passes by value between its parts is then one copy and not one to
+# each part. A copy that is only read is left out where the compiler sees that nothing writes to what it is of; in so long a function it looks
+# past its usual 100 writes for that. Of the ways that were tried this takes the least stack, on both processors.
+inlined='-mllvm -inline-threshold=100000 -mllvm -memssa-check-limit=10000'
 # keeping COMMAND..: runs it, and keeps the module that the kit hands to its clang, of which the builds for other processors are made (native/build.sh).
 # The kit's clang is found through RATTLE_HOME: a folder of links to the kit, with a clang before the real one.
 keeping() {
@@ -52,7 +56,7 @@ keeping() {
     cat >"$home/on/$machine/toolchain/bin/clang" <<END
 #!/bin/sh
 for word in "\$@"; do case \$word in *.bc) cp "\$word" '$PWD/target/staticlib/portal.bc' ;; esac; done
-exec '$toolchain/bin/clang' "\$@"
+exec '$toolchain/bin/clang' "\$@" $inlined
 END
     chmod +x "$home/on/$machine/toolchain/bin/clang" && RATTLE_HOME=$home "$@" && rm -rf "$home"
 }

@@ -2,4 +2,5 @@
 #ifndef FREESTANDING_STDDEF_H
 #define FREESTANDING_STDDEF_H
 typedef __SIZE_TYPE__ size_t;
+#define offsetof(type, field) __builtin_offsetof(type, field)
 #endif

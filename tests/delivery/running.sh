@@ -76,7 +76,7 @@ work() {
         IFS='|' read -r example edit status said <<<"${rows[i]}"
         said=${said# }
         if [ "$(id -u)" = 0 ] && [ ${#person[@]} = 0 ] && [[ $edit == *chmod* ]]; then continue; fi
-        mistake "$i" "${example// /}" "$edit" "${status// /}" "$said"
+        mistake "$i" "${example// /}" "$edit" "${status// /}" "${said/@/$i}"
     done
 }
 mkdir "$copy/mistakes"

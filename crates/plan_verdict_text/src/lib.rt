@@ -118,11 +118,10 @@ fn compose(buf: &mut [u8], register: &[u8], plan: &[u8]) -> usize
         let why = cursor.refusal;
         return put_stopped(buf, why);
     }
-    let state = form.register;
-    if !soundness::is_sound(state) {
+    if !soundness::is_sound(form.register) {
         return put_stopped(buf, Refusal::Unsound);
     }
-    put_answer(buf, nested_plans::plan_text(state, plan))
+    put_answer(buf, nested_plans::plan_text(form.register, plan))
 }
 
 // The lines that the program prints of the two texts.

@@ -47,13 +47,13 @@ returns c =
 
 put-stopped-requires-2 : tie.Need-put-stopped-requires-2
 put-stopped-requires-2 c κs =
-    omega (arith, stopped-length Unsound, c .before .before .before .before .before .before .before .before .before .before .before .pre)
+    omega (arith, stopped-length Unsound, c .before .before .before .before .before .before .before .before .before .before .pre)
 
 returns-2 : tie.Need-returns-2
 returns-2 c =
     let call = c .before .before .put-stopped2 in
     let unsound = c .before .before .before .before in
-    let test = unsound .before .before .before in
+    let test = unsound .before .before in
     let read = test .before .before .before in
     let form = read .read-form in
     let a = read .before .before .before .before .args in
@@ -69,14 +69,14 @@ returns-2 c =
 put-answer-requires : tie.Need-put-answer-requires
 put-answer-requires c κs =
     let fit = fitting c in
-    (omega (arith, fit .text, c .before .before .before .before .before .before .before .before .before .before .before .before .pre), fit .few)
+    (omega (arith, fit .text, c .before .before .before .before .before .before .before .before .before .before .before .pre), fit .few)
 
 returns-3 : tie.Need-returns-3
 returns-3 c =
     let call = c .before .before .put-answer in
     let judged = c .before .before .before in
     let whole = judged .before .before in
-    let test = whole .before .before .before in
+    let test = whole .before .before in
     let read = test .before .before .before in
     let form = read .read-form in
     let a = read .before .before .before .before .args in
