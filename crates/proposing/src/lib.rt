@@ -11,11 +11,9 @@ ghost use lib.ListN.{length, take};
 ghost use Rattle.register.specs.Limits.{claimLimit};
 ghost use Rattle.register.specs.Register.{pathOf};
 ghost use Rattle.paths.specs.Containment.{contained};
-ghost use Rattle.columns.specs.Columns.{latestPlace};
 ghost use Rattle.columns.specs.Sheet.{sheetLimit, claimsIn};
 ghost use Rattle.refusals.specs.Refusals.{outcomeOf};
 ghost use Rattle.actions.specs.Actions.{isPermitted};
-ghost use Rattle.uses.specs.Sights.{ownerAt};
 ghost use Rattle.refusals.specs.declared.Outcome.the-variants.{Accepted};
 ghost use Rattle.proposals.specs.Proposals.{signersOf, askTests, leastFree, aGrant, unproposed, proposedFirst, proposed};
 ghost use Rattle.proposals.specs.Marks.{byMarks};
@@ -107,17 +105,6 @@ fn is_clean(k: Resources, spot: usize) -> bool
         contains_itself(o)
     } else {
         false
-    }
-}
-
-// The owner's number of the actor numbered `x` among the first `n`, 0 for none.
-fn owner_of(actors: ActorColumns, n: usize, x: u32) -> u32
-    ensures { λ y. ⌜ y ≡ ownerAt (actors .owners) (latestPlace (actors .names) n x) ⌝ }
-{
-    let place = columns::latest_place(&actors.names, n, x);
-    match place {
-        Place::At(j) => columns::number_at(&actors.owners, j),
-        Place::Nowhere => 0,
     }
 }
 
@@ -476,7 +463,12 @@ fn propose_by(
     if !is_clean(k, spot) {
         return refused(Refusal::NoProposal);
     }
-    let owner = owner_of(found.actors, counts.actors, actor);
+    let owner = gate::owner_of(
+        &found.actors.names,
+        &found.actors.owners,
+        counts.actors,
+        actor,
+    );
     let second = gate::gate_by(r, sheet, found, actions::one_use(owner, usage, moment));
     let told = second.decision;
     let permitted = is_permitted(told);
