@@ -1,28 +1,56 @@
-//! Two registers that look alike to the actor of an action: what the theorem `guess-blind` of the crate `guesses` says of the answers.
+//! Two registers that look alike to the actor of an action: what the theorems `guess-blind`, `attach-blind` and `fetch-blind-register` of
+//! the crate `guesses` say of the answers.
 
 use crate::case::{Call, Script};
 use guvrendik_model::model::paths::contains;
 use guvrendik_model::model::{Model, Sound};
 use guvrendik_model::types::*;
 
-/// Two registers and one action, whose actor can not tell them apart.
+/// Two registers and one action, whose actor can not tell them apart, with a book and a fingerprint to attach.
 pub struct Guess {
     pub registers: [Box<Register>; 2],
     pub action: Box<Action>,
+    pub book: Box<Book>,
+    pub fingerprint: Fingerprint,
 }
 
 impl Guess {
-    /// The calls on each of the two registers.
+    /// The calls on each of the two registers: the gates, and an attach and a fetch of one of the used numbers.
     pub fn scripts(self) -> [Script; 2] {
-        let calls = vec![Call::Gate(self.action)];
-        self.registers.map(|register| Script { register: Some(register), calls: calls.clone() })
+        let asked = asked(&self.registers, &self.action);
+        let Guess { registers, action, book, fingerprint } = self;
+        let Action { actor, now, .. } = *action;
+        let mut calls = vec![Call::Gate(action)];
+        if let Some(resource) = asked {
+            calls.push(Call::Attach { book: book.clone(), actor, resource, now, fingerprint });
+            calls.push(Call::Fetch { book, actor, resource, now });
+        }
+        registers.map(|register| Script { register: Some(register), calls: calls.clone() })
     }
 
     /// Whether the record of a used number differs.
     pub fn aims(&self) -> bool {
-        let [first, second] = [0, 1].map(|at| Sound::of(&self.registers[at]).expect("both are sound"));
-        uses(&self.action).iter().any(|usage| standing(&first, usage.resource) != standing(&second, usage.resource))
+        uses(&self.action).iter().any(|usage| differs(&self.registers, usage.resource))
     }
+
+    /// Whether the book has an entry of the number that is asked for.
+    pub fn enters(&self) -> bool {
+        let entries = self.book.entries.get(..self.book.count).unwrap_or(&[]);
+        asked(&self.registers, &self.action).is_some_and(|asked| entries.iter().any(|entry| entry.resource == asked))
+    }
+}
+
+/// The used number that an attach and a fetch are of: the first whose record differs, else the first.
+pub fn asked(registers: &[Box<Register>; 2], action: &Action) -> Option<u32> {
+    let mut numbers = uses(action).iter().map(|usage| usage.resource);
+    let first = numbers.clone().next();
+    numbers.find(|&resource| differs(registers, resource)).or(first)
+}
+
+/// Whether the record of a number differs in two sound registers.
+fn differs(registers: &[Box<Register>; 2], resource: u32) -> bool {
+    let [first, second] = [0, 1].map(|at| Sound::of(&registers[at]).expect("both are sound"));
+    standing(&first, resource) != standing(&second, resource)
 }
 
 /// What is seen of a claim.
@@ -100,6 +128,8 @@ fn standing<'r>(sound: &Sound<'r>, resource: u32) -> Option<(u32, u32, &'r [u8])
 #[cfg(test)]
 mod tests {
     use super::*;
+    use crate::case::{violation, Outcome, YES};
+    use guvrendik_model::model::Refusal;
 
     /// Human 1 keeps report 1 and lets human 2 read it; human 3 keeps report 2.
     fn two_keepers() -> Box<Register> {
@@ -121,13 +151,34 @@ mod tests {
         action
     }
 
+    /// A guess of a number, with a book that has an entry of it.
+    fn guess(registers: [Box<Register>; 2], action: Action) -> Guess {
+        let fingerprint = Fingerprint { bytes: [7; 32] };
+        let mut book = Box::new(Book::EMPTY);
+        book.entries[0] = Entry { resource: action.uses[0].resource, fingerprint };
+        book.count = 1;
+        Guess { registers, action: Box::new(action), book, fingerprint }
+    }
+
+    /// What the calls on each of the two registers come to.
+    fn outcomes(guess: Guess) -> [Vec<Outcome>; 2] {
+        guess.scripts().map(|script| {
+            let (mut register, mut out) = (script.start(), Vec::new());
+            script.calls.iter().map(|call| call.answer(&Model::default(), &mut register, &mut out)).collect()
+        })
+    }
+
+    const REFUSED_ALL: [Outcome; 3] =
+        [violation(4), Refusal::NotPermitted as Outcome, Refusal::NotPermitted as Outcome];
+
     #[test]
     fn a_report_that_is_gone() {
         let (first, mut second) = (two_keepers(), two_keepers());
         second.resources.count = 1;
         assert!(alike(&first, &second, &reading(2)));
-        let guess = Guess { registers: [first, second], action: Box::new(reading(2)) };
-        assert!(guess.aims());
+        let guess = guess([first, second], reading(2));
+        assert!(guess.aims() && guess.enters());
+        assert_eq!(outcomes(guess), [REFUSED_ALL, REFUSED_ALL]);
     }
 
     #[test]
@@ -136,6 +187,22 @@ mod tests {
         second.resources.list[1].is_public = 1;
         assert!(!alike(&first, &second, &reading(2)));
         assert!(alike(&first, &second, &reading(1)));
+        let fetched = [YES, Refusal::NotPermitted as Outcome, YES];
+        assert_eq!(outcomes(guess([first, second], reading(2))), [REFUSED_ALL, fetched]);
+    }
+
+    #[test]
+    fn the_number_asked_is_one_that_differs() {
+        let (first, mut second) = (two_keepers(), two_keepers());
+        second.resources.count = 1;
+        let registers = [first, second];
+        let mut action = reading(1);
+        assert_eq!(asked(&registers, &action), Some(1));
+        action.uses[1].resource = 2;
+        action.used = 2;
+        assert_eq!(asked(&registers, &action), Some(2));
+        action.used = 0;
+        assert_eq!(asked(&registers, &action), None);
     }
 
     #[test]

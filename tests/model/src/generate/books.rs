@@ -23,7 +23,7 @@ pub fn row(random: &mut Random, registers: &[Box<Register>]) -> Vec<Script> {
         .collect()
 }
 
-fn fingerprint(random: &mut Random) -> Fingerprint {
+pub fn fingerprint(random: &mut Random) -> Fingerprint {
     match random.below(8) {
         0 => Fingerprint::ZERO,
         _ => Fingerprint { bytes: std::array::from_fn(|_| random.word() as u8) },
@@ -34,7 +34,8 @@ fn fingerprint(random: &mut Random) -> Fingerprint {
 fn start(random: &mut Random, registers: &[Box<Register>]) -> Book {
     let mut book = Book::EMPTY;
     let mut numbers: Vec<u32> = (0..PLACES).map(|at| 70_000 + 512 * at as u32).collect();
-    let known: Vec<u32> = registers.iter().flat_map(|register| standing(&register.resources)).map(|one| one.id).collect();
+    let known: Vec<u32> =
+        registers.iter().flat_map(|register| standing(&register.resources)).map(|one| one.id).collect();
     for number in known {
         if random.chance(30) && !numbers.contains(&number) {
             let at = random.below(PLACES);
@@ -57,6 +58,17 @@ fn start(random: &mut Random, registers: &[Box<Register>]) -> Book {
     };
     if random.chance(8) && (2..=PLACES).contains(&book.count) {
         book.entries[book.count - 1].resource = book.entries[random.below(book.count - 1)].resource;
+    }
+    book
+}
+
+/// A book as a row begins with, where one of its entries is often of this number.
+pub fn about(random: &mut Random, registers: &[Box<Register>], resource: Option<u32>) -> Book {
+    let mut book = start(random, registers);
+    let has = |number| book.entries.iter().any(|entry| entry.resource == number);
+    if let Some(number) = resource.filter(|&number| random.chance(60) && book.count > 0 && !has(number)) {
+        let at = random.below(book.count.min(PLACES));
+        book.entries[at] = Entry { resource: number, fingerprint: fingerprint(random) };
     }
     book
 }

@@ -1,9 +1,10 @@
 //! Registers changed where the actor of an action does not see it.
 
 use super::actions;
+use super::books;
 use super::random::Random;
 use super::registers::standing;
-use crate::guesses::{alike, hidden, Guess};
+use crate::guesses::{alike, asked, hidden, Guess};
 use guvrendik_model::model::Sound;
 use guvrendik_model::types::*;
 
@@ -30,7 +31,13 @@ pub fn guess(random: &mut Random, register: &Register) -> Option<Guess> {
     if random.chance(50) {
         reorder(random, &mut second);
     }
-    alike(register, &second, &action).then(|| Guess { registers: [Box::new(register.clone()), second], action })
+    if !alike(register, &second, &action) {
+        return None;
+    }
+    let registers = [Box::new(register.clone()), second];
+    let book = Box::new(books::about(random, &registers, asked(&registers, &action)));
+    let fingerprint = books::fingerprint(random);
+    Some(Guess { registers, action, book, fingerprint })
 }
 
 /// A number that no resource has.
