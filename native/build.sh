@@ -32,16 +32,15 @@ for_x86() {
     local at=target/x86-64 name
     rm -rf $at && mkdir -p $at && cp $library.a "$library.so.$(version | cut -d . -f 1)" $at || return
     for name in verdict plan_verdict json_verdict; do cp "target/bin/$name" $at || return; done
-    program x86_64-unknown-linux-gnu elf_x86_64 $library.a $at/explain native/explain.c
+    program x86_64-unknown-linux-gnu elf_x86_64 $library.a $at/table_verdict native/table.c &&
+        program x86_64-unknown-linux-gnu elf_x86_64 $library.a $at/explain native/explain.c
 }
 
-# With more put in line than by itself: of the ways that were tried this takes the least stack and time.
 for_arm() {
     local at=target/aarch64 name
     name=libguvrendik.so.$(version | cut -d . -f 1)
     rm -rf $at && mkdir -p $at &&
-        "$clang" --target=$arm -Wno-override-module -ffunction-sections -fPIC -O2 -mllvm -inline-threshold=600 -c \
-            -x ir target/plain/module.ll -o target/plain/module.o &&
+        "$clang" --target=$arm -Wno-override-module -ffunction-sections -fPIC -O3 $inlined -c -x ir target/plain/module.ll -o target/plain/module.o &&
         c $arm target/plain/values.c target/plain/values.o -fPIC && c $arm native/calls.c target/plain/calls.o -fPIC &&
         c $arm native/memory.c target/plain/memory.o -fPIC &&
         "$toolchain/bin/llvm-ar" rcsD $at/libguvrendik.a target/plain/module.o target/plain/values.o target/plain/calls.o &&
@@ -52,6 +51,7 @@ for_arm() {
         program $arm aarch64elf $at/libguvrendik.a $at/verdict native/print.c -DPRINTS=VERDICT &&
         program $arm aarch64elf $at/libguvrendik.a $at/plan_verdict native/print.c -DPRINTS=PLAN &&
         program $arm aarch64elf $at/libguvrendik.a $at/json_verdict native/print.c -DPRINTS=JSON &&
+        program $arm aarch64elf $at/libguvrendik.a $at/table_verdict native/table.c &&
         program $arm aarch64elf $at/libguvrendik.a $at/explain native/explain.c
 }
 

@@ -17,7 +17,8 @@ use Rattle.register.specs.declared.Register.{Register}
 use Rattle.soundness_rules.specs.Sound.{sound}
 use Rattle.columns.specs.Columns.{resourceId, resourcesTo}
 use Rattle.columns.specs.Laws.{up-to-length}
-use Rattle.lookup.specs.Walks.{sheet-few}
+use Rattle.columns.specs.Sheet.{claimAt}
+use Rattle.lookup.specs.Walks.{sheet-few, sheet-at}
 use Rattle.paper.specs.Cells.{cellLimit, OpenCells, ClaimEntered}
 use Rattle.paper.specs.Paper.{claimStands, Filled, Walkable, Written}
 use Rattle.paper.proofs.Chaining.{ups-long, up-cases, hops-few, hops-next, lives-next}
@@ -37,8 +38,8 @@ pub record Remarked (r : Register) (moment i : ℕ) (hops : List ℕ) (lives : L
   pub hopsTold : (j : ℕ) → j < i → getD hops j 0 ≡ hopsOf (latest (claimsOf (r .claims))) (claimStands r j)
   pub livesTold : (j : ℕ) → j < i → getD lives j false ≡ live moment (latest (claimsOf (r .claims))) (claimStands r j)
 
-pub record Walking (r : Register) (ups reports : List ℕ) (actor owner moment i : ℕ) (own theirs hops : List ℕ) (lives : List Bool) : Type 0 where
-  pub known : Walkable r ups reports
+pub record Walking (r : Register) (sheet ups reports : List ℕ) (actor owner moment i : ℕ) (own theirs hops : List ℕ) (lives : List Bool) : Type 0 where
+  pub known : Walkable r sheet ups reports
   pub room : length (r .claims .list) ≡ claimLimit
   pub space : length (r .resources .list) ≡ resourceLimit
   pub within : i ≤ r .claims .count
@@ -48,10 +49,10 @@ pub record Walking (r : Register) (ups reports : List ℕ) (actor owner moment i
   pub owners : (actor ≡ owner → ⊥) → Filled r moment owner i theirs
 
 -- before the first claim
-pub walking-start : {r : Register} {ups reports : List ℕ} {actor owner moment : ℕ} {cells : List ℕ} → Walkable r ups reports → length (r .claims .list) ≡ claimLimit
+pub walking-start : {r : Register} {sheet ups reports : List ℕ} {actor owner moment : ℕ} {cells : List ℕ} → Walkable r sheet ups reports → length (r .claims .list) ≡ claimLimit
     → length (r .resources .list) ≡ resourceLimit → OpenCells (r .resources) cells
-    → Walking r ups reports actor owner moment 0 cells cells (replicate claimLimit 0) (replicate claimLimit false)
-walking-start {r} {ups} {reports} {actor} {owner} {moment} {cells} known room space opened = record {
+    → Walking r sheet ups reports actor owner moment 0 cells cells (replicate claimLimit 0) (replicate claimLimit false)
+walking-start {r} {sheet} {ups} {reports} {actor} {owner} {moment} {cells} known room space opened = record {
   known = known;
   room = room;
   space = space;
@@ -67,8 +68,8 @@ walking-start {r} {ups} {reports} {actor} {owner} {moment} {cells} known room sp
   owners = λ other. filled-start r moment owner cells opened;
 }
 
-module _ {r : Register} {ups reports : List ℕ} {actor owner moment i : ℕ} {own theirs hops : List ℕ} {lives : List Bool}
-    (s : Walking r ups reports actor owner moment i own theirs hops lives) where
+module _ {r : Register} {sheet ups reports : List ℕ} {actor owner moment i : ℕ} {own theirs hops : List ℕ} {lives : List Bool}
+    (s : Walking r sheet ups reports actor owner moment i own theirs hops lives) where
   -- after the last claim
   pub walking-done : r .claims .count ≤ i → Written r moment actor owner (record { hops = hops; lives = lives; own = own; theirs = theirs })
   walking-done h =
@@ -96,6 +97,10 @@ module _ {r : Register} {ups reports : List ℕ} {actor owner moment i : ℕ} {o
 
     abbrev whole : sound r ≡ true
     whole = s .known .soundly
+
+    -- it is read in the sheet
+    read-claim : {c : Claim} → c ≡ claimAt sheet i → c ≡ claim
+    read-claim read = read ∙ ap (λ l. claimAt l i) (s .known .claims) ∙ sheet-at r (s .room) whole i h
 
     pub place-room : i < claimLimit
     place-room = omega (arith, h, sheet-few r (s .room) whole)
@@ -133,10 +138,11 @@ module _ {r : Register} {ups reports : List ℕ} {actor owner moment i : ℕ} {o
         (λ t. rw t (sym (rw t at lent)))
 
     -- one remark more
-    module _ {steps : ℕ} {now source : Bool} (counted : steps ≡ cond (ltb (getD ups i 0) i) (getD hops (getD ups i 0) 0 + 1) 0)
-        (itself : now ≡ current moment claim) (above : source ≡ cond (ltb (getD ups i 0) i) (getD lives (getD ups i 0) false) true) where
+    module _ {c : Claim} {steps : ℕ} {now source : Bool} (read : c ≡ claimAt sheet i)
+        (counted : steps ≡ cond (ltb (getD ups i 0) i) (getD hops (getD ups i 0) 0 + 1) 0) (itself : now ≡ current moment c)
+        (above : source ≡ cond (ltb (getD ups i 0) i) (getD lives (getD ups i 0) false) true) where
       alive : now && source ≡ live moment all claim
-      alive = ap (λ b. b && source) itself ∙ ap (λ b. current moment claim && b) above ∙ lives-here
+      alive = ap (λ b. b && source) (itself ∙ ap (current moment) (read-claim read)) ∙ ap (λ b. current moment claim && b) above ∙ lives-here
 
       remarked-next : Remarked r moment (i + 1) (set hops i steps) (set lives i (now && source))
       remarked-next = record {
@@ -154,17 +160,21 @@ module _ {r : Register} {ups reports : List ℕ} {actor owner moment i : ℕ} {o
             getD-set-other lives i j (now && source) false other ∙ s .remarked .livesTold j (omega (arith, other, below)));
       }
 
+      -- whose claim it is, as it is read
+      held-as : (x : ℕ) {b : Bool} → (now && source) && eqb (c .holder) x ≡ b → live moment all claim && eqb (claim .holder) x ≡ b
+      held-as x told = ap (λ b. b && eqb (claim .holder) x) (sym alive) ∙ ap (λ k. (now && source) && eqb (k .holder) x) (sym (read-claim read)) ∙ told
+
       -- the claim as it is entered
-      entered-as : (cells next : List ℕ) → ClaimEntered cells reports (r .resources) claim i next
+      entered-as : (cells next : List ℕ) → ClaimEntered cells reports (r .resources) c i next
           → ClaimEntered cells (map resourceId (resourcesTo (r .resources) .list)) (r .resources) claim i next
-      entered-as cells next entered = rw (s .known .ids) at entered
+      entered-as cells next entered = rw (s .known .ids, read-claim read) at entered
 
       -- the actor holds it, and it lives
-      pub walking-own : (next : List ℕ) → (now && source) && eqb (claim .holder) actor ≡ true → ClaimEntered own reports (r .resources) claim i next
-          → Walking r ups reports actor owner moment (i + 1) next theirs (set hops i steps) (set lives i (now && source))
+      pub walking-own : (next : List ℕ) → (now && source) && eqb (c .holder) actor ≡ true → ClaimEntered own reports (r .resources) c i next
+          → Walking r sheet ups reports actor owner moment (i + 1) next theirs (set hops i steps) (set lives i (now && source))
       walking-own next held entered =
-          let lives : live moment all claim && eqb (claim .holder) actor ≡ true = ap (λ b. b && eqb (claim .holder) actor) (sym alive) ∙ held in
-          let holder : claim .holder ≡ actor = eqb-true (claim .holder) actor (and-right (now && source) (eqb (claim .holder) actor) held) in
+          let lives : live moment all claim && eqb (claim .holder) actor ≡ true = held-as actor held in
+          let holder : claim .holder ≡ actor = eqb-true (claim .holder) actor (and-right (live moment all claim) (eqb (claim .holder) actor) lives) in
           record {
             known = s .known;
             room = s .room;
@@ -178,25 +188,25 @@ module _ {r : Register} {ups reports : List ℕ} {actor owner moment i : ℕ} {o
           }
 
       -- the owner holds it, and it lives
-      pub walking-theirs : (next : List ℕ) → (now && source) && eqb (claim .holder) actor ≡ false → (now && source) && eqb (claim .holder) owner ≡ true
-          → ClaimEntered theirs reports (r .resources) claim i next
-          → Walking r ups reports actor owner moment (i + 1) own next (set hops i steps) (set lives i (now && source))
+      pub walking-theirs : (next : List ℕ) → (now && source) && eqb (c .holder) actor ≡ false → (now && source) && eqb (c .holder) owner ≡ true
+          → ClaimEntered theirs reports (r .resources) c i next
+          → Walking r sheet ups reports actor owner moment (i + 1) own next (set hops i steps) (set lives i (now && source))
       walking-theirs next unheld held entered =
-          let lives : live moment all claim && eqb (claim .holder) owner ≡ true = ap (λ b. b && eqb (claim .holder) owner) (sym alive) ∙ held in
+          let lives : live moment all claim && eqb (claim .holder) owner ≡ true = held-as owner held in
           record {
             known = s .known;
             room = s .room;
             space = s .space;
             within = omega (arith, h);
             remarked = remarked-next;
-            actors = filled-passed r whole (s .room) moment actor i h own (s .actors) (ap (λ b. b && eqb (claim .holder) actor) (sym alive) ∙ unheld);
+            actors = filled-passed r whole (s .room) moment actor i h own (s .actors) (held-as actor unheld);
             long = entered-long r whole (s .room) moment owner i h (s .space) theirs next (entered-as theirs next entered) ∙ s .long;
             owners = λ other. filled-entered r whole (s .room) moment owner i h (s .space) theirs next (s .owners other) lives (entered-as theirs next entered);
           }
 
       -- neither holds it, or it does not live
-      pub walking-neither : (now && source) && eqb (claim .holder) actor ≡ false → (now && source) && eqb (claim .holder) owner ≡ false
-          → Walking r ups reports actor owner moment (i + 1) own theirs (set hops i steps) (set lives i (now && source))
+      pub walking-neither : (now && source) && eqb (c .holder) actor ≡ false → (now && source) && eqb (c .holder) owner ≡ false
+          → Walking r sheet ups reports actor owner moment (i + 1) own theirs (set hops i steps) (set lives i (now && source))
       walking-neither unheld unowned =
           record {
             known = s .known;
@@ -204,7 +214,7 @@ module _ {r : Register} {ups reports : List ℕ} {actor owner moment i : ℕ} {o
             space = s .space;
             within = omega (arith, h);
             remarked = remarked-next;
-            actors = filled-passed r whole (s .room) moment actor i h own (s .actors) (ap (λ b. b && eqb (claim .holder) actor) (sym alive) ∙ unheld);
+            actors = filled-passed r whole (s .room) moment actor i h own (s .actors) (held-as actor unheld);
             long = s .long;
-            owners = λ other. filled-passed r whole (s .room) moment owner i h theirs (s .owners other) (ap (λ b. b && eqb (claim .holder) owner) (sym alive) ∙ unowned);
+            owners = λ other. filled-passed r whole (s .room) moment owner i h theirs (s .owners other) (held-as owner unowned);
           }

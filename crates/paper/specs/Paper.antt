@@ -41,9 +41,10 @@ pub record Filled (r : Register) (moment x i : ℕ) (cells : List ℕ) : Type 0 
   pub long : length cells ≡ cellLimit
   pub tells : (row b : ℕ) → row < r .resources .count → b < rightCount → CellTells r i (entryBy r moment x (resourceAt (r .resources) row) b i) (cellAt cells row b)
 
--- what the walk is lent of a sound register: where the parents stand, and the ids of the resources
-pub record Walkable (r : Register) (ups reports : List ℕ) : Type 0 where
+-- what the walk is lent of a sound register: its claims, where their parents stand, and the ids of the resources
+pub record Walkable (r : Register) (sheet ups reports : List ℕ) : Type 0 where
   pub soundly : sound r ≡ true
+  pub claims : sheet ≡ sheetOf (r .claims)
   pub parents : ups ≡ earlierPlaces (columnOf idColumn (sheetOf (r .claims))) (columnOf parentColumn (sheetOf (r .claims))) (r .claims .count)
   pub ids : reports ≡ map resourceId (resourcesTo (r .resources) .list)
 

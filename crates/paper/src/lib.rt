@@ -28,9 +28,9 @@ use register::Resources;
 pub const CELLS: usize = 1088;
 
 // What a cell holds: nothing, public, or a claim, from this number on.
-pub const NOTHING: u32 = 0;
+pub const NOTHING: u16 = 0;
 
-pub const PUBLIC: u32 = 1;
+pub const PUBLIC: u16 = 1;
 
 pub const CLAIM: usize = 2;
 
@@ -38,12 +38,12 @@ pub const CLAIM: usize = 2;
 pub struct Page {
     pub hops: [u16; Register::CLAIMS],
     pub lives: [bool; Register::CLAIMS],
-    pub own: [u32; CELLS],
-    pub theirs: [u32; CELLS],
+    pub own: [u16; CELLS],
+    pub theirs: [u16; CELLS],
 }
 
 // A table before the first claim: public at READ of each public resource, else nothing.
-fn open_cells(k: Resources) -> [u32; CELLS]
+fn open_cells(k: Resources) -> [u16; CELLS]
     requires { ⌜ k .count ≤ resourceLimit ⌝ }
     ensures { λ r. ⌜ OpenCells k r ⌝ }
 {
@@ -75,12 +75,12 @@ fn reach(outer: Resource, inner: Resource) -> Reach
 
 // Enters a claim in the row of a resource whose path its own contains: at each right that it has, unless a claim with a path as long or longer
 // stands there.
-fn enter_row(cells: &mut [u32], row: usize, rights: u32, place: usize, far: usize)
+fn enter_row(cells: &mut [u16], row: usize, rights: u32, place: usize, far: usize)
     requires { ⌜ (length (now cells) ≡ cellLimit) × (row < resourceLimit) × (place < claimLimit) × (far ≤ pathLimit) ⌝ }
     ensures { λ _. ⌜ RowEntered (now (cells .entry)) row rights place far (now (cells .exit)) ⌝ }
 {
-    let first = (CLAIM + Register::CLAIMS * far) as u32;
-    let mine = (CLAIM + Register::CLAIMS * far + place) as u32;
+    let first = (CLAIM + Register::CLAIMS * far) as u16;
+    let mine = (CLAIM + Register::CLAIMS * far + place) as u16;
     let mut right: usize = 0;
     while right < rights::COUNT {
         let at = row * rights::COUNT + right;
@@ -94,7 +94,7 @@ fn enter_row(cells: &mut [u32], row: usize, rights: u32, place: usize, far: usiz
 }
 
 // Enters a claim on the resource at `spot` in the row of each resource whose path that one's contains.
-fn enter_rows(cells: &mut [u32], k: Resources, spot: usize, rights: u32, place: usize)
+fn enter_rows(cells: &mut [u16], k: Resources, spot: usize, rights: u32, place: usize)
     requires { ⌜ (length (now cells) ≡ cellLimit) × (k .count ≤ resourceLimit) × (spot < resourceLimit) × (place < claimLimit) ⌝ }
     ensures { λ _. ⌜ RowsEntered (now (cells .entry)) k spot rights place (now (cells .exit)) ⌝ }
 {
@@ -115,7 +115,7 @@ fn enter_rows(cells: &mut [u32], k: Resources, spot: usize, rights: u32, place: 
 }
 
 // Enters the claim at a place. Its resource is looked up in the column of the resources' ids.
-fn enter_claim(cells: &mut [u32], reports: &[u32], k: Resources, c: Claim, place: usize)
+fn enter_claim(cells: &mut [u16], reports: &[u32], k: Resources, c: Claim, place: usize)
     requires { ⌜ (length (now cells) ≡ cellLimit) × (k .count ≤ resourceLimit) × (length (now reports) ≡ resourceLimit) × (place < claimLimit) ⌝ }
     ensures { λ _. ⌜ ClaimEntered (now (cells .entry)) (now (reports .entry)) k c place (now (cells .exit)) ⌝ }
 {
@@ -142,20 +142,20 @@ fn lives_over(lives: &[bool], i: usize, up: usize) -> bool
     if up < i { lives[up] } else { true }
 }
 
-// The walk through the claims of a sound register. `ups` has the place of each claim's parent before it, `reports` the ids of the resources. A claim
-// that lives is entered in the table of its holder.
+// The walk through the claims of a sound register, which stand in the sheet. `ups` has the place of each claim's parent before it, `reports` the ids
+// of the resources. A claim that lives is entered in the table of its holder.
 pub fn walk<'a>(
     r: Register,
+    sheet: &'a [u32],
     ups: &'a [u16],
     reports: &'a [u32],
     actor: u32,
     owner: u32,
     moment: u64,
 ) -> Page
-    requires { ⌜ Walkable r (now ups) (now reports) ⌝ }
+    requires { ⌜ Walkable r (now sheet) (now ups) (now reports) ⌝ }
     ensures { λ p. ⌜ Written r moment actor owner p ⌝ }
 {
-    let k = r.claims;
     let o = r.resources;
     let mut own = open_cells(o);
     let mut theirs = own;
@@ -163,7 +163,7 @@ pub fn walk<'a>(
     let mut lives = [false; Register::CLAIMS];
     let mut i: usize = 0;
     while i < r.claims.count {
-        let c = k.list[i];
+        let c = columns::claim_at(sheet, i);
         let up = ups[i] as usize;
         hops[i] = hops_over(&hops, i, up);
         let live = c.is_current(moment) & lives_over(&lives, i, up);
@@ -187,7 +187,7 @@ pub fn walk<'a>(
 }
 
 // What stands in the cell of a use: nothing where its resource does not stand, or its right is none.
-pub fn cell_in<'a>(cells: &'a [u32], reports: &'a [u32], m: usize, u: Usage) -> u32
+pub fn cell_in<'a>(cells: &'a [u16], reports: &'a [u32], m: usize, u: Usage) -> u16
     ensures { λ r. ⌜ r ≡ cellIn (now (cells .entry)) (u .right) (latestPlace (now (reports .entry)) m (u .resource)) ⌝ }
 {
     let used = columns::latest_place(reports, m, u.resource);
@@ -199,7 +199,11 @@ pub fn cell_in<'a>(cells: &'a [u32], reports: &'a [u32], m: usize, u: Usage) -> 
             if rights::COUNT <= u.right as usize {
                 return NOTHING;
             }
-            columns::number_at(cells, row * rights::COUNT + u.right as usize)
+            let at = row * rights::COUNT + u.right as usize;
+            if cells.len() <= at {
+                return NOTHING;
+            }
+            cells[at]
         }
         Place::Nowhere => NOTHING,
     }

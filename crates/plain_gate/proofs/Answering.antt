@@ -55,16 +55,17 @@ module _ (r : Register) (long : length (r .claims .list) ≡ claimLimit) {s : Li
   pub unsound-examined : found .sound ≡ false → sound r ≡ false
   unsound-examined e = sym (judged-sound r (examined r told) long) ∙ e
 
-  pub known-examined : found .sound ≡ true → Known r found
+  pub known-examined : found .sound ≡ true → Known r s found
   known-examined e = record {
     soundly = sym (judged-sound r (examined r told) long) ∙ e;
+    claims = told .0;
     parents = judged-ups r (examined r told);
     actors = judged-actors r (examined r told);
     resources = judged-resources r (examined r told);
   }
 
 -- tests 2 and 3 by what is known
-pub tests-known : (r : Register) (found : Findings) → Known r found → (a : Action) {outcome : Outcome}
+pub tests-known : (r : Register) {s : List ℕ} (found : Findings) → Known r s found → (a : Action) {outcome : Outcome}
     → outcome ≡ outcomeOf (lentTests (found .actors .names) (r .actors .count) a) → outcome ≡ outcomeOf (actionTests r a)
 tests-known r found known a e =
     e ∙ ap (λ w. outcomeOf (lentTests (w .names) (r .actors .count) a)) (known .actors) ∙ ap outcomeOf (tests-standing r a)
@@ -108,7 +109,7 @@ halt-standing r i [] = refl
 halt-standing r i (a ∷ actions) = rw (tests-standing r a, halt-standing r (suc i) actions)
 
 -- what is found to stop a plan stops it
-pub stop-known : (r : Register) (found : Findings) → Known r found → (p : Plan) → p .count ≤ actionLimit → {stop : Stop}
+pub stop-known : (r : Register) {s : List ℕ} (found : Findings) → Known r s found → (p : Plan) → p .count ≤ actionLimit → {stop : Stop}
     → stop ≡ stopOf (haltBy (found .actors .names) (r .actors .count) 0 (actionsOf p)) → stop ≡ stopOf (haltOf r p)
 stop-known r found known p few e =
     e ∙ ap (λ w. stopOf (haltBy (w .names) (r .actors .count) 0 (actionsOf p))) (known .actors)

@@ -28,15 +28,15 @@ use Rattle.plain_gate.proofs.Owners.{ownerStanding, machine-standing}
 use Rattle.plain_gate.proofs.Uses.{violations-natural, hops-natural}
 
 -- what is known of a register can be walked
-pub walkable : (r : Register) (found : Findings) → Known r found → Walkable r (found .ups) (found .resources .reports)
-walkable r found known = record { soundly = known .soundly; parents = known .parents; ids = ap (λ w. w .reports) (known .resources) }
+pub walkable : (r : Register) {sheet : List ℕ} (found : Findings) → Known r sheet found → Walkable r sheet (found .ups) (found .resources .reports)
+walkable r found known = record { soundly = known .soundly; claims = known .claims; parents = known .parents; ids = ap (λ w. w .reports) (known .resources) }
 
 -- what is judged is its violations and its hop counts
 judged-both : {vs ws : Violations} {hs ks : List ℕ} → vs ≡ ws → hs ≡ ks
     → _≡_ {A = PlainlyJudged} (record { violations = vs; hops = hs }) (record { violations = ws; hops = ks })
 judged-both p q = rw (p, q)
 
-module _ (r : Register) (found : Findings) (known : Known r found) (a : Action) (fit : Fit r a) (room : length (r .resources .list) ≡ resourceLimit)
+module _ (r : Register) {sheet : List ℕ} (found : Findings) (known : Known r sheet found) (a : Action) (fit : Fit r a) (room : length (r .resources .list) ≡ resourceLimit)
     (long : length (a .uses) ≡ useLimit) {machine : Bool} {owner : ℕ} {first violations : Violations} {page : Page} {own theirs hops : List ℕ} where
   pub judged-plain : machine ≡ beside (take (r .actors .count) (found .actors .names)) (take (r .actors .count) (found .actors .kinds)) (a .actor) machineKind
       → owner ≡ ownerAt (found .actors .owners) (latestPlace (found .actors .names) (r .actors .count) (a .actor))

@@ -33,7 +33,7 @@ struct PlainlyJudged {
 }
 
 // What stands in the cells of an action's uses, 0 past them.
-fn cells_of<'a>(cells: &'a [u32], reports: &'a [u32], m: usize, a: Action) -> [u32; Action::USES]
+fn cells_of<'a>(cells: &'a [u16], reports: &'a [u32], m: usize, a: Action) -> [u16; Action::USES]
     ensures { λ r. ⌜ r ≡ cellsOf (now (cells .entry)) (now (reports .entry)) m a ⌝ }
 {
     let top = lists::least(a.used, Action::USES);
@@ -48,7 +48,7 @@ fn cells_of<'a>(cells: &'a [u32], reports: &'a [u32], m: usize, a: Action) -> [u
 }
 
 // The hop count of the claim in a cell, 0 where there is none.
-fn hops_told(hops: &[u16], cell: u32) -> usize
+fn hops_told(hops: &[u16], cell: u16) -> usize
     ensures { λ r. ⌜ r ≡ hopsTold (now (hops .entry)) cell ⌝ }
 {
     if (cell as usize) < paper::CLAIM {
@@ -62,7 +62,7 @@ fn hops_told(hops: &[u16], cell: u32) -> usize
 }
 
 // The hop counts of the first `n` uses, by what stands in their cells; 0 past them.
-fn hops_in<'a>(hops: &'a [u16], own: &'a [u32], n: usize) -> [usize; Action::USES]
+fn hops_in<'a>(hops: &'a [u16], own: &'a [u16], n: usize) -> [usize; Action::USES]
     ensures { λ r. ⌜ r ≡ cellHops (now (hops .entry)) (now (own .entry)) n ⌝ }
 {
     let top = lists::least(n, lists::least(Action::USES, own.len()));
@@ -78,8 +78,8 @@ fn hops_in<'a>(hops: &'a [u16], own: &'a [u32], n: usize) -> [usize; Action::USE
 // 4, 5: a violation more for each of the first `n` uses whose cell has nothing, or else whose owner's cell has nothing, where there is an owner to ask.
 fn put_faults<'a>(
     vs: Violations,
-    own: &'a [u32],
-    theirs: &'a [u32],
+    own: &'a [u16],
+    theirs: &'a [u16],
     owned: bool,
     n: usize,
 ) -> Violations
@@ -105,8 +105,8 @@ fn put_faults<'a>(
 }
 
 // An action in range by a known actor of a sound register, judged by its paper.
-fn judge(r: Register, found: Findings, a: Action) -> PlainlyJudged
-    requires { ⌜ Known r found × Fit r a ⌝ }
+fn judge(r: Register, sheet: &[u32], found: Findings, a: Action) -> PlainlyJudged
+    requires { ⌜ Known r (now sheet) found × Fit r a ⌝ }
     ensures { λ y. ⌜ y ≡ record { violations = listed (plainViolations r a); hops = padded (plainHops r a) } ⌝ }
 {
     let n = r.actors.count;
@@ -121,18 +121,19 @@ fn judge(r: Register, found: Findings, a: Action) -> PlainlyJudged
     let owner = gate::owner_of(&found.actors.names, &found.actors.owners, n, a.actor);
     let owned = machine & (owner != 0);
     let first = violations::first_violations(a, machine, owner);
-    let sheet = paper::walk(
+    let page = paper::walk(
         r,
+        sheet,
         &found.ups,
         &found.resources.reports,
         a.actor,
         owner,
         a.now,
     );
-    let own = cells_of(&sheet.own, &found.resources.reports, m, a);
-    let theirs = cells_of(&sheet.theirs, &found.resources.reports, m, a);
+    let own = cells_of(&page.own, &found.resources.reports, m, a);
+    let theirs = cells_of(&page.theirs, &found.resources.reports, m, a);
     let violations = put_faults(first, &own, &theirs, owned, a.used);
-    let hops = hops_in(&sheet.hops, &own, a.used);
+    let hops = hops_in(&page.hops, &own, a.used);
     PlainlyJudged { violations, hops }
 }
 
@@ -152,7 +153,7 @@ pub fn gate(r: Register, a: Action) -> Verdict
     match outcome {
         Outcome::Refused(why) => violations::stopped(why),
         Outcome::Accepted => {
-            let judged = judge(r, found, a);
+            let judged = judge(r, &sheet, found, a);
             let hops = judged.hops;
             violations::decided(judged.violations, hops)
         }
@@ -160,14 +161,14 @@ pub fn gate(r: Register, a: Action) -> Verdict
 }
 
 // The verdict on an action of a plan.
-fn judge_one(r: Register, found: Findings, a: Action, cancelled: bool) -> Judgement
-    requires { ⌜ Known r found × Fit r a ⌝ }
+fn judge_one(r: Register, sheet: &[u32], found: Findings, a: Action, cancelled: bool) -> Judgement
+    requires { ⌜ Known r (now sheet) found × Fit r a ⌝ }
     ensures { λ y. ⌜ y ≡ cond cancelled Judgement.Cancelled (judged (plainViolations r a)) ⌝ }
 {
     if cancelled {
         return Judgement::Cancelled;
     }
-    let judged = judge(r, found, a);
+    let judged = judge(r, sheet, found, a);
     let count = judged.violations.count;
     if count == 0 {
         return Judgement::Permitted;
@@ -176,8 +177,8 @@ fn judge_one(r: Register, found: Findings, a: Action, cancelled: bool) -> Judgem
 }
 
 // The verdicts on the actions of a plan that nothing stops: each action has its own paper.
-fn judge_all(r: Register, found: Findings, p: Plan) -> PlanVerdict
-    requires { ⌜ Known r found × (haltOf r p ≡ runs) ⌝ }
+fn judge_all(r: Register, sheet: &[u32], found: Findings, p: Plan) -> PlanVerdict
+    requires { ⌜ Known r (now sheet) found × (haltOf r p ≡ runs) ⌝ }
     ensures { λ y. ⌜ y ≡ held (plainJudgements r false (actionsOf p)) ⌝ }
 {
     let none = Judged {
@@ -188,7 +189,7 @@ fn judge_all(r: Register, found: Findings, p: Plan) -> PlanVerdict
     let mut i: usize = 0;
     while i < p.count {
         let a = p.actions[i];
-        let what = judge_one(r, found, a, flagged);
+        let what = judge_one(r, sheet, found, a, flagged);
         list[i] = Judged { what };
         flagged = flagged | (a.flags != 0);
         i += 1;
@@ -220,6 +221,6 @@ pub fn plan(r: Register, p: Plan) -> PlanVerdict
     let outcome = stop.outcome;
     match outcome {
         Outcome::Refused(why) => plans::stopped(why, stop.position),
-        Outcome::Accepted => judge_all(r, found, p),
+        Outcome::Accepted => judge_all(r, &sheet, found, p),
     }
 }

@@ -32,10 +32,11 @@ module _ (r : Register) (room : length (r .claims .list) ≡ claimLimit) {s : Li
     outcome-natural = told ∙ ap outcomeOf tests-natural
 
     -- where they are passed the register may be walked through
-    pub walkable-accepted : outcome ≡ Accepted → Walkable r (found .ups) (found .resources .reports)
+    pub walkable-accepted : outcome ≡ Accepted → Walkable r s (found .ups) (found .resources .reports)
     unfolding tableTests
     walkable-accepted e = record {
       soundly = outcome-accepted _ _ (sym outcome-natural ∙ e);
+      claims = opened .put;
       parents = judged-ups r opened;
       ids = ap (λ w. w .reports) (judged-resources r opened);
     }

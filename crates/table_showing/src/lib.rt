@@ -128,7 +128,7 @@ fn hop_counts(hops: &[u16], n: usize) -> [u32; Register::CLAIMS]
 }
 
 // What a cell of the paper holds, as it is shown.
-fn cell_number(cell: u32) -> u32
+fn cell_number(cell: u16) -> u32
     ensures { λ y. ⌜ y ≡ cellNumber cell ⌝ }
 {
     if cell == paper::NOTHING {
@@ -137,11 +137,11 @@ fn cell_number(cell: u32) -> u32
     if cell == paper::PUBLIC {
         return PUBLIC;
     }
-    (cell - 2) % 256
+    (cell as u32 - 2) % 256
 }
 
 // The cells of the first `n` resources, with nothing past them.
-fn cells_shown(cells: &[u32], n: usize) -> [u32; CELLS]
+fn cells_shown(cells: &[u16], n: usize) -> [u32; CELLS]
     requires { ⌜ (n ≤ resourceLimit) × (length (now cells) ≡ cellLimit) ⌝ }
     ensures { λ y. ⌜ y ≡ filledBy cellLimit (λ k. cellNumber (getD (now (cells .entry)) k 0)) (n * rightCount) nothingNumber ⌝ }
 {
@@ -163,8 +163,8 @@ fn rows_asked(owner: u32, n: usize) -> usize
 }
 
 // The table of an actor of a sound register.
-fn show(r: Register, found: Findings, actor: u32, moment: u64) -> TableShown
-    requires { ⌜ Walkable r (found .ups) (found .resources .reports) ⌝ }
+fn show(r: Register, sheet: &[u32], found: Findings, actor: u32, moment: u64) -> TableShown
+    requires { ⌜ Walkable r (now sheet) (found .ups) (found .resources .reports) ⌝ }
     ensures { λ y. ⌜ y ≡ tableHeld r actor moment ⌝ }
 {
     let k = r.claims;
@@ -172,6 +172,7 @@ fn show(r: Register, found: Findings, actor: u32, moment: u64) -> TableShown
     let owner = owner_asked(actors, actor);
     let page = paper::walk(
         r,
+        sheet,
         &found.ups,
         &found.resources.reports,
         actor,
@@ -225,6 +226,6 @@ pub fn cover_table(r: Register, actor: u32, moment: u64) -> TableShown
     );
     match outcome {
         Outcome::Refused(why) => refused(Outcome::Refused(why)),
-        Outcome::Accepted => show(r, found, actor, moment),
+        Outcome::Accepted => show(r, &sheet, found, actor, moment),
     }
 }

@@ -14,11 +14,11 @@ use Rattle.paper.proofs.walk.Statement.{statement}
 use Rattle.paper.proofs.walk.Tie as tie
 
 abbrev Inv-loop : tie.InvT-loop
-Inv-loop r ups reports actor owner moment k o own₀ theirs₀ hops₀ lives₀ i₀ own theirs hops lives i =
-    Walking r ups reports actor owner moment i own theirs hops lives
+Inv-loop r sheet ups reports actor owner moment o own₀ theirs₀ hops₀ lives₀ i₀ own theirs hops lives i =
+    Walking r sheet ups reports actor owner moment i own theirs hops lives
 
 abbrev μ-loop : tie.MeasureT-loop
-μ-loop r ups reports actor owner moment k o own₀ theirs₀ hops₀ lives₀ i₀ own theirs hops lives i = r .claims .count - i
+μ-loop r sheet ups reports actor owner moment o own₀ theirs₀ hops₀ lives₀ i₀ own theirs hops lives i = r .claims .count - i
 
 -- every list of the register has its room by its type
 claims-room : (s : tie.Start Inv-loop μ-loop) → length (s .args .r .claims .list) ≡ claimLimit
@@ -38,9 +38,6 @@ loop-holds : tie.Need-loop-holds Inv-loop μ-loop
 loop-holds c =
     let start = c .before .before .before .before .before in
     walking-start (start .pre) (claims-room start) (resources-room start) (c .open-cells .ensures)
-
-element-copy-out-c : tie.Need-element-copy-out-c Inv-loop μ-loop
-element-copy-out-c c = turn-room c
 
 shared-slice-read-up : tie.Need-shared-slice-read-up Inv-loop μ-loop
 shared-slice-read-up c = ups-room (c .before .before .before .before .loop .inv) (c .before .before .if1 .taken)
@@ -70,7 +67,7 @@ enter-claim-requires c κs =
 loop-again : tie.Need-loop-again Inv-loop μ-loop
 loop-again c =
     let turn = c .before .before .before .before .before .before .before .before .before .before .before .before in
-    walking-own (turn .before .before .loop .inv) (turn .if1 .taken) (c .before .before .before .before .before .before .before .before .hops-over .ensures) (c .before .before .before .before .before .before .before .is-current .ensures) (c .before .before .before .before .before .lives-over .ensures)
+    walking-own (turn .before .before .loop .inv) (turn .if1 .taken) (c .before .before .before .before .before .before .before .before .before .before .before .claim-at .ensures) (c .before .before .before .before .before .before .before .before .hops-over .ensures) (c .before .before .before .before .before .before .before .is-current .ensures) (c .before .before .before .before .before .lives-over .ensures)
     (c .before .enter-claim .last .0) (c .before .before .before .if2 .taken) (c .before .enter-claim .ensures)
 
 enter-claim-requires-2 : tie.Need-enter-claim-requires-2 Inv-loop μ-loop
@@ -82,26 +79,23 @@ enter-claim-requires-2 c κs =
 loop-again-2 : tie.Need-loop-again-2 Inv-loop μ-loop
 loop-again-2 c =
     let turn = c .before .before .before .before .before .before .before .before .before .before .before .before .before .before in
-    walking-theirs (turn .before .before .loop .inv) (turn .if1 .taken) (c .before .before .before .before .before .before .before .before .before .before .hops-over .ensures) (c .before .before .before .before .before .before .before .before .before .is-current .ensures) (c .before .before .before .before .before .before .before .lives-over .ensures)
+    walking-theirs (turn .before .before .loop .inv) (turn .if1 .taken) (c .before .before .before .before .before .before .before .before .before .before .before .before .before .claim-at .ensures) (c .before .before .before .before .before .before .before .before .before .before .hops-over .ensures) (c .before .before .before .before .before .before .before .before .before .is-current .ensures) (c .before .before .before .before .before .before .before .lives-over .ensures)
     (c .before .enter-claim2 .last .0) (c .before .before .before .before .before .if2 .left) (c .before .before .before .if3 .taken) (c .before .enter-claim2 .ensures)
 
 loop-again-3 : tie.Need-loop-again-3 Inv-loop μ-loop
 loop-again-3 c =
     let turn = c .before .before .before .before .before .before .before .before .before .before .before in
-    walking-neither (turn .before .before .loop .inv) (turn .if1 .taken) (c .before .before .before .before .before .before .before .hops-over .ensures) (c .before .before .before .before .before .before .is-current .ensures) (c .before .before .before .before .lives-over .ensures)
+    walking-neither (turn .before .before .loop .inv) (turn .if1 .taken) (c .before .before .before .before .before .before .before .before .before .before .claim-at .ensures) (c .before .before .before .before .before .before .before .hops-over .ensures) (c .before .before .before .before .before .before .is-current .ensures) (c .before .before .before .before .lives-over .ensures)
     (c .before .before .if2 .left) (c .if3 .left)
 
 returns : tie.Need-returns Inv-loop μ-loop
 returns c = walking-done (c .before .before .loop .inv) (c .if1 .left)
 
-mul-c : tie.Need-mul-c Inv-loop μ-loop
-mul-c c = let room = turn-room c in search needs
-
 mul-up : tie.Need-mul-up Inv-loop μ-loop
 mul-up c = let room = turn-room (c .before) in search needs
 
 cast-up : tie.Need-cast-up Inv-loop μ-loop
-cast-up c = fits-widen tt (c .shared-slice-known3 .given (c .before .before .before .before .loop .i))
+cast-up c = fits-widen tt (c .shared-slice-known4 .given (c .before .before .before .before .loop .i))
 
 slice-aggregate-hops-over : tie.Need-slice-aggregate-hops-over Inv-loop μ-loop
 slice-aggregate-hops-over c = let long = c .before .before .before .before .before .loop .inv .remarked .hopsLong in search needs
@@ -144,8 +138,7 @@ walk-spec =
     μ-loop
     open-cells-requires
     loop-holds
-    mul-c
-    element-copy-out-c
+    (λ c κs. search needs)
     mul-up
     shared-slice-read-up
     cast-up

@@ -24,10 +24,10 @@ returns c =
 
 judge-requires : tie.Need-judge-requires
 judge-requires c κs =
-    let opened = c .before .before .before .before .before .before .before .before in
+    let opened = c .before .before .before .before .before .before .before .before .before in
     let s = opened .before .before .before .before .before in
-    let known = known-examined (s .args .r) (claims-long s) (opened .examine .ensures) (not-false (opened .examine .result .sound) (c .before .before .before .before .before .before .if1 .left)) in
-    (known, action-tests-out (s .args .r) (s .args .a) (sym (tests-known (s .args .r) _ known (s .args .a) (c .before .before .action-outcome .ensures)) ∙ c .enum-told .given .1))
+    let known = known-examined (s .args .r) (claims-long s) (opened .examine .ensures) (not-false (opened .examine .result .sound) (c .before .before .before .before .before .before .before .if1 .left)) in
+    (known, action-tests-out (s .args .r) (s .args .a) (sym (tests-known (s .args .r) _ known (s .args .a) (c .before .before .before .action-outcome .ensures)) ∙ c .before .enum-told .given .1))
 
 returns-2 : tie.Need-returns-2
 returns-2 c =
@@ -40,12 +40,12 @@ returns-2 c =
 
 returns-3 : tie.Need-returns-3
 returns-3 c =
-    let opened = c .before .before .before .before .before .before .before .before .before .before .before in
+    let opened = c .before .before .before .before .before .before .before .before .before .before .before .before in
     let s = opened .before .before .before .before .before in
-    let known = known-examined (s .args .r) (claims-long s) (opened .examine .ensures) (not-false (opened .examine .result .sound) (c .before .before .before .before .before .before .before .before .before .if1 .left)) in
+    let known = known-examined (s .args .r) (claims-long s) (opened .examine .ensures) (not-false (opened .examine .result .sound) (c .before .before .before .before .before .before .before .before .before .before .if1 .left)) in
     c .decided .ensures
     ∙ plain-judged (s .args .r) (s .args .a) (known .soundly)
-    (sym (tests-known (s .args .r) _ known (s .args .a) (c .before .before .before .before .before .action-outcome .ensures)) ∙ c .before .before .before .enum-told .given .1) (c .before .before .judge .result) (c .before .before .judge .ensures)
+    (sym (tests-known (s .args .r) _ known (s .args .a) (c .before .before .before .before .before .before .action-outcome .ensures)) ∙ c .before .before .before .before .enum-told .given .1) (c .before .before .judge .result) (c .before .before .judge .ensures)
 
 pub gate-spec : {M : Type 1} → statement M
 gate-spec =
@@ -58,6 +58,7 @@ gate-spec =
     (λ c κs. search needs)
     (λ c. search needs)
     (λ c κs. search needs)
+    (λ c. search needs)
     (λ c. search needs)
     judge-requires
     (λ c κs. search needs)

@@ -18,8 +18,8 @@ uses-long s = search (needs, length-mapped)
 
 walk-requires : tie.Need-walk-requires
 walk-requires c κs =
-    let s = c .before .before .before .before .before .before .before .before .before .before .before .before .before .before .before .before .before .before in
-    walkable (s .args .r) (s .args .t2) (s .pre .0)
+    let s = c .before .before .before .before .before .before .before .before .before .before .before .before .before .before .before .before .before .before .before in
+    walkable (s .args .r) (s .args .t3) (s .pre .0)
 
 returns : tie.Need-returns
 returns c =
@@ -30,8 +30,8 @@ returns c =
     let first = walked .before .before .before .before .before .before in
     let owning = first .before in
     let begun = owning .before .before .before .before .before .before in
-    let s = begun .before .before .before .before .before .before in
-    judged-plain (s .args .r) (s .args .t2) (s .pre .0) (s .args .a) (s .pre .1) (resources-long s) (uses-long s)
+    let s = begun .before .before .before .before .before .before .before in
+    judged-plain (s .args .r) (s .args .t3) (s .pre .0) (s .args .a) (s .pre .1) (resources-long s) (uses-long s)
     (begun .is-beside .ensures) (owning .owner-of .ensures) (first .first-violations .ensures) (walked .walk .ensures)
     (looked .cells-of .ensures) (covered .cells-of2 .ensures) (putting .put-faults .ensures) (c .hops-in .ensures)
 

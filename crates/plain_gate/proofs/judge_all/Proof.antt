@@ -15,25 +15,25 @@ use Rattle.plain_gate.proofs.judge_all.Statement.{statement}
 use Rattle.plain_gate.proofs.judge_all.Tie as tie
 
 abbrev Inv-loop : tie.InvT-loop
-Inv-loop r found p list₀ flagged₀ i₀ list flagged i = Holding (plainJudgements r) p (p .count) list flagged i
+Inv-loop r sheet found p list₀ flagged₀ i₀ list flagged i = Holding (plainJudgements r) p (p .count) list flagged i
 
 abbrev μ-loop : tie.MeasureT-loop
-μ-loop r found p list₀ flagged₀ i₀ list flagged i = p .count - i
+μ-loop r sheet found p list₀ flagged₀ i₀ list flagged i = p .count - i
 
 -- the array of the actions has its length, by its type
-actions-long : (s : tie.Start Inv-loop μ-loop) → length (s .args .t3 .actions) ≡ actionLimit
+actions-long : (s : tie.Start Inv-loop μ-loop) → length (s .args .t4 .actions) ≡ actionLimit
 actions-long s = search (needs, length-mapped)
 
 loop-holds : tie.Need-loop-holds Inv-loop μ-loop
-loop-holds c = holding-start (actions-long c) (omega (arith, halt-runs (c .args .r) (c .args .t3) (c .pre .1) .most))
+loop-holds c = holding-start (actions-long (c .before)) (omega (arith, halt-runs (c .before .args .r) (c .before .args .t4) (c .before .pre .1) .most))
 
 judge-one-requires : tie.Need-judge-one-requires Inv-loop μ-loop
 judge-one-requires c κs =
-    let s = c .before .before .before in
-    (s .pre .0, fit-at (s .args .r) (s .args .t3) (s .pre .1) (actions-long s) _ (c .before .before .loop .i) (c .before .loop-test .taken))
+    let s = c .before .before .before .before in
+    (s .pre .0, fit-at (s .args .r) (s .args .t4) (s .pre .1) (actions-long s) _ (c .before .before .loop .i) (c .before .loop-test .taken))
 
 loop-again : tie.Need-loop-again Inv-loop μ-loop
-loop-again c = plainly-next (c .before .before .before .before .before .args .r) (c .before .before .before .before .loop .inv) _ (c .before .before .before .loop-test .taken) (c .before .judge-one .ensures)
+loop-again c = plainly-next (c .before .before .before .before .before .before .args .r) (c .before .before .before .before .loop .inv) _ (c .before .before .before .loop-test .taken) (c .before .judge-one .ensures)
 
 returns : tie.Need-returns Inv-loop μ-loop
 returns c = holding-done (c .before .loop .inv) (c .loop-test .left) refl

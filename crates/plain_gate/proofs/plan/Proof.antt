@@ -35,11 +35,11 @@ returns-2 c =
 
 judge-all-requires : tie.Need-judge-all-requires
 judge-all-requires c κs =
-    let opened = c .before .before .before .before .before .before .before .before .before .before in
+    let opened = c .before .before .before .before .before .before .before .before .before .before .before in
     let s = opened .before .before .before .before .before in
-    let known = known-examined (s .args .r) (claims-long s) (opened .examine .ensures) (not-false (opened .examine .result .sound) (c .before .before .before .before .before .before .before .before .if1 .left)) in
-    let stop = stop-known (s .args .r) _ known (s .args .p) (c .before .before .before .before .before .before .if2 .left) (c .before .before .first-stop .ensures) in
-    (known, told-runs (haltOf (s .args .r) (s .args .p)) stop (c .enum-told .given .1))
+    let known = known-examined (s .args .r) (claims-long s) (opened .examine .ensures) (not-false (opened .examine .result .sound) (c .before .before .before .before .before .before .before .before .before .if1 .left)) in
+    let stop = stop-known (s .args .r) _ known (s .args .p) (c .before .before .before .before .before .before .before .if2 .left) (c .before .before .before .first-stop .ensures) in
+    (known, told-runs (haltOf (s .args .r) (s .args .p)) stop (c .before .enum-told .given .1))
 
 returns-3 : tie.Need-returns-3
 returns-3 c =
@@ -53,11 +53,11 @@ returns-3 c =
 
 returns-4 : tie.Need-returns-4
 returns-4 c =
-    let opened = c .before .before .before .before .before .before .before .before .before .before .before in
+    let opened = c .before .before .before .before .before .before .before .before .before .before .before .before in
     let s = opened .before .before .before .before .before in
-    let known = known-examined (s .args .r) (claims-long s) (opened .examine .ensures) (not-false (opened .examine .result .sound) (c .before .before .before .before .before .before .before .before .before .if1 .left)) in
-    let stop = stop-known (s .args .r) _ known (s .args .p) (c .before .before .before .before .before .before .before .if2 .left) (c .before .before .before .first-stop .ensures) in
-    c .judge-all .ensures ∙ plain-runs (s .args .r) (s .args .p) (told-runs (haltOf (s .args .r) (s .args .p)) stop (c .before .enum-told .given .1))
+    let known = known-examined (s .args .r) (claims-long s) (opened .examine .ensures) (not-false (opened .examine .result .sound) (c .before .before .before .before .before .before .before .before .before .before .if1 .left)) in
+    let stop = stop-known (s .args .r) _ known (s .args .p) (c .before .before .before .before .before .before .before .before .if2 .left) (c .before .before .before .before .first-stop .ensures) in
+    c .judge-all .ensures ∙ plain-runs (s .args .r) (s .args .p) (told-runs (haltOf (s .args .r) (s .args .p)) stop (c .before .before .enum-told .given .1))
 
 pub plan-spec : {M : Type 1} → statement M
 plan-spec =
@@ -72,6 +72,7 @@ plan-spec =
     (λ c κs. search needs)
     (λ c. search needs)
     (λ c κs. search needs)
+    (λ c. search needs)
     (λ c. search needs)
     judge-all-requires
     returns-3

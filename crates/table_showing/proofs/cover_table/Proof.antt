@@ -14,9 +14,9 @@ claims-room s = search (needs, length-mapped)
 
 show-requires : tie.Need-show-requires
 show-requires c κs =
-    let start = c .before .before .before .before .before .before .before .before .before .before .before .before in
-    walkable-accepted (start .args .r) (claims-room start) (examined (start .args .r) (c .before .before .before .before .before .before .before .examine .ensures)) (start .args .actor) (start .args .moment)
-    (c .before .before .table-outcome .ensures) (c .enum-told .given .1)
+    let start = c .before .before .before .before .before .before .before .before .before .before .before .before .before in
+    walkable-accepted (start .args .r) (claims-room start) (examined (start .args .r) (c .before .before .before .before .before .before .before .before .examine .ensures)) (start .args .actor) (start .args .moment)
+    (c .before .before .before .table-outcome .ensures) (c .before .enum-told .given .1)
 
 returns : tie.Need-returns
 returns c =
@@ -27,10 +27,10 @@ returns c =
 
 returns-2 : tie.Need-returns-2
 returns-2 c =
-    let start = c .before .before .before .before .before .before .before .before .before .before .before .before .before in
+    let start = c .before .before .before .before .before .before .before .before .before .before .before .before .before .before in
     c .show .ensures
-    ∙ shown-accepted (start .args .r) (claims-room start) (examined (start .args .r) (c .before .before .before .before .before .before .before .before .examine .ensures)) (start .args .actor) (start .args .moment)
-    (c .before .before .before .table-outcome .ensures) (c .before .enum-told .given .1)
+    ∙ shown-accepted (start .args .r) (claims-room start) (examined (start .args .r) (c .before .before .before .before .before .before .before .before .before .examine .ensures)) (start .args .actor) (start .args .moment)
+    (c .before .before .before .before .table-outcome .ensures) (c .before .before .enum-told .given .1)
 
 pub cover-table-spec : {M : Type 1} → statement M
 cover-table-spec =
@@ -41,6 +41,7 @@ cover-table-spec =
     (λ c κs. search needs)
     (λ c. search needs)
     (λ c κs. search needs)
+    (λ c. search needs)
     (λ c. search needs)
     show-requires
     returns

@@ -29,20 +29,20 @@ theirs-room : (p : tie.After-page) → length (p .before .walk .result .theirs) 
 theirs-room p = search (needs, length-mapped)
 
 walk-requires : tie.Need-walk-requires
-walk-requires c κs = c .before .before .before .before .before .before .before .before .pre
+walk-requires c κs = c .before .before .before .before .before .before .before .before .before .pre
 
 hop-counts-requires : tie.Need-hop-counts-requires
-hop-counts-requires c κs = (sound-out _ (c .before .before .before .before .before .before .before .before .before .before .before .before .pre .soundly) .limits .claimCount, hops-room (c .before .before))
+hop-counts-requires c κs = (sound-out _ (c .before .before .before .before .before .before .before .before .before .before .before .before .before .pre .soundly) .limits .claimCount, hops-room (c .before .before))
 
 states-requires : tie.Need-states-requires
-states-requires c κs = (sound-out _ (c .before .before .before .before .before .before .before .before .before .before .before .before .before .before .before .before .pre .soundly) .limits .claimCount, lives-room (c .before .before))
+states-requires c κs = (sound-out _ (c .before .before .before .before .before .before .before .before .before .before .before .before .before .before .before .before .before .pre .soundly) .limits .claimCount, lives-room (c .before .before))
 
 cells-shown-requires : tie.Need-cells-shown-requires
-cells-shown-requires c κs = (sound-out _ (c .before .before .before .before .before .before .before .before .before .before .before .before .before .before .before .before .before .before .before .before .pre .soundly) .limits .resourceCount, c .before .before .before .before .before .before .before .before .before .before .before .walk .ensures .own .long)
+cells-shown-requires c κs = (sound-out _ (c .before .before .before .before .before .before .before .before .before .before .before .before .before .before .before .before .before .before .before .before .before .pre .soundly) .limits .resourceCount, c .before .before .before .before .before .before .before .before .before .before .before .walk .ensures .own .long)
 
 cells-shown-requires-2 : tie.Need-cells-shown-requires-2
 cells-shown-requires-2 c κs =
-    let start = c .before .before .before .before .before .before .before .before .before .before .before .before .before .before .before .before .before .before .before .before .before .before .before .before .before in
+    let start = c .before .before .before .before .before .before .before .before .before .before .before .before .before .before .before .before .before .before .before .before .before .before .before .before .before .before in
     let asked = c .before .before .before .rows-asked in (
       rows-few (c .before .before .before .before .before .before .before .before .before .before .before .before .before .before .before .before .before .before .before .before .before .before .owner-asked .result) (start .args .r .resources .count) (asked .result) (asked .ensures) (sound-out _ (start .pre .soundly) .limits .resourceCount),
       theirs-room (c .before .before .before .before .before .before .before .before .before .before .before .before .before .before .before),
@@ -50,7 +50,7 @@ cells-shown-requires-2 c κs =
 
 returns : tie.Need-returns
 returns c =
-    let start = c .before .before .before .before .before .before .before .before .before .before .before .before .before .before .before .before .before .before .before .before .before .before .before .before .before .before in
+    let start = c .before .before .before .before .before .before .before .before .before .before .before .before .before .before .before .before .before .before .before .before .before .before .before .before .before .before .before in
     shown-natural (start .args .r) (start .pre .soundly) (claims-room start) (start .args .moment) (resources-room start) (start .args .actor)
     (c .before .before .before .before .before .before .before .before .before .before .before .before .before .before .before .before .before .before .before .before .before .before .before .owner-asked .result) (c .before .before .before .before .rows-asked .result) (c .before .before .before .before .before .before .before .before .before .before .before .before .before .before .before .before .before .walk .result)
     (c .before .before .before .before .before .before .before .before .before .before .before .before .before .hop-counts .result) (c .before .before .before .before .before .before .before .before .before .states .result) (c .before .before .before .before .before .cells-shown .result) (c .cells-shown2 .result)
