@@ -14,11 +14,10 @@ use Rattle.register.specs.declared.Register.{Register}
 use Rattle.soundness_rules.specs.Sound.{World, sound, claimFits, namesStand, rootKept, fewerLeft}
 use Rattle.refusals.specs.Refusals.{Test, outcomeOf}
 use Rattle.change_rules.specs.Changes.{worldIn, standing, parentTests, grantTests}
-use Rattle.refusals.specs.Laws.{outcome-cases, outcome-nil, outcome-pass, outcome-fail, outcome-append, outcome-append-refused}
+use Rattle.refusals.specs.Laws.{outcome-nil, outcome-pass, outcome-fail}
 use Rattle.refusals.specs.declared.Refusal.the-variants.{Unsound, Range, Absent, Stands, Full, NotKeeper, Ownerless, NotByMachine, NoParent, NotHeld, NotLive, NoDelegate, RightLacking, WeightAbove, TooManyHops, Circle}
-use Rattle.refusals.specs.declared.Outcome.{Outcome}
 use Rattle.refusals.specs.declared.Outcome.the-variants.{Accepted, Refused}
-use Rattle.granting.specs.Drawn.{toldTests, drawnTests, chainTests, outcomeThen, firstTests, world-tests, parent-tests}
+use Rattle.granting.specs.Drawn.{toldTests, drawnTests, chainTests, firstTests, world-tests, parent-tests}
 
 -- tests 3 to 8
 module _ (w : World) (stands : Bool) (n : ℕ) (c : Claim) where
@@ -110,13 +109,6 @@ module _ {A : Type 0} (grantor holder : A → ℕ) (fewer : Bool) (l : List A) (
     pub no-circle : circling grantor holder l h ≡ false → outcomeOf (chainTests grantor holder fewer l h) ≡ Accepted
     unfolding chainTests outcomeOf
     no-circle e = rw (within, e)
-
--- tests decided one part after the other are decided together
-pub decided-then : (tests more : List Test) {first next : Outcome} → first ≡ outcomeOf tests → next ≡ outcomeOf more → outcomeThen first next ≡ outcomeOf (tests ++ more)
-decided-then tests more {first} {next} e told =
-    outcome-cases first
-    (λ passed. ap (λ o. outcomeThen o next) passed ∙ told ∙ sym (outcome-append tests more (sym e ∙ passed)))
-    (λ why refused. ap (λ o. outcomeThen o next) refused ∙ sym (outcome-append-refused tests more why (sym e ∙ refused)))
 
 -- tests 9 to 16, over the chain above
 module _ (version moment : ℕ) (l : List Claim) (c : Claim) where

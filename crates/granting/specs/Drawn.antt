@@ -1,7 +1,7 @@
 -- Working: A grant's tests in the parts that the code decides one by one: tests 1 and 2 where it is told whether the register is sound; tests 3 to 8
 -- where it is told whether the claim's id stands; those of the parent and the claim alone; those of the chain, over anything that has grantors and
 -- holders. That 01's tests are these parts in this order is proved here (`world-tests`, `parent-tests`). Assumes nothing.
-use mathlib.Core.Path.{_≡_, refl}
+use mathlib.Core.Path.{_≡_, refl, sym, ap, _∙_}
 use mathlib.Core.Bool.{Bool, not, _&&_, cond}
 use mathlib.Core.List.{List, [], _∷_, _++_, map}
 use Prim.Native.Nat.{ℕ}
@@ -14,7 +14,8 @@ use Rattle.register.specs.declared.Claim.{Claim}
 use Rattle.register.specs.declared.Actor.{Actor}
 use Rattle.register.specs.declared.Resource.{Resource}
 use Rattle.soundness_rules.specs.Sound.{World, worldOf, namesStand, fresh, rootKept, fewerLeft, claimFits}
-use Rattle.refusals.specs.Refusals.{Test}
+use Rattle.refusals.specs.Refusals.{Test, outcomeOf}
+use Rattle.refusals.specs.Laws.{outcome-cases, outcome-append, outcome-append-refused}
 use Rattle.change_rules.specs.Changes.{sourceLive, worldTests, parentTests}
 use Rattle.refusals.specs.declared.Refusal.the-variants.{Absent, Stands, Full, NotKeeper, Ownerless, NotByMachine, NotHeld, NotLive, NoDelegate, RightLacking, WeightAbove, TooManyHops, Circle, Unsound, Range}
 use Rattle.refusals.specs.declared.Outcome.{Outcome}
@@ -89,3 +90,10 @@ pub parent-tests : (version moment : ℕ) (p : Claim) (higher : List Claim) (c :
     ++ chainTests (λ d. d .grantor) (λ d. d .holder) (fewerLeft version p higher c) (p ∷ higher) (c .holder)
 unfolding parentTests drawnTests chainTests
 parent-tests version moment p higher c = rw (source-live moment p higher)
+
+-- tests decided one part after the other are decided together
+pub decided-then : (tests more : List Test) {first next : Outcome} → first ≡ outcomeOf tests → next ≡ outcomeOf more → outcomeThen first next ≡ outcomeOf (tests ++ more)
+decided-then tests more {first} {next} e told =
+    outcome-cases first
+    (λ passed. ap (λ o. outcomeThen o next) passed ∙ told ∙ sym (outcome-append tests more (sym e ∙ passed)))
+    (λ why refused. ap (λ o. outcomeThen o next) refused ∙ sym (outcome-append-refused tests more why (sym e ∙ refused)))

@@ -34,7 +34,7 @@ pub struct GrantOutcome {
 
 // Tests 3 to 8, over the columns of the first `h` actors and the first `m` resources: `stands` says whether a claim has the id already, and `n` how
 // many claims there are.
-fn world_outcome(
+pub fn world_outcome(
     actors: ActorColumns,
     h: usize,
     resources: ResourceColumns,
@@ -70,7 +70,7 @@ fn world_outcome(
 }
 
 // Tests 10 to 14, of the parent and the claim: `lives` says whether the parent is live, which the chain above it decides.
-fn drawn_outcome(p: Claim, c: Claim, lives: bool) -> Outcome
+pub fn drawn_outcome(p: Claim, c: Claim, lives: bool) -> Outcome
     ensures { λ r. ⌜ r ≡ outcomeOf (drawnTests lives p c) ⌝ }
 {
     if p.holder != c.grantor {
@@ -140,7 +140,7 @@ fn hops_under(ups: &[u16], place: Place) -> usize
 
 // Tests 15 and 16, of the chain from the parent `p` up, which stands at the place `at`, and the claim `c`. `ups` has for each place that of
 // the parent.
-fn chain_outcome<'a>(
+pub fn chain_outcome<'a>(
     version: u64,
     ups: &'a [u16],
     grantors: &'a [u32],
@@ -162,7 +162,7 @@ fn chain_outcome<'a>(
 }
 
 // The outcome of tests of which the first part and the next are told.
-fn then(first: Outcome, next: Outcome) -> Outcome
+pub fn then(first: Outcome, next: Outcome) -> Outcome
     ensures { λ r. ⌜ r ≡ outcomeThen first next ⌝ }
 {
     match first {

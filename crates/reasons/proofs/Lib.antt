@@ -1,5 +1,3 @@
-pub mod Holding
-pub mod Reasoning
 pub mod Using
 pub mod TheoremsUses
 pub mod TheoremsWho

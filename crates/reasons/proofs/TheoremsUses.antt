@@ -16,7 +16,7 @@ use Rattle.actions.specs.declared.Violation.the-variants.{NotCovered, OwnerNotC
 use Rattle.gate_rules.specs.Authority.{IsIn}
 use Rattle.gate_rules.specs.Gate.{relied, publicRead, covers, useViolation}
 use Rattle.reasons.specs.Reasons.{heldOver, reasonOf, isCovering, telling, tellingOf, ownerUncovered, relying, publicly, notLive, lacking, unheld, ReliesOn, EndedAt, LacksRight, HoldsNone}
-use Rattle.reasons.proofs.Reasoning as reasoning
+use Rattle.reasons.specs.ReasonsLaws as reasoning
 
 -- 5a. The reason is a claim relied on or a public READ exactly where the actor covers the use.
 pub reason-covers : (r : Register) (moment x : ℕ) (u : Usage) → isCovering (reasonOf r moment x u) ≡ covers r moment x u

@@ -21,8 +21,9 @@ use Rattle.gate_rules.specs.Gate.{gateTests, gated}
 use Rattle.reasons.specs.Reasons.{reasonOf, isCovering}
 use Rattle.reasons.specs.Holders.{mayUse, whoMay}
 use Rattle.reasons.specs.Uses.{whyUse, whyOn, tellsPermitted}
+use Rattle.reasons.specs.UsesLaws as uses
 use Rattle.reasons.proofs.Using as answering
-use Rattle.reasons.proofs.Holding as holding
+use Rattle.reasons.specs.HoldersLaws as holding
 
 -- 9a. A number is listed exactly where the action of that actor with the one use is permitted: whatever the register, the use, the moment and the number.
 pub who-exact : (r : Register) (u : Usage) (moment x : ℕ) → (any (eqb x) (whoMay r u moment) ≡ true → gated r (oneUse x u moment) .decision ≡ Permitted)
@@ -45,7 +46,7 @@ who-absent = holding.who-absent
 -- 10a. The answer to why of a call that the gate stops has its refusal, and zeros.
 pub why-refused : (r : Register) (x : ℕ) (u : Usage) (moment : ℕ) (why : Refusal) → outcomeOf (gateTests r (oneUse x u moment)) ≡ Refused why
     → whyUse r x u moment ≡ whyOn (Refused why) r x u moment
-why-refused = answering.why-refused
+why-refused = uses.why-refused
 
 -- 10b. What is told permits exactly where the gate permits the action with the one use: whatever the register, the actor, the use and the moment.
 pub why-exact : (r : Register) (x : ℕ) (u : Usage) (moment : ℕ)

@@ -12,19 +12,18 @@ use Rattle.register.specs.declared.Register.{Register}
 use Rattle.soundness_rules.specs.Sound.{isMachine, sound}
 use Rattle.refusals.specs.Refusals.{outcomeOf}
 use Rattle.refusals.specs.Laws.{outcome-cases}
-use Rattle.refusals.specs.declared.Refusal.{Refusal}
-use Rattle.refusals.specs.declared.Outcome.the-variants.{Accepted, Refused}
 use Rattle.actions.specs.Actions.{oneUse}
 use Rattle.actions.specs.declared.Usage.{Usage}
 use Rattle.actions.specs.declared.Decision.the-variants.{Permitted}
 use Rattle.gate_rules.specs.Gate.{gateTests, gated}
 use Rattle.gate_rules.specs.Authority.{IsIn}
-use Rattle.gate_rules.specs.Places.{any-place, place-any, first-found}
+use Rattle.gate_rules.specs.Places.{any-place, place-any}
 use Rattle.gate_rules.specs.Laws.{permitted-out, gate-tests-in, gate-tests-out}
 use Rattle.reasons.specs.Reasons.{Reason, relying, publicly, notLive, lacking, unheld, reasonOf, isCovering, telling, tellingNone}
 use Rattle.reasons.specs.Holders.{mayUse}
-use Rattle.reasons.specs.Uses.{firstOwner, machineOwner, whyUse, whyOn, coveringKind, tellsPermitted}
-use Rattle.reasons.proofs.Holding.{only, none-but, may-reasons, may-passed, permitted-may}
+use Rattle.reasons.specs.Uses.{machineOwner, whyUse, coveringKind, tellsPermitted}
+use Rattle.reasons.specs.UsesLaws.{owner-same, why-accepted, why-refused}
+use Rattle.reasons.specs.HoldersLaws.{none-but, may-reasons, may-passed, permitted-may}
 
 kind-covering : (r : Register) (moment : ℕ) (w : Reason) → coveringKind (telling r moment w) ≡ isCovering w
 kind-covering r moment (relying c) = refl
@@ -45,29 +44,12 @@ module _ (r : Register) (x : ℕ) (u : Usage) (moment : ℕ) where
         (λ e. place-any (λ b. eqb x (b .id) && eqb machineKind (b .kind)) (actorsOf (r .actors)) a at (and-both (eqb x (a .id)) (eqb machineKind (a .kind)) named e) ∙ sym e)
         (λ e. none-but r u moment x soundly a at named (λ b. eqb machineKind (b .kind)) e ∙ sym e)
 
-    owner-same : eqb machineKind (a .kind) ≡ true → machineOwner r x ≡ a .owner
-    owner-same e =
-        let named-machine : Actor → Bool = λ b. eqb x (b .id) && eqb machineKind (b .kind) in
-        let found = first-found named-machine (actorsOf (r .actors))
-        (place-any named-machine (actorsOf (r .actors)) a at (and-both (eqb x (a .id)) (eqb machineKind (a .kind)) named e)) in
-        ap firstOwner (found .1 .alone)
-        ∙ ap (λ b. b .owner) (only r u moment x soundly a at named (found .0) (found .1 .place)
-        (and-left (eqb x (found .0 .id)) (eqb machineKind (found .0 .kind)) (found .1 .passes)))
-
     -- what is told is what the actor may
     told-may : coveringKind (telling r moment (reasonOf r moment x u)) && (not (isMachine (actorsOf (r .actors)) x)
         || coveringKind (cond (eqb (machineOwner r x) 0) (tellingNone 0) (telling r moment (reasonOf r moment (machineOwner r x) u)))) ≡ mayUse r moment u a
     told-may =
         rw (kind-covering r moment (reasonOf r moment x u), machine-same, may-reasons r u moment a, ← eqb-true x (a .id) named)
-        (cases (eqb machineKind (a .kind)) (λ e. rw (e, owner-same e, owner-covering (a .owner))) (λ e. rw e))
-
-  why-accepted : outcomeOf (gateTests r (oneUse x u moment)) ≡ Accepted → whyUse r x u moment ≡ whyOn Accepted r x u moment
-  unfolding whyUse
-  why-accepted e = ap (λ o. whyOn o r x u moment) e
-
-  pub why-refused : (why : Refusal) → outcomeOf (gateTests r (oneUse x u moment)) ≡ Refused why → whyUse r x u moment ≡ whyOn (Refused why) r x u moment
-  unfolding whyUse
-  why-refused why e = ap (λ o. whyOn o r x u moment) e
+        (cases (eqb machineKind (a .kind)) (λ e. rw (e, owner-same r x u moment soundly a at named e, owner-covering (a .owner))) (λ e. rw e))
 
   -- what is told permits exactly where the gate does
   pub told-permitted : tellsPermitted (isMachine (actorsOf (r .actors)) x) (whyUse r x u moment) ≡ true → gated r (oneUse x u moment) .decision ≡ Permitted
@@ -76,12 +58,12 @@ module _ (r : Register) (x : ℕ) (u : Usage) (moment : ℕ) where
       (λ e. let passed = gate-tests-out r (oneUse x u moment) e in
       let found = any-place (λ b. eqb x (b .id)) (actorsOf (r .actors)) (passed .known) in
       may-passed r u moment x passed (found .0) (found .1) (found .2)
-      (sym (told-may (passed .soundly) (found .0) (found .1) (found .2)) ∙ (rw (why-accepted e) at h)))
-      (λ why e. clash false (rw (why-refused why e) at h) refl)
+      (sym (told-may (passed .soundly) (found .0) (found .1) (found .2)) ∙ (rw (why-accepted r x u moment e) at h)))
+      (λ why e. clash false (rw (why-refused r x u moment why e) at h) refl)
 
   pub permitted-told : gated r (oneUse x u moment) .decision ≡ Permitted → tellsPermitted (isMachine (actorsOf (r .actors)) x) (whyUse r x u moment) ≡ true
   permitted-told h =
       let passed = permitted-out r (oneUse x u moment) h .passed in
       let found = any-place (λ b. eqb x (b .id)) (actorsOf (r .actors)) (passed .known) in
-      rw (why-accepted (gate-tests-in r (oneUse x u moment) passed))
+      rw (why-accepted r x u moment (gate-tests-in r (oneUse x u moment) passed))
       (told-may (passed .soundly) (found .0) (found .1) (found .2) ∙ permitted-may r u moment x h (found .0) (found .1) (found .2))

@@ -5,14 +5,14 @@ use Prim.Native.Nat.{ℕ}
 use lib.ListN.{getD}
 use Rattle.refusals.specs.Refusals.{numberOf}
 use Rattle.refusals.specs.declared.Refusal.{Refusal}
-use Rattle.refusals.specs.declared.Refusal.the-variants.{Unsound, Range, Absent, Stands, Full, NotKeeper, Ownerless, NotByMachine, NoParent, NotHeld, NotLive, NoDelegate, RightLacking, WeightAbove, TooManyHops, Circle, NoClaim, NoGrantor, Form, Count, Buffer, TooDeep, TooManyActions, JsonForm, JsonLacks, NoProposal, NotPermitted, NoEntry, BookFull, BadBook}
+use Rattle.refusals.specs.declared.Refusal.the-variants.{Unsound, Range, Absent, Stands, Full, NotKeeper, Ownerless, NotByMachine, NoParent, NotHeld, NotLive, NoDelegate, RightLacking, WeightAbove, TooManyHops, Circle, NoClaim, NoGrantor, Form, Count, Buffer, TooDeep, TooManyActions, JsonForm, JsonLacks, NoProposal, NotPermitted, NoEntry, BookFull, BadBook, Doubled, BadOwner, BadKeeper}
 
 -- the refusals by their numbers; 0, which is no refusal's, holds the first
 refusals : List Refusal
 refusals =
     Unsound ∷ Unsound ∷ Range ∷ Absent ∷ Stands ∷ Full ∷ NotKeeper ∷ Ownerless ∷ NotByMachine ∷ NoParent ∷ NotHeld ∷ NotLive ∷ NoDelegate
     ∷ RightLacking ∷ WeightAbove ∷ TooManyHops ∷ Circle ∷ NoClaim ∷ NoGrantor ∷ Form ∷ Count ∷ Buffer ∷ TooDeep ∷ TooManyActions ∷ JsonForm ∷ JsonLacks
-    ∷ NoProposal ∷ NotPermitted ∷ NoEntry ∷ BookFull ∷ BadBook
+    ∷ NoProposal ∷ NotPermitted ∷ NoEntry ∷ BookFull ∷ BadBook ∷ Doubled ∷ BadOwner ∷ BadKeeper
     ∷ []
 
 told-back : (why : Refusal) → getD refusals (numberOf why) Unsound ≡ why
@@ -47,6 +47,9 @@ told-back NotPermitted = refl
 told-back NoEntry = refl
 told-back BookFull = refl
 told-back BadBook = refl
+told-back Doubled = refl
+told-back BadOwner = refl
+told-back BadKeeper = refl
 
 pub number-same : (why other : Refusal) → numberOf why ≡ numberOf other → why ≡ other
 number-same why other same = sym (told-back why) ∙ ap (λ n. getD refusals n Unsound) same ∙ told-back other

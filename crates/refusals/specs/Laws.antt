@@ -8,7 +8,7 @@ use Rattle.lists.specs.Tests.{cases}
 use Rattle.lists.specs.Lists.{All}
 use Rattle.refusals.specs.Refusals.{numberOf, Test, outcomeOf}
 use Rattle.refusals.specs.declared.Refusal.{Refusal}
-use Rattle.refusals.specs.declared.Refusal.the-variants.{Unsound, Range, Absent, Stands, Full, NotKeeper, Ownerless, NotByMachine, NoParent, NotHeld, NotLive, NoDelegate, RightLacking, WeightAbove, TooManyHops, Circle, NoClaim, NoGrantor, Form, Count, Buffer, TooDeep, TooManyActions, JsonForm, JsonLacks, NoProposal, NotPermitted, NoEntry, BookFull, BadBook}
+use Rattle.refusals.specs.declared.Refusal.the-variants.{Unsound, Range, Absent, Stands, Full, NotKeeper, Ownerless, NotByMachine, NoParent, NotHeld, NotLive, NoDelegate, RightLacking, WeightAbove, TooManyHops, Circle, NoClaim, NoGrantor, Form, Count, Buffer, TooDeep, TooManyActions, JsonForm, JsonLacks, NoProposal, NotPermitted, NoEntry, BookFull, BadBook, Doubled, BadOwner, BadKeeper}
 use Rattle.refusals.specs.declared.Outcome.{Outcome}
 use Rattle.refusals.specs.declared.Outcome.the-variants.{Accepted, Refused}
 
@@ -44,6 +44,9 @@ number-bounds NotPermitted = (omega arith, omega arith)
 number-bounds NoEntry = (omega arith, omega arith)
 number-bounds BookFull = (omega arith, omega arith)
 number-bounds BadBook = (omega arith, omega arith)
+number-bounds Doubled = (omega arith, omega arith)
+number-bounds BadOwner = (omega arith, omega arith)
+number-bounds BadKeeper = (omega arith, omega arith)
 
 -- an outcome taken apart, with its equation
 pub outcome-cases : {A : Type 0} (o : Outcome) → (o ≡ Accepted → A) → ((why : Refusal) → o ≡ Refused why → A) → A

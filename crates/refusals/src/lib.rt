@@ -66,6 +66,12 @@ pub enum Refusal {
     BookFull,
     // 30: the book has more than 64 entries, or two for one number.
     BadBook,
+    // 31: an earlier record of the list has the id.
+    Doubled,
+    // 32: owner of a human, or owner who is no human of the register.
+    BadOwner,
+    // 33: keeper who is no human of the register.
+    BadKeeper,
 }
 
 pub enum Outcome {
@@ -108,5 +114,8 @@ pub fn number(why: Refusal) -> u32
         Refusal::NoEntry => 28,
         Refusal::BookFull => 29,
         Refusal::BadBook => 30,
+        Refusal::Doubled => 31,
+        Refusal::BadOwner => 32,
+        Refusal::BadKeeper => 33,
     }
 }

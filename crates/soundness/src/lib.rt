@@ -237,7 +237,7 @@ fn actors_fit<'a>(names: &'a [u32], kinds: &'a [u32], owners: &'a [u32], n: usiz
 
 // Whether each byte of a resource's path is one that a path may have. Every byte is looked at, without a way out of the loop: so they are
 // compared many at a time.
-fn path_fits(o: Resource) -> bool
+pub fn path_fits(o: Resource) -> bool
     ensures { λ r. ⌜ r ≡ every (ranged pathByteLeast pathByteGreatest) (pathOf o) ⌝ }
 {
     let top = lists::least(o.len as usize, Register::PATH);

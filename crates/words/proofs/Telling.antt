@@ -13,7 +13,7 @@ use Rattle.lists.specs.Each.{every-at}
 use Rattle.lists.specs.Tests.{clash}
 use Rattle.refusals.specs.Refusals.{numberOf}
 use Rattle.refusals.specs.declared.Refusal.{Refusal}
-use Rattle.refusals.specs.declared.Refusal.the-variants.{Unsound, Range, Absent, Stands, Full, NotKeeper, Ownerless, NotByMachine, NoParent, NotHeld, NotLive, NoDelegate, RightLacking, WeightAbove, TooManyHops, Circle, NoClaim, NoGrantor, Form, Count, Buffer, TooDeep, TooManyActions, JsonForm, JsonLacks, NoProposal, NotPermitted, NoEntry, BookFull, BadBook}
+use Rattle.refusals.specs.declared.Refusal.the-variants.{Unsound, Range, Absent, Stands, Full, NotKeeper, Ownerless, NotByMachine, NoParent, NotHeld, NotLive, NoDelegate, RightLacking, WeightAbove, TooManyHops, Circle, NoClaim, NoGrantor, Form, Count, Buffer, TooDeep, TooManyActions, JsonForm, JsonLacks, NoProposal, NotPermitted, NoEntry, BookFull, BadBook, Doubled, BadOwner, BadKeeper}
 use Rattle.actions.specs.Actions.{kindOf}
 use Rattle.actions.specs.declared.Violation.{Violation}
 use Rattle.actions.specs.declared.Violation.the-variants.{FlagSet, NoOwner, MachineGoverns, NotCovered, OwnerNotCovering}
@@ -76,6 +76,9 @@ refusal-said NotPermitted = refl
 refusal-said NoEntry = refl
 refusal-said BookFull = refl
 refusal-said BadBook = refl
+refusal-said Doubled = refl
+refusal-said BadOwner = refl
+refusal-said BadKeeper = refl
 
 pub refusal-known : (why : Refusal) → refusalText (numberOf why) ≡ unknownRefusal → ⊥
 unfolding same

@@ -42,6 +42,9 @@ refusalTexts =
     ∷ bytes "no fingerprint is attached to the resource's number"
     ∷ bytes "64 entries stand, and none of the resource's number"
     ∷ bytes "book with more than 64 entries or with two for one number"
+    ∷ bytes "an earlier record of the list has the id"
+    ∷ bytes "owner of a human, or owner who is no human of the register"
+    ∷ bytes "keeper who is no human of the register"
     ∷ []
 
 abbrev pub refusalText : ℕ → List ℕ

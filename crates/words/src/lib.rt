@@ -14,7 +14,7 @@ use buffers::Written;
 const LINE_FEED: u8 = 10;
 
 // How many numbers each table has a text for, from 0 on. Behind those stands the text of every other number.
-const REFUSALS: usize = 31;
+const REFUSALS: usize = 34;
 
 const VIOLATIONS: usize = 6;
 
@@ -92,6 +92,9 @@ action not permitted
 no fingerprint is attached to the resource's number
 64 entries stand, and none of the resource's number
 book with more than 64 entries or with two for one number
+an earlier record of the list has the id
+owner of a human, or owner who is no human of the register
+keeper who is no human of the register
 unknown refusal
 ",
         number,

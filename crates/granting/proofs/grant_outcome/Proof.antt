@@ -17,9 +17,9 @@ use Rattle.lookup.specs.Walks.{upFrom}
 use Rattle.soundness.specs.Laws.{examined, judged-sound, judged-ups, judged-actors, judged-resources}
 use Rattle.claim_judging.specs.AloneLaws.{world-natural}
 use Rattle.refusals.specs.Refusals.{outcomeOf}
-use Rattle.granting.specs.Drawn.{toldTests, parentAsked, told-version}
+use Rattle.granting.specs.Drawn.{toldTests, parentAsked, told-version, decided-then}
 use Rattle.granting.proofs.Columns.{stands-asked, parent-asked, settled-told}
-use Rattle.granting.proofs.Deciding.{decided-then, grant-asked}
+use Rattle.granting.proofs.Deciding.{grant-asked}
 use Rattle.granting.proofs.grant_outcome.Statement.{statement}
 use Rattle.granting.proofs.grant_outcome.Tie as tie
 

@@ -9,7 +9,7 @@ use borrow.Author.Needs.{needs}
 use Rattle.columns.specs.Columns.{placesUp}
 use Rattle.claim_judging.specs.Over.{handsAt}
 use Rattle.granting.proofs.Columns.{root-passes, parent-nowhere, parent-at, chain-columns}
-use Rattle.granting.proofs.Deciding.{decided-then}
+use Rattle.granting.specs.Drawn.{decided-then}
 use Rattle.granting.proofs.parent_outcome.Statement.{statement}
 use Rattle.granting.proofs.parent_outcome.Tie as tie
 

@@ -93,10 +93,22 @@ returns-29 c = rw (c .enum-told29 .given .1)
 returns-30 : tie.Need-returns-30
 returns-30 c = rw (c .enum-told30 .given .1)
 
+returns-31 : tie.Need-returns-31
+returns-31 c = rw (c .enum-told31 .given .1)
+
+returns-32 : tie.Need-returns-32
+returns-32 c = rw (c .enum-told32 .given .1)
+
+returns-33 : tie.Need-returns-33
+returns-33 c = rw (c .enum-told33 .given .1)
+
 pub number-spec : {M : Type 1} → statement M
 number-spec =
     tie.close
     (tie.spec
+    (λ c. search needs)
+    (λ c. search needs)
+    (λ c. search needs)
     (λ c. search needs)
     (λ c. search needs)
     (λ c. search needs)
@@ -156,4 +168,7 @@ number-spec =
     returns-27
     returns-28
     returns-29
-    returns-30)
+    returns-30
+    returns-31
+    returns-32
+    returns-33)

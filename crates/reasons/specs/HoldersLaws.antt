@@ -1,13 +1,13 @@
--- Who may: an actor is listed exactly where the action with the one use is permitted. Assumes nothing.
+-- Laws: Who may: an actor is listed exactly where the action with the one use is permitted. Assumes nothing.
 use mathlib.Core.Path.{_≡_, refl, ap, sym, _∙_}
 use mathlib.Core.Bool.{Bool, true, false, not, _&&_, _||_}
 use mathlib.Core.List.{List, [], _∷_, map}
 use Prim.Native.Nat.{ℕ, _≤_, _^_}
 use native.Mathlib.Omega.{arith}
-use borrow.Author.Tests.{eqb-true, le-leb, not-true}
+use borrow.Author.Tests.{eqb-true, eq-eqb, le-leb, not-true}
 use lib.Dec.{eqb, leb, ltb}
 use lib.ListN.{length, length-map, length-take}
-use Rattle.lists.specs.Tests.{cases, clash, and-left, and-right, and-both, or-other}
+use Rattle.lists.specs.Tests.{cases, clash, and-left, and-right, and-both, or-other, iff-same}
 use Rattle.lists.specs.Lists.{any, filter, dropping}
 use Rattle.lists.specs.Each.{any-map, ands-out, all-imp, all-none, every-all, each-all}
 use Rattle.lists.specs.Filters.{dropping-nil, dropping-hit, dropping-miss, dropping-length, filter-none}
@@ -18,12 +18,14 @@ use Rattle.register.specs.declared.Actor.{Actor}
 use Rattle.register.specs.declared.Register.{Register}
 use Rattle.soundness_rules.specs.Sound.{sound, human, actorFits}
 use Rattle.soundness_rules.specs.Registers.{sound-out, actor-fits-out}
-use Rattle.refusals.specs.Refusals.{outcomeOf, isAccepted}
-use Rattle.refusals.specs.Laws.{outcome-cases, accepted-out, accepted-in}
-use Rattle.refusals.specs.declared.Outcome.the-variants.{Accepted}
-use Rattle.actions.specs.Actions.{oneUse, flagCount, useLimit, governLimit, actionFits}
+use Rattle.refusals.specs.Refusals.{Test, outcomeOf, isAccepted}
+use Rattle.refusals.specs.Laws.{outcome-cases, outcome-pass, outcome-fail, accepted-out, accepted-in}
+use Rattle.refusals.specs.declared.Outcome.the-variants.{Accepted, Refused}
+use Rattle.refusals.specs.declared.Refusal.the-variants.{Unsound, Range}
+use Rattle.actions.specs.Actions.{oneUse, flagCount, useLimit, governLimit, actionFits, isPermitted}
 use Rattle.actions.specs.declared.Usage.{Usage}
-use Rattle.actions.specs.declared.Decision.the-variants.{Permitted}
+use Rattle.actions.specs.declared.Decision.{Decision}
+use Rattle.actions.specs.declared.Decision.the-variants.{Permitted, Refused as Denied, Stopped}
 use Rattle.gate_rules.specs.Gate.{covers, isOwnerless, ownerLacks, flagsSet, gated}
 use Rattle.gate_rules.specs.Authority.{Passed, IsIn}
 use Rattle.gate_rules.specs.Places.{any-place, place-any, none-place, all-place, each-place}
@@ -31,8 +33,8 @@ use Rattle.gate_rules.specs.Trace.{distinct-place}
 use Rattle.gate_rules.specs.Laws.{permitted-out, permitted-in, use-violations-out, use-violations-in}
 use Rattle.gate_rules.specs.Coverage.{absent-not-covered}
 use Rattle.reasons.specs.Reasons.{reasonOf, isCovering}
-use Rattle.reasons.specs.Holders.{whoTests, mayUse, whoMay}
-use Rattle.reasons.proofs.Reasoning.{reason-covers}
+use Rattle.reasons.specs.Holders.{askFits, whoTests, mayUse, whoMay, holdersOf, whoHeld}
+use Rattle.reasons.specs.ReasonsLaws.{reason-covers}
 
 -- some of those that pass one test passes another where some passes both
 any-filter : {C : Type 0} (p q : C → Bool) (L : List C) → any q (filter p L) ≡ any (λ c. p c && q c) L
@@ -44,14 +46,14 @@ any-filter p q (c ∷ L) =
 
 module _ (r : Register) (u : Usage) (moment : ℕ) where
   -- the tests, passed
-  record Asked : Type 0 where
+  record WhoAsked : Type 0 where
     soundly : sound r ≡ true
     ranged : leb (u .resource) idLimit && isRight (u .right) ≡ true
     timely : ltb moment momentEnd ≡ true
 
-  asked-out : outcomeOf (whoTests r u moment) ≡ Accepted → Asked
+  who-asked-out : outcomeOf (whoTests r u moment) ≡ Accepted → WhoAsked
   unfolding whoTests
-  asked-out h =
+  who-asked-out h =
       let told = accepted-out (whoTests r u moment) h in
       record {
         soundly = told .0;
@@ -59,9 +61,9 @@ module _ (r : Register) (u : Usage) (moment : ℕ) where
         timely = and-right (leb (u .resource) idLimit && isRight (u .right)) (ltb moment momentEnd) (told .1 .0);
       }
 
-  asked-in : Asked → outcomeOf (whoTests r u moment) ≡ Accepted
+  who-asked-in : WhoAsked → outcomeOf (whoTests r u moment) ≡ Accepted
   unfolding whoTests
-  asked-in h =
+  who-asked-in h =
       accepted-in (whoTests r u moment)
       (h .soundly, (and-both (leb (u .resource) idLimit && isRight (u .right)) (ltb moment momentEnd) (h .ranged) (h .timely), tt))
 
@@ -109,11 +111,12 @@ module _ (r : Register) (u : Usage) (moment : ℕ) where
   unfolding flagsSet dropping
   flags-none = refl
 
-  one-fits : (x : ℕ) → leb x idLimit ≡ true → Asked → actionFits (oneUse x u moment) ≡ true
+  who-fits : (x : ℕ) → leb x idLimit ≡ true → WhoAsked → actionFits (oneUse x u moment) ≡ true
   unfolding actionFits
-  one-fits x known h = rw (known, h .timely, h .ranged)
+  who-fits x known h = rw (known, h .timely, h .ranged)
 
-  one-ranged : (x : ℕ) → actionFits (oneUse x u moment) ≡ true → (leb (u .resource) idLimit && isRight (u .right) ≡ true) × (ltb moment momentEnd ≡ true)
+  -- the numbers of an action with the one use that fits
+  pub one-ranged : (x : ℕ) → actionFits (oneUse x u moment) ≡ true → (leb (u .resource) idLimit && isRight (u .right) ≡ true) × (ltb moment momentEnd ≡ true)
   unfolding actionFits
   one-ranged x h =
       let told = ands-out (leb x idLimit ∷ ltb moment momentEnd ∷ ltb 0 (2 ^ flagCount) ∷ leb 1 useLimit
@@ -150,13 +153,16 @@ module _ (r : Register) (u : Usage) (moment : ℕ) where
         (every-all (actorFits (human (actorsOf (r .actors)))) (actorsOf (r .actors)) (sound-out r soundly .actors .fit)) a at in
         rw (eqb-true x (a .id) named) (le-leb (a .id) idLimit (actor-fits-out (human (actorsOf (r .actors))) a fits .idGreatest))
 
-    may-permitted : Asked → May a → gated r (oneUse x u moment) .decision ≡ Permitted
+    who-passing : WhoAsked → Passed r (oneUse x u moment)
+    who-passing asked = record {
+      soundly = soundly;
+      fits = who-fits x known-ranged asked;
+      known = place-any (λ b. eqb x (b .id)) (actorsOf (r .actors)) a at named;
+    }
+
+    may-permitted : WhoAsked → May a → gated r (oneUse x u moment) .decision ≡ Permitted
     may-permitted asked h = permitted-in r (oneUse x u moment) record {
-      passed = record {
-        soundly = soundly;
-        fits = one-fits x known-ranged asked;
-        known = place-any (λ b. eqb x (b .id)) (actorsOf (r .actors)) a at named;
-      };
+      passed = who-passing asked;
       clean = record {
         flagless = flags-none;
         owned = may-owned h;
@@ -172,7 +178,7 @@ module _ (r : Register) (u : Usage) (moment : ℕ) where
       outcome-cases (outcomeOf (whoTests r u moment))
       (λ e. let found = any-place (listedActor x) (actorsOf (r .actors)) (sym (who-listed x e) ∙ h) in
       let a : Actor = found .0 in
-      may-permitted x (asked-out e .soundly) a (found .1) (and-right (mayUse r moment u a) (eqb x (a .id)) (found .2)) (asked-out e)
+      may-permitted x (who-asked-out e .soundly) a (found .1) (and-right (mayUse r moment u a) (eqb x (a .id)) (found .2)) (who-asked-out e)
       (may-out a (and-left (mayUse r moment u a) (eqb x (a .id)) (found .2))))
       (λ why e. clash (any (eqb x) (whoMay r u moment)) h (ap (any (eqb x)) (who-refused (ap isAccepted e))))
 
@@ -182,7 +188,7 @@ module _ (r : Register) (u : Usage) (moment : ℕ) where
   permitted-listed x h =
       let told = permitted-out r (oneUse x u moment) h in
       let fits = one-ranged x (told .passed .fits) in
-      let asked : Asked = record { soundly = told .passed .soundly; ranged = fits .0; timely = fits .1 } in
+      let asked : WhoAsked = record { soundly = told .passed .soundly; ranged = fits .0; timely = fits .1 } in
       let found = any-place (λ b. eqb x (b .id)) (actorsOf (r .actors)) (told .passed .known) in
       let a : Actor = found .0 in
       let named : x ≡ a .id = eqb-true x (a .id) (found .2) in
@@ -197,7 +203,7 @@ module _ (r : Register) (u : Usage) (moment : ℕ) where
             (none-place (λ b. eqb x (b .id) && (eqb machineKind (b .kind) && (not (eqb (b .owner) 0) && not (covers r moment (b .owner) u))))
             (actorsOf (r .actors)) (clean .ownerCovers) a (found .1));
       } in
-      who-listed x (asked-in asked)
+      who-listed x (who-asked-in asked)
       ∙ place-any (listedActor x) (actorsOf (r .actors)) a (found .1) (and-both (mayUse r moment u a) (eqb x (a .id)) (may-in a may) (found .2))
     where
       ownerless-out : (x m o : Bool) → x ≡ true → m ≡ true → x && (m && o) ≡ false → o ≡ false
@@ -222,7 +228,7 @@ module _ (r : Register) (u : Usage) (moment : ℕ) where
         length-map (filter (mayUse r moment u) (actorsOf (r .actors))) (λ a. a .id),
         dropping-length (λ M a. not (mayUse r moment u a)) (actorsOf (r .actors)),
         length-take (r .actors .count) (r .actors .list),
-        sound-out r (asked-out e .soundly) .limits .actorCount,
+        sound-out r (who-asked-out e .soundly) .limits .actorCount,
       )))
       (λ why e. rw (who-refused (ap isAccepted e)) (omega arith))
 
@@ -255,7 +261,50 @@ module _ (r : Register) (u : Usage) (moment : ℕ) where
   permitted-may x h a at named =
       let passed = permitted-out r (oneUse x u moment) h .passed in
       let fits = one-ranged x (passed .fits) in
-      let asked : Asked = record { soundly = passed .soundly; ranged = fits .0; timely = fits .1 } in
-      let found = any-place (listedActor x) (actorsOf (r .actors)) (sym (who-listed x (asked-in asked)) ∙ permitted-listed x h) in
+      let asked : WhoAsked = record { soundly = passed .soundly; ranged = fits .0; timely = fits .1 } in
+      let found = any-place (listedActor x) (actorsOf (r .actors)) (sym (who-listed x (who-asked-in asked)) ∙ permitted-listed x h) in
       let same = only x (passed .soundly) a at named (found .0) (found .1) (and-right (mayUse r moment u (found .0)) (eqb x (found .0 .id)) (found .2)) in
       rw same at (and-left (mayUse r moment u (found .0)) (eqb x (found .0 .id)) (found .2))
+
+  -- where no test stops the call, no test of the gate stops the action of an actor of the register with the one use
+  module _ (soundly : sound r ≡ true) (fits : askFits u moment ≡ true) (a : Actor) (at : IsIn (actorsOf (r .actors)) a) where
+    asked-by : WhoAsked
+    asked-by = record {
+      soundly = soundly;
+      ranged = and-left (leb (u .resource) idLimit && isRight (u .right)) (ltb moment momentEnd) fits;
+      timely = and-right (leb (u .resource) idLimit && isRight (u .right)) (ltb moment momentEnd) fits;
+    }
+
+    pub one-passed : Passed r (oneUse (a .id) u moment)
+    one-passed = who-passing (a .id) soundly a at (eq-eqb (a .id) (a .id) refl) asked-by
+
+    -- and the actor may exactly where the action is permitted
+    pub may-permits : mayUse r moment u a ≡ isPermitted (gated r (oneUse (a .id) u moment) .decision)
+    may-permits =
+        let named = eq-eqb (a .id) (a .id) refl in
+        iff-same (mayUse r moment u a) (isPermitted (gated r (oneUse (a .id) u moment) .decision))
+        (λ h. ap isPermitted (may-permitted (a .id) soundly a at named asked-by (may-out a h)))
+        (λ h. permitted-may (a .id) (is-permitted (gated r (oneUse (a .id) u moment) .decision) h) a at named)
+      where
+        is-permitted : (d : Decision) → isPermitted d ≡ true → d ≡ Permitted
+        is-permitted Permitted h = refl
+        is-permitted Denied h = clash false h refl
+        is-permitted (Stopped why) h = clash false h refl
+
+  abbrev rest : List Test
+  rest = record { passed = askFits u moment; refusal = Range } ∷ []
+
+  -- the answer where a test stops the call, and where none does
+  pub held-unsound : sound r ≡ false → whoHeld r u moment ≡ holdersOf (Refused Unsound) []
+  unfolding whoHeld whoTests whoMay
+  held-unsound e = rw (outcome-fail (record { passed = sound r; refusal = Unsound }) rest e)
+
+  module _ (h : sound r ≡ true) where
+    pub held-ranged : askFits u moment ≡ false → whoHeld r u moment ≡ holdersOf (Refused Range) []
+    unfolding whoHeld whoTests whoMay
+    held-ranged e =
+        rw (outcome-pass (record { passed = sound r; refusal = Unsound }) rest h ∙ outcome-fail (record { passed = askFits u moment; refusal = Range }) [] e)
+
+    pub held-asked : askFits u moment ≡ true → whoHeld r u moment ≡ holdersOf Accepted (map (λ a. a .id) (filter (mayUse r moment u) (actorsOf (r .actors))))
+    unfolding whoHeld whoTests whoMay
+    held-asked e = rw (accepted-in (whoTests r u moment) (h, (e, tt)))

@@ -1,4 +1,4 @@
--- The reason of an actor for a use: it has the use covered exactly where the gate does; its chain; what is wanting; and an absent resource is answered as
+-- Laws: The reason of an actor for a use: it has the use covered exactly where the gate does; its chain; what is wanting; and an absent resource is answered as
 -- one that is not held. Assumes nothing.
 use mathlib.Core.Path.{_≡_, refl, ap, sym, _∙_, fun-ext}
 use mathlib.Core.Bool.{Bool, true, false, not, _&&_, cond, and-false}
@@ -31,12 +31,12 @@ use Rattle.gate_rules.specs.Trace.{place-hops-most, place-keeper}
 use Rattle.reasons.specs.Reasons.{heldOver, heldWith, usedReach, Reason, relying, publicly, notLive, lacking, unheld, reasonOf, isCovering, firstId, telling, ownerUncovered, tellingOf, ReliesOn, EndedAt, LacksRight, HoldsNone}
 
 -- what each reason says
-abbrev Says : Register → ℕ → ℕ → Usage → Reason → Type 0
-Says r moment x u (relying c) = ReliesOn r moment x u c
-Says r moment x u publicly = (publicRead r u ≡ true) × (relied r moment x u ≡ [])
-Says r moment x u (notLive c) = EndedAt r moment x u c
-Says r moment x u (lacking c) = LacksRight r x u c
-Says r moment x u unheld = HoldsNone r x u
+abbrev ReasonSays : Register → ℕ → ℕ → Usage → Reason → Type 0
+ReasonSays r moment x u (relying c) = ReliesOn r moment x u c
+ReasonSays r moment x u publicly = (publicRead r u ≡ true) × (relied r moment x u ≡ [])
+ReasonSays r moment x u (notLive c) = EndedAt r moment x u c
+ReasonSays r moment x u (lacking c) = LacksRight r x u c
+ReasonSays r moment x u unheld = HoldsNone r x u
 
 -- a nearest one is found, or none passes
 near-cases : {B : Type 0} (p : Claim → Bool) (f : Claim → ℕ) (L : List Claim) → ((c : Claim) → Nearest p f L c → B) → (any p L ≡ false → nearestOf p f L ≡ [] → B) → B
@@ -113,9 +113,9 @@ module _ (r : Register) (moment x : ℕ) (u : Usage) where
   some-fails p [] h = clash true refl h
   some-fails p (d ∷ L) h = cases (p d) (λ e. rw e (some-fails p L (rw e at h))) (λ e. rw e)
 
-  says : Says r moment x u (reasonOf r moment x u)
+  says : ReasonSays r moment x u (reasonOf r moment x u)
   says =
-      reason-elim (λ w. Says r moment x u w)
+      reason-elim (λ w. ReasonSays r moment x u w)
       (λ c at. record {
         claim = at .alone;
         nearest = at;

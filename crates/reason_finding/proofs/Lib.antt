@@ -1,0 +1,9 @@
+pub mod Keeping
+pub mod Asking
+pub mod Permitting
+pub mod Climbing
+pub mod Holding
+pub mod Chains
+pub mod Assembling
+pub mod Reasoning
+pub mod Answering
