@@ -1,11 +1,24 @@
 /* The library's calls with what they take behind pointers, so that only this file passes a struct to the library by value. Each
- * call makes one copy of every struct that it takes, as any caller in C does; the answer is written where the caller says. */
+ * call makes one copy of every struct that it takes, as any caller in C does; the answer is written where the caller's convention says. */
 #include "guvrendik.h"
 
 guvrendik_soundness bench_sound(const guvrendik_register *r) { return guvrendik_sound(*r); }
 
 guvrendik_soundness bench_sound_table(const guvrendik_register *r) {
     return guvrendik_sound_table(r->claims.list, r->claims.count, r->version, r->actors, r->resources);
+}
+
+guvrendik_fault bench_why_unsound(const guvrendik_register *r) { return guvrendik_why_unsound(*r); }
+
+/* The register lent: nothing of it is copied. */
+guvrendik_soundness bench_sound_lent(const guvrendik_register *r) { return guvrendik_sound_lent((const uint8_t *)r, sizeof *r); }
+
+guvrendik_verdict bench_gate_lent(const guvrendik_register *r, const guvrendik_action *a) {
+    return guvrendik_gate_lent((const uint8_t *)r, sizeof *r, *a);
+}
+
+guvrendik_plan_verdict bench_judge_plan_lent(const guvrendik_register *r, const guvrendik_plan *p) {
+    return guvrendik_judge_plan_lent((const uint8_t *)r, sizeof *r, *p);
 }
 
 guvrendik_granted bench_grant(const guvrendik_register *r, const guvrendik_claim *c, uint64_t now) {
@@ -36,9 +49,28 @@ guvrendik_checked bench_check_proposal(const guvrendik_register *r, uint32_t act
     return guvrendik_check_proposal(*r, actor, *u, moment, *s, *p);
 }
 
+guvrendik_attached bench_attach(const guvrendik_book *b, const guvrendik_register *r, uint32_t actor, uint32_t resource, uint64_t moment,
+                                const guvrendik_fingerprint *f) {
+    return guvrendik_attach(*b, *r, actor, resource, moment, *f);
+}
+
+guvrendik_fetched bench_fetch(const guvrendik_book *b, const guvrendik_register *r, uint32_t actor, uint32_t resource, uint64_t moment) {
+    return guvrendik_fetch(*b, *r, actor, resource, moment);
+}
+
+guvrendik_holders bench_who(const guvrendik_register *r, const guvrendik_usage *u, uint64_t moment) {
+    return guvrendik_who(*r, *u, moment);
+}
+
+guvrendik_use_reason bench_why_use(const guvrendik_register *r, uint32_t actor, const guvrendik_usage *u, uint64_t moment) {
+    return guvrendik_why_use(*r, actor, *u, moment);
+}
+
 guvrendik_plan_verdict bench_judge_plan(const guvrendik_register *r, const guvrendik_plan *p) {
     return guvrendik_judge_plan(*r, *p);
 }
+
+guvrendik_table bench_cover_table(const guvrendik_register *r, uint32_t actor, uint64_t moment) { return guvrendik_cover_table(*r, actor, moment); }
 
 guvrendik_verdict bench_plain_gate(const guvrendik_register *r, const guvrendik_action *a) { return guvrendik_plain_gate(*r, *a); }
 

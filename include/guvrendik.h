@@ -13,7 +13,8 @@
  *
  * Stack: each call says how many bytes of stack it needs, the caller's copies of the structs included: the most that was measured
  * over registers from small to full, rounded up. The test command measures it again and fails where a call takes more. A twin needs no
- * more than its call: the copies are its own.
+ * more than its call: the copies are its own. A program that looks a call up at its first use (lazy binding) needs some 1,000 bytes more
+ * then.
  *
  * Proved, of every call: it equals a definition in the rule book's words, for all inputs (docs/CONTRACTS.md names each one); it
  * never reads or writes out of range, overflows or runs on for ever. Not proved: that the caller's pointers and lengths are good,
@@ -31,7 +32,8 @@
  *  CAN_ the part of one right in the sum that a claim's rights are: c.rights = GUVRENDIK_CAN_READ | GUVRENDIK_CAN_DELEGATE
  *  SETS_ the part of one flag in the sum that an action's flags are: a.flags |= GUVRENDIK_SETS_COERCES
  *  REFUSAL_ why a call refuses, VIOLATION_ the kind of a violation
- *  PROPOSES_ the kind of a proposal, CHECK_ what the check of one answers
+ *  PROPOSES_ the kind of a proposal, CHECK_ what the check of one answers, LIST_ a list of a register as a fault names it
+ *  REMARK_ what is said of a claim in a cover table, CELL_ what a cell of it holds besides the place of a claim, REASON_ the kind of a reason
  *
  * What your portal must do (docs/PORTAL.md says why and how):
  *  - Serialise changes. A grant or revocation answers a new register: one that was computed on an old copy and stored after
@@ -55,7 +57,7 @@ extern "C" {
 /* The version of this header. guvrendik_version answers that of the library; the shared object is named by the first number. That one
  * changes where a caller must be changed or compiled anew, the second where a call is new. */
 #define GUVRENDIK_VERSION_MAJOR 3
-#define GUVRENDIK_VERSION_MINOR 4
+#define GUVRENDIK_VERSION_MINOR 5
 #define GUVRENDIK_VERSION_PATCH 0
 
 /* How many at most. */
@@ -63,6 +65,7 @@ extern "C" {
 #define GUVRENDIK_LIMIT_RESOURCES 64
 #define GUVRENDIK_LIMIT_CLAIMS 256
 #define GUVRENDIK_LIMIT_HOPS 16 /* steps from a claim up to its root */
+#define GUVRENDIK_LIMIT_CHAIN 17 /* claims from one up to its root, at most: 16 hops and one */
 #define GUVRENDIK_LIMIT_PATH 64 /* bytes of a path */
 #define GUVRENDIK_LIMIT_USES 32
 #define GUVRENDIK_LIMIT_GOVERNS 8
@@ -74,6 +77,7 @@ extern "C" {
 #define GUVRENDIK_LIMIT_VIOLATIONS 51
 #define GUVRENDIK_LIMIT_ENTRIES 64      /* of a fingerprint book */
 #define GUVRENDIK_LIMIT_FINGERPRINT 32  /* bytes of a fingerprint: as many as it has */
+#define GUVRENDIK_LIMIT_CELLS 1088      /* of a cover table: 17 rights of each of 64 resources */
 #define GUVRENDIK_LIMIT_JSON_ID 64 /* bytes of a JSON action's id */
 #define GUVRENDIK_LIMIT_RIGHTS 17  /* a right's number is below it */
 #define GUVRENDIK_LIMIT_FLAGS 10   /* a flag's number is below it */
@@ -186,6 +190,10 @@ typedef enum guvrendik_right {
 #define GUVRENDIK_REFUSAL_NO_ENTRY 28         /* no fingerprint is attached to the resource's number */
 #define GUVRENDIK_REFUSAL_BOOK_FULL 29        /* 64 entries stand, and none of the resource's number */
 #define GUVRENDIK_REFUSAL_BAD_BOOK 30         /* book with more than 64 entries or with two for one number */
+#define GUVRENDIK_REFUSAL_DOUBLED 31          /* an earlier record of the list has the id */
+#define GUVRENDIK_REFUSAL_BAD_OWNER 32        /* owner of a human, or owner who is no human of the register */
+#define GUVRENDIK_REFUSAL_BAD_KEEPER 33       /* keeper who is no human of the register */
+
 /* ---- The register ---- */
 
 typedef struct guvrendik_actor {
@@ -315,7 +323,7 @@ typedef struct guvrendik_soundness {
  * has more than 16 hops, in version 2 a claim with a parent has a left below its parent's; the holder of a claim with a parent holds
  * no claim higher on the chain and did not grant its root.
  * No refusal: every register is answered.
- * Stack: 55,000 bytes. */
+ * Stack: 46,000 bytes. */
 guvrendik_soundness guvrendik_sound(guvrendik_register r);
 
 /* Whether the register of this version, these actors and resources and the claims of a table of the caller's own is sound, as
@@ -325,9 +333,30 @@ guvrendik_soundness guvrendik_sound(guvrendik_register r);
  *                     register without claims; more than 256 are a no, and none of them is looked at.
  *  version            GUVRENDIK_REGISTER_1 or GUVRENDIK_REGISTER_2; any other is a no.
  * No refusal: every table is answered.
- * Stack: 37,000 bytes. */
+ * Stack: 31,000 bytes. */
 guvrendik_soundness guvrendik_sound_table(const guvrendik_claim *claims, size_t claims_len, uint64_t version,
                                           guvrendik_actors actors, guvrendik_resources resources);
+
+/* ---- The register lent ----
+ * Three calls also take the register as the bytes of its struct, where it lies: guvrendik_sound_lent, guvrendik_gate_lent and
+ * guvrendik_judge_plan_lent. It is not copied whole, and nothing lent is written.
+ *  bytes/bytes_len  a guvrendik_register and its size, read during the call only, byte by byte: it may stand anywhere, aligned or not, in
+ *                   memory that cannot be written, and threads may lend one register at once while nobody writes it. Any bytes; may be
+ *                   NULL where bytes_len is 0. Any other length than GUVRENDIK_SIZE_REGISTER is a register that is not sound.
+ * The bytes of a number are taken with the least first, as a little-endian processor keeps them. On a big-endian one the three would read
+ * other numbers: define GUVRENDIK_WITHOUT_LENT there, and these three are not declared. */
+#if defined(__BYTE_ORDER__) && defined(__ORDER_BIG_ENDIAN__) && !defined(GUVRENDIK_WITHOUT_LENT)
+#if __BYTE_ORDER__ == __ORDER_BIG_ENDIAN__
+#error "a register is lent as little-endian bytes: define GUVRENDIK_WITHOUT_LENT to do without the three calls that take one"
+#endif
+#endif
+
+#ifndef GUVRENDIK_WITHOUT_LENT
+/* Whether the register that lent bytes hold is sound, as guvrendik_sound judges it.
+ * No refusal: all bytes are answered.
+ * Stack: 30,000 bytes. */
+guvrendik_soundness guvrendik_sound_lent(const uint8_t *bytes, size_t bytes_len);
+#endif
 
 /* ---- Changes ---- */
 
@@ -350,7 +379,7 @@ typedef struct guvrendik_granted {
  * Refused for no other cause: a claim of weight 0, whose expiry has passed or is later than its parent's, is granted.
  * Accepted, everything but the new claim and the count of claims is as it came, also what stands past the counts. The new claim is c; in
  * version 1 its left is 16 less its hop count.
- * Stack: 95,000 bytes. */
+ * Stack: 80,000 bytes. */
 guvrendik_granted guvrendik_grant(guvrendik_register r, guvrendik_claim c, uint64_t moment);
 
 /* The answer of guvrendik_revoke, guvrendik_clear_resource and guvrendik_clear_expired. */
@@ -370,7 +399,7 @@ typedef struct guvrendik_revoked {
  * Accepted, every place past the count of claims holds a claim of all zeros: nothing of a withdrawn claim is left.
  * Any two of this call and the two below leave the same register in either order, but a revocation that comes second may be told 17: the
  * first took its claim.
- * Stack: 87,000 bytes. */
+ * Stack: 74,000 bytes. */
 guvrendik_revoked guvrendik_revoke(guvrendik_register r, uint32_t revoker, uint32_t claim);
 
 /* Clears a resource: every claim on it goes, of whatever weight and expiry. The rest keep their order.
@@ -381,7 +410,7 @@ guvrendik_revoked guvrendik_revoke(guvrendik_register r, uint32_t revoker, uint3
  * is not its keeper, though it may be the keeper's machine or the keeper of another resource.
  * Where no claim is on it, the call is accepted and none goes. Accepted, every place past the count of claims holds a claim of all
  * zeros.
- * Stack: 87,000 bytes. */
+ * Stack: 74,000 bytes. */
 guvrendik_revoked guvrendik_clear_resource(guvrendik_register r, uint32_t caller, uint32_t resource);
 
 /* Clears old claims: every claim goes that has expired at the moment, its expiry not 0 and not above it, and every claim that has such a
@@ -393,7 +422,7 @@ guvrendik_revoked guvrendik_clear_resource(guvrendik_register r, uint32_t caller
  * not human.
  * Where nothing has expired, as at 0, the call is accepted and none goes. Accepted, every place past the count of claims holds a claim of
  * all zeros.
- * Stack: 87,000 bytes. */
+ * Stack: 74,000 bytes. */
 guvrendik_revoked guvrendik_clear_expired(guvrendik_register r, uint32_t caller, uint64_t moment);
 
 /* ---- The gate ---- */
@@ -479,8 +508,17 @@ typedef struct guvrendik_verdict {
  *  a  the action, every field in the range that guvrendik_action gives
  * Refusals, the first that applies: 1 register not sound; 2 a field or count of the action out of range; 3 actor not in the
  * register. Then there are no violations and no hop counts.
- * Stack: 70,000 bytes. */
+ * Stack: 56,000 bytes. */
 guvrendik_verdict guvrendik_gate(guvrendik_register r, guvrendik_action a);
+
+#ifndef GUVRENDIK_WITHOUT_LENT
+/* Judges one action by the register that lent bytes hold.
+ *  bytes/bytes_len  the register, as for guvrendik_sound_lent
+ *  a                the action
+ * The whole answer is that of guvrendik_gate, refusals and hop counts included; 1 also where the length is another.
+ * Stack: 39,000 bytes. */
+guvrendik_verdict guvrendik_gate_lent(const uint8_t *bytes, size_t bytes_len, guvrendik_action a);
+#endif
 
 /* ---- Whose signature is missing ---- */
 
@@ -519,7 +557,7 @@ typedef struct guvrendik_proposed {
  * not in the register; 26 no proposal would pass guvrendik_check_proposal. 26 is also told where the actor is a machine without owner or whose
  * owner does not cover the use, where the resource does not stand or its path has a `..`, and where 256 claims stand.
  * What is proposed passes guvrendik_check_proposal.
- * Stack: 95,000 bytes. */
+ * Stack: 56,000 bytes. */
 guvrendik_proposed guvrendik_propose(guvrendik_register r, uint32_t actor, guvrendik_usage usage, uint64_t moment,
                                      guvrendik_signers signers);
 
@@ -547,7 +585,7 @@ typedef struct guvrendik_checked {
  * Refusals, the first that applies: 1 register not sound; 2 more than 8 signers, or a field of the use or the moment out of range; 3 actor
  * not in the register.
  * Where the use is permitted already, a grant of the form passes where it is accepted, one of weight 0 too.
- * Stack: 126,000 bytes. */
+ * Stack: 55,000 bytes. */
 guvrendik_checked guvrendik_check_proposal(guvrendik_register r, uint32_t actor, guvrendik_usage usage, uint64_t moment,
                                            guvrendik_signers signers, guvrendik_proposal proposal);
 
@@ -575,23 +613,65 @@ typedef struct guvrendik_plan_verdict {
  *  p  the plan
  * Refusals, the first that applies: 1 register not sound; 2 more than 16 actions; then the first action that is refused with 2
  * or 3, as by guvrendik_gate, stops the whole plan, also one that would be cancelled. Then there are no judgements.
- * Stack: 78,000 bytes. */
+ * Stack: 60,000 bytes. */
 guvrendik_plan_verdict guvrendik_judge_plan(guvrendik_register r, guvrendik_plan p);
+
+#ifndef GUVRENDIK_WITHOUT_LENT
+/* Judges a plan by the register that lent bytes hold.
+ *  bytes/bytes_len  the register, as for guvrendik_sound_lent
+ *  p                the plan
+ * The whole answer is that of guvrendik_judge_plan; 1 also where the length is another.
+ * Stack: 44,000 bytes. */
+guvrendik_plan_verdict guvrendik_judge_plan_lent(const uint8_t *bytes, size_t bytes_len, guvrendik_plan p);
+#endif
 
 /* Judges one action by the plain gate, which goes once through the claims from first to last and fills a table of what the actor and
  * its owner cover, for each resource and right, at the action's moment; uses are then looked up.
  *  r  the register
  *  a  the action
  * The whole answer is that of guvrendik_gate, refusals and hop counts included: its contract is the same.
- * Stack: 92,000 bytes. */
+ * Stack: 61,000 bytes. */
 guvrendik_verdict guvrendik_plain_gate(guvrendik_register r, guvrendik_action a);
 
 /* Judges a plan by the plain gate, each action by a table of its own.
  *  r  the register
  *  p  the plan
  * The whole answer is that of guvrendik_judge_plan.
- * Stack: 107,000 bytes. */
+ * Stack: 73,000 bytes. */
 guvrendik_plan_verdict guvrendik_plain_plan(guvrendik_register r, guvrendik_plan p);
+
+/* ---- The cover table ----
+ * What the plain gate fills in on its way through the claims, for a person to follow. */
+
+/* What is said of a claim at a moment: it lives, or the first of the others that holds. */
+#define GUVRENDIK_REMARK_LIVES 1
+#define GUVRENDIK_REMARK_WEIGHTLESS 2
+#define GUVRENDIK_REMARK_EXPIRED 3
+#define GUVRENDIK_REMARK_SOURCE_DEAD 4
+
+/* What a cell holds besides the place of a claim. */
+#define GUVRENDIK_CELL_PUBLIC 256
+#define GUVRENDIK_CELL_NOTHING 257
+
+/* The answer of guvrendik_cover_table. */
+typedef struct guvrendik_table {
+    uint32_t accepted; /* 1 or 0 */
+    uint32_t refusal;  /* 0 where accepted, else the number. Refused, all below is 0, and every cell holds nothing */
+    uint32_t owner;    /* the id of the owner that is asked; 0 where the actor is no machine, or has none */
+    uint32_t hops[GUVRENDIK_LIMIT_CLAIMS];   /* by the claim's place: its hop count; 0 past the claims */
+    uint32_t states[GUVRENDIK_LIMIT_CLAIMS]; /* by the claim's place: a REMARK_; 0 past the claims */
+    uint32_t own[GUVRENDIK_LIMIT_CELLS];     /* the actor's cells: the place of the claim that speaks, from 0, or a CELL_ */
+    uint32_t owners[GUVRENDIK_LIMIT_CELLS];  /* the owner's cells; nothing in all of them where there is no owner */
+} guvrendik_table;
+
+/* The table of what an actor and its owner cover at a moment, for each resource and right: what guvrendik_plain_gate looks uses up in. The
+ * cell of the resource at a place, from 0, and of a right is place * 17 + right; past the resources every cell holds nothing.
+ *  r       the register
+ *  actor   the id of the actor, 0 to 65,535
+ *  moment  in seconds, below 2^32
+ * Refusals, the first that applies: 1 register not sound; 2 actor or moment out of range; 3 actor not in the register.
+ * Stack: 80,000 bytes. */
+guvrendik_table guvrendik_cover_table(guvrendik_register r, uint32_t actor, uint64_t moment);
 
 /* ---- The fingerprint book ----
  * A book keeps, for each resource number, the fingerprint that was attached to it last, or none. It is the caller's, beside the register:
@@ -631,7 +711,7 @@ typedef struct guvrendik_attached {
  * and 64 entries stand. Refused, the book is as it came, whole.
  * Accepted, every entry but the number's, and what stands past the count, is as it came.
  * Entries go by number: where another register gives the number to another report, its old fingerprint stands.
- * Stack: 103,000 bytes. */
+ * Stack: 61,000 bytes. */
 guvrendik_attached guvrendik_attach(guvrendik_book book, guvrendik_register r, uint32_t actor, uint32_t resource, uint64_t moment,
                                     guvrendik_fingerprint fingerprint);
 
@@ -647,8 +727,104 @@ typedef struct guvrendik_fetched {
  *  book, r, actor, resource, moment  as for guvrendik_attach
  * Refusals, the first that applies: 1, 30, 2, 3 and 27 as for guvrendik_attach; 28 nothing is attached to the number. Where the action
  * is not permitted, the answer is the same of every book that is not refused with 30: it does not tell whether an entry stands.
- * Stack: 98,000 bytes. */
+ * Stack: 57,000 bytes. */
 guvrendik_fetched guvrendik_fetch(guvrendik_book book, guvrendik_register r, uint32_t actor, uint32_t resource, uint64_t moment);
+
+/* ---- Why a register is not sound ----
+ * For those who keep the register: GUVRENDIK_REFUSAL_UNSOUND says of up to 256 claims that something is wrong, and no more. */
+
+/* Lists of a register, as a fault names them. */
+#define GUVRENDIK_LIST_REGISTER 0
+#define GUVRENDIK_LIST_ACTORS 1
+#define GUVRENDIK_LIST_RESOURCES 2
+#define GUVRENDIK_LIST_CLAIMS 3
+
+/* The answer of guvrendik_why_unsound and guvrendik_why_unread. A struct that was never written, all zeros, reads as a no. */
+typedef struct guvrendik_fault {
+    uint32_t sound; /* 1: sound, and all else is 0. 0: not */
+    uint32_t why;   /* the number of the rule that is broken: a REFUSAL_ */
+    uint32_t list;  /* LIST_ */
+    uint32_t id;    /* of the record, whatever it is; 0 of a count, of the version, of 19 and 20 */
+    size_t place;   /* of the record in its list, from 0; of a count above its limit the limit */
+    size_t line;    /* of guvrendik_why_unread with 19 and 20: the first failing line, from 1. Else 0 */
+} guvrendik_fault;
+
+/* The first fault of a register, in this order: the version (2, LIST_REGISTER); the counts of actors, of resources and of claims (2, with the
+ * list and the first place too many); then each actor, each resource and each claim by its place.
+ *  r  any register
+ * Of an actor: 2 a field out of range; 32 owner of a human, or owner who is no human of the register; 31 an earlier actor has the id. Of a
+ * resource: 2; 33 keeper who is no human of the register; 31. Of a claim what guvrendik_grant of it behind the claims before it would be
+ * refused with, were all of them live: 2, 3, 4, 6 to 10, 12 to 16. With the claims before it the register is sound, with it it is not.
+ * Nothing is refused. sound is 1 exactly where guvrendik_sound says so.
+ * Stack: 52,000 bytes. */
+guvrendik_fault guvrendik_why_unsound(guvrendik_register r);
+
+/* The first fault of a text that is to be a register: the first failing line, with 19 or 20, as guvrendik_read_register tells it; or else the
+ * first fault of the register that the lines say, as guvrendik_why_unsound tells it, with line 0. guvrendik_read_register hands back the empty
+ * register in its place, so nothing else can tell.
+ *  text/text_len  any bytes of any length. The caller owns them; read during the call only, never written. May be NULL where text_len is 0.
+ * Nothing is refused. sound is 1 exactly where guvrendik_read_register accepts.
+ * Stack: 52,000 bytes. */
+guvrendik_fault guvrendik_why_unread(const uint8_t *text, size_t text_len);
+
+/* ---- Who may, and why ----
+ * For those who keep the register: what these calls tell is not for a visitor. */
+
+/* The answer of guvrendik_who. */
+typedef struct guvrendik_holders {
+    uint32_t accepted;                    /* 1 or 0 */
+    uint32_t refusal;                     /* 0 where accepted, else the number */
+    uint32_t ids[GUVRENDIK_LIMIT_ACTORS]; /* who may, in register order; zeros past the count, and all where refused */
+    size_t count;                         /* 0 to 64 */
+} guvrendik_holders;
+
+/* Who may make a use at a moment: every actor for whom guvrendik_gate permits the action of that use alone, no flag set and nothing
+ * governed, and nobody else.
+ *  r       the register
+ *  usage   every field in the range that guvrendik_usage gives; of a resource that does not stand nobody may
+ *  moment  in seconds, below 2^32
+ * Refusals, the first that applies: 1 register not sound; 2 a field of the use or the moment out of range.
+ * Stack: 55,000 bytes. */
+guvrendik_holders guvrendik_who(guvrendik_register r, guvrendik_usage usage, uint64_t moment);
+
+/* Kinds of reason, the first that holds. */
+#define GUVRENDIK_REASON_UNASKED 0
+#define GUVRENDIK_REASON_RELIES 1   /* the claim relied on */
+#define GUVRENDIK_REASON_PUBLIC 2   /* a public READ */
+#define GUVRENDIK_REASON_NOT_LIVE 3 /* the nearest claim held that contains the report and has the right is not live */
+#define GUVRENDIK_REASON_LACKS 4    /* the nearest claim held that contains it lacks the right */
+#define GUVRENDIK_REASON_UNHELD 5   /* no claim held contains it, or it does not stand */
+
+typedef struct guvrendik_reason {
+    uint32_t kind;                         /* REASON_ */
+    uint32_t count;                        /* of the chain, 1 to 17; 0 where no claim is told */
+    uint32_t chain[GUVRENDIK_LIMIT_CHAIN]; /* ids from the claim up to its root; zeros past the count */
+    uint32_t keeper;                       /* the root's grantor; 0 where no claim is told */
+    uint32_t ended;                        /* NOT_LIVE: the first on the chain, from the claim up, that has weight 0 or has expired; else 0 */
+} guvrendik_reason;
+
+/* The answer of guvrendik_why_use. */
+typedef struct guvrendik_use_reason {
+    uint32_t accepted;       /* 1 or 0 */
+    uint32_t refusal;        /* 0 where accepted, else the number; refused, all below is 0 */
+    guvrendik_reason actor;
+    uint32_t owner;          /* of a machine with an owner his number, else 0 */
+    guvrendik_reason owners; /* his reason; UNASKED where there is none */
+} guvrendik_use_reason;
+
+/* Why an actor may make a use at a moment or may not. Of a human RELIES and PUBLIC say that guvrendik_gate permits the action of that use
+ * alone; of a machine it does where both its own reason and its owner's are one of these. A machine without owner, whose owner is 0 as a
+ * human's is, may make no use whatever its reason: the gate tells it with GUVRENDIK_VIOLATION_MACHINE_OWNERLESS. Of LACKS it is not asked
+ * whether the claim is live.
+ *  r       the register
+ *  actor   the id of the acting actor, 0 to 65,535
+ *  usage   every field in the range that guvrendik_usage gives
+ *  moment  in seconds, below 2^32
+ * Refusals, the first that applies: 1 register not sound; 2 actor, a field of the use or the moment out of range; 3 actor not in the
+ * register.
+ * NOT_LIVE and LACKS tell that the report stands, and a chain names others' claims.
+ * Stack: 62,000 bytes. */
+guvrendik_use_reason guvrendik_why_use(guvrendik_register r, uint32_t actor, guvrendik_usage usage, uint64_t moment);
 
 /* ---- Paths ---- */
 
@@ -693,7 +869,7 @@ typedef struct guvrendik_register_read {
  * Refusals: the first failing line decides between 19, not of the form or a number or path outside its field's range, and 20, a
  * count above its limit, whatever its length; a text that ends early, and bytes after the end, fail as the next line with 19.
  * Soundness comes last, with 1.
- * Stack: 109,000 bytes. */
+ * Stack: 83,000 bytes. */
 guvrendik_register_read guvrendik_read_register(const uint8_t *text, size_t text_len);
 
 /* The answer of a call that writes a text. */
@@ -709,7 +885,7 @@ typedef struct guvrendik_written {
  *                     every register. May be NULL where buffer_len is 0.
  * Refusals, the first that applies: 1 register not sound; 21 buffer too short. Then the buffer keeps every byte.
  * Accepted, the buffer keeps its bytes past the text. No zero byte is added.
- * Stack: 95,000 bytes. */
+ * Stack: 80,000 bytes. */
 guvrendik_written guvrendik_write_register(guvrendik_register r, uint8_t *buffer, size_t buffer_len);
 
 /* The answer of guvrendik_read_action. */
@@ -746,7 +922,7 @@ typedef struct guvrendik_plan_text_verdict {
  * count above its limit, 64 of plan=, 32 of uses=, 8 of governs=; 22, a line step=plan that would open a ninth level; and 23, a line
  * step=action that would begin the 65th action. Then 1 register not sound. Then 3, the first action whose actor is not in the
  * register, also one that would be cancelled. Refused, there are no verdicts. 2 cannot happen: such a number is a 19.
- * Stack: 90,000 bytes. */
+ * Stack: 78,000 bytes. */
 guvrendik_plan_text_verdict guvrendik_judge_plan_text(guvrendik_register r, const uint8_t *text, size_t text_len);
 
 /* Writes the lines that the printing program prints for a register's text and an action's text: verdict=permitted and
@@ -758,7 +934,7 @@ guvrendik_plan_text_verdict guvrendik_judge_plan_text(guvrendik_register r, cons
  *                              are enough for every verdict.
  * Refusal: 21 buffer too short. Then the buffer keeps every byte. A text that is not read is no refusal of this call: its answer
  * is the text with verdict=stopped.
- * Stack: 88,000 bytes. */
+ * Stack: 56,000 bytes. */
 guvrendik_written guvrendik_verdict_text(const uint8_t *register_text, size_t register_len, const uint8_t *action_text,
                                          size_t action_len, uint8_t *buffer, size_t buffer_len);
 
@@ -771,7 +947,7 @@ guvrendik_written guvrendik_verdict_text(const uint8_t *register_text, size_t re
  *  buffer/buffer_len           where to, as for guvrendik_write_register. It overlaps none of the texts. GUVRENDIK_TEXT_VERDICT bytes are
  *                              enough for every verdict.
  * Refusal: 21 buffer too short. Then the buffer keeps every byte.
- * Stack: 88,000 bytes. */
+ * Stack: 56,000 bytes. */
 guvrendik_written guvrendik_json_verdict_text(const uint8_t *register_text, size_t register_len, const uint8_t *clock_text,
                                               size_t clock_len, const uint8_t *action_text, size_t action_len, uint8_t *buffer,
                                               size_t buffer_len);
@@ -785,7 +961,7 @@ guvrendik_written guvrendik_json_verdict_text(const uint8_t *register_text, size
  *  buffer/buffer_len           where to, as for guvrendik_write_register. It overlaps neither text. GUVRENDIK_TEXT_PLAN_VERDICT bytes are
  *                              enough for every answer.
  * Refusal: 21 buffer too short. Then the buffer keeps every byte.
- * Stack: 110,000 bytes. */
+ * Stack: 82,000 bytes. */
 guvrendik_written guvrendik_plan_verdict_text(const uint8_t *register_text, size_t register_len, const uint8_t *plan_text,
                                               size_t plan_len, uint8_t *buffer, size_t buffer_len);
 
@@ -876,12 +1052,18 @@ guvrendik_version_numbers guvrendik_version(void);
 /* ---- By pointer ----
  * The twin of each call, for languages whose foreign calls pass no struct by value: guvrendik_gate_at is guvrendik_gate, and so on. First
  * comes where the answer goes, then what the call takes, each struct by pointer, everything else as the call has it. A twin answers and
- * refuses what its call does, and decides nothing: it copies what it takes, calls, and stores the whole answer.
+ * refuses what its call does, and decides nothing: it copies what it takes, calls, and stores the whole answer. The twins of
+ * guvrendik_sound, guvrendik_gate and guvrendik_judge_plan copy no register: they lend it.
  *  answer  where to. The caller owns it; written during the call only, whole, whatever it held. It overlaps nothing that the call takes.
  * No pointer to a struct is NULL; each is aligned as its struct is, by 8 bytes where it has a field of 64 bits, else by 4. */
 void guvrendik_sound_at(guvrendik_soundness *answer, const guvrendik_register *r);
 void guvrendik_sound_table_at(guvrendik_soundness *answer, const guvrendik_claim *claims, size_t claims_len, uint64_t version,
                               const guvrendik_actors *actors, const guvrendik_resources *resources);
+#ifndef GUVRENDIK_WITHOUT_LENT
+void guvrendik_sound_lent_at(guvrendik_soundness *answer, const uint8_t *bytes, size_t bytes_len);
+void guvrendik_gate_lent_at(guvrendik_verdict *answer, const uint8_t *bytes, size_t bytes_len, const guvrendik_action *a);
+void guvrendik_judge_plan_lent_at(guvrendik_plan_verdict *answer, const uint8_t *bytes, size_t bytes_len, const guvrendik_plan *p);
+#endif
 void guvrendik_grant_at(guvrendik_granted *answer, const guvrendik_register *r, const guvrendik_claim *c, uint64_t moment);
 void guvrendik_revoke_at(guvrendik_revoked *answer, const guvrendik_register *r, uint32_t revoker, uint32_t claim);
 void guvrendik_clear_resource_at(guvrendik_revoked *answer, const guvrendik_register *r, uint32_t caller, uint32_t resource);
@@ -894,10 +1076,16 @@ void guvrendik_check_proposal_at(guvrendik_checked *answer, const guvrendik_regi
 void guvrendik_judge_plan_at(guvrendik_plan_verdict *answer, const guvrendik_register *r, const guvrendik_plan *p);
 void guvrendik_plain_gate_at(guvrendik_verdict *answer, const guvrendik_register *r, const guvrendik_action *a);
 void guvrendik_plain_plan_at(guvrendik_plan_verdict *answer, const guvrendik_register *r, const guvrendik_plan *p);
+void guvrendik_cover_table_at(guvrendik_table *answer, const guvrendik_register *r, uint32_t actor, uint64_t moment);
 void guvrendik_attach_at(guvrendik_attached *answer, const guvrendik_book *book, const guvrendik_register *r, uint32_t actor,
                          uint32_t resource, uint64_t moment, const guvrendik_fingerprint *fingerprint);
 void guvrendik_fetch_at(guvrendik_fetched *answer, const guvrendik_book *book, const guvrendik_register *r, uint32_t actor,
                         uint32_t resource, uint64_t moment);
+void guvrendik_why_unsound_at(guvrendik_fault *answer, const guvrendik_register *r);
+void guvrendik_why_unread_at(guvrendik_fault *answer, const uint8_t *text, size_t text_len);
+void guvrendik_who_at(guvrendik_holders *answer, const guvrendik_register *r, const guvrendik_usage *usage, uint64_t moment);
+void guvrendik_why_use_at(guvrendik_use_reason *answer, const guvrendik_register *r, uint32_t actor, const guvrendik_usage *usage,
+                          uint64_t moment);
 void guvrendik_contains_at(guvrendik_containment *answer, const uint8_t *outer, size_t outer_len, const uint8_t *inner,
                            size_t inner_len);
 void guvrendik_read_register_at(guvrendik_register_read *answer, const uint8_t *text, size_t text_len);
@@ -944,11 +1132,16 @@ void guvrendik_version_at(guvrendik_version_numbers *answer);
 #define GUVRENDIK_SIZE_PLAN 5128
 #define GUVRENDIK_SIZE_JUDGEMENT 8
 #define GUVRENDIK_SIZE_PLAN_VERDICT 152
+#define GUVRENDIK_SIZE_TABLE 10764
 #define GUVRENDIK_SIZE_FINGERPRINT 32
 #define GUVRENDIK_SIZE_ENTRY 36
 #define GUVRENDIK_SIZE_BOOK 2312
 #define GUVRENDIK_SIZE_ATTACHED 2320
 #define GUVRENDIK_SIZE_FETCHED 40
+#define GUVRENDIK_SIZE_FAULT 32
+#define GUVRENDIK_SIZE_HOLDERS 272
+#define GUVRENDIK_SIZE_REASON 84
+#define GUVRENDIK_SIZE_USE_REASON 180
 #define GUVRENDIK_SIZE_CONTAINMENT 16
 #define GUVRENDIK_SIZE_REGISTER_READ 16176
 #define GUVRENDIK_SIZE_WRITTEN 16
@@ -984,11 +1177,16 @@ GUVRENDIK_HOLD(guvrendik_checked, GUVRENDIK_SIZE_CHECKED);
 GUVRENDIK_HOLD(guvrendik_plan, GUVRENDIK_SIZE_PLAN);
 GUVRENDIK_HOLD(guvrendik_judgement, GUVRENDIK_SIZE_JUDGEMENT);
 GUVRENDIK_HOLD(guvrendik_plan_verdict, GUVRENDIK_SIZE_PLAN_VERDICT);
+GUVRENDIK_HOLD(guvrendik_table, GUVRENDIK_SIZE_TABLE);
 GUVRENDIK_HOLD(guvrendik_fingerprint, GUVRENDIK_SIZE_FINGERPRINT);
 GUVRENDIK_HOLD(guvrendik_entry, GUVRENDIK_SIZE_ENTRY);
 GUVRENDIK_HOLD(guvrendik_book, GUVRENDIK_SIZE_BOOK);
 GUVRENDIK_HOLD(guvrendik_attached, GUVRENDIK_SIZE_ATTACHED);
 GUVRENDIK_HOLD(guvrendik_fetched, GUVRENDIK_SIZE_FETCHED);
+GUVRENDIK_HOLD(guvrendik_fault, GUVRENDIK_SIZE_FAULT);
+GUVRENDIK_HOLD(guvrendik_holders, GUVRENDIK_SIZE_HOLDERS);
+GUVRENDIK_HOLD(guvrendik_reason, GUVRENDIK_SIZE_REASON);
+GUVRENDIK_HOLD(guvrendik_use_reason, GUVRENDIK_SIZE_USE_REASON);
 GUVRENDIK_HOLD(guvrendik_containment, GUVRENDIK_SIZE_CONTAINMENT);
 GUVRENDIK_HOLD(guvrendik_register_read, GUVRENDIK_SIZE_REGISTER_READ);
 GUVRENDIK_HOLD(guvrendik_written, GUVRENDIK_SIZE_WRITTEN);
@@ -997,6 +1195,25 @@ GUVRENDIK_HOLD(guvrendik_plan_text_verdict, GUVRENDIK_SIZE_PLAN_TEXT_VERDICT);
 GUVRENDIK_HOLD(guvrendik_json_read, GUVRENDIK_SIZE_JSON_READ);
 GUVRENDIK_HOLD(guvrendik_version_numbers, GUVRENDIK_SIZE_VERSION_NUMBERS);
 #undef GUVRENDIK_HOLD
+#endif
+/* Where the parts of a register stand that is lent as its bytes. */
+#if defined(__cplusplus) && __cplusplus >= 201103L
+#define GUVRENDIK_STAND(type, field, at) static_assert(offsetof(type, field) == (at), "the place of " #field)
+#elif defined(__STDC_VERSION__) && __STDC_VERSION__ >= 201112L
+#define GUVRENDIK_STAND(type, field, at) _Static_assert(offsetof(type, field) == (at), "the place of " #field)
+#endif
+#ifdef GUVRENDIK_STAND
+GUVRENDIK_STAND(guvrendik_actor, owner, 8);
+GUVRENDIK_STAND(guvrendik_resource, path, 16);
+GUVRENDIK_STAND(guvrendik_claim, left, 28);
+GUVRENDIK_STAND(guvrendik_claim, expiry, 32);
+GUVRENDIK_STAND(guvrendik_actors, count, 768);
+GUVRENDIK_STAND(guvrendik_resources, count, 5120);
+GUVRENDIK_STAND(guvrendik_claims, count, 10240);
+GUVRENDIK_STAND(guvrendik_register, resources, 776);
+GUVRENDIK_STAND(guvrendik_register, claims, 5904);
+GUVRENDIK_STAND(guvrendik_register, version, 16152);
+#undef GUVRENDIK_STAND
 #endif
 
 #ifdef __cplusplus

@@ -1,9 +1,13 @@
 /* The twins by pointer of the calls of guvrendik.h. Each hands on what it is given and stores what the call answers; nothing is decided
- * here. Not proved: tests/calls holds each one to its call. */
+ * here. The twins of sound, gate and judge_plan lend the register, which the library so judges where it lies. Not proved: tests/calls holds each one to its call. */
 #include "guvrendik.h"
 
 void guvrendik_sound_at(guvrendik_soundness *answer, const guvrendik_register *r) {
-    *answer = guvrendik_sound(*r);
+    *answer = guvrendik_sound_lent((const uint8_t *)r, sizeof *r);
+}
+
+void guvrendik_sound_lent_at(guvrendik_soundness *answer, const uint8_t *bytes, size_t bytes_len) {
+    *answer = guvrendik_sound_lent(bytes, bytes_len);
 }
 
 void guvrendik_sound_table_at(guvrendik_soundness *answer, const guvrendik_claim *claims, size_t claims_len, uint64_t version,
@@ -28,7 +32,11 @@ void guvrendik_clear_expired_at(guvrendik_revoked *answer, const guvrendik_regis
 }
 
 void guvrendik_gate_at(guvrendik_verdict *answer, const guvrendik_register *r, const guvrendik_action *a) {
-    *answer = guvrendik_gate(*r, *a);
+    *answer = guvrendik_gate_lent((const uint8_t *)r, sizeof *r, *a);
+}
+
+void guvrendik_gate_lent_at(guvrendik_verdict *answer, const uint8_t *bytes, size_t bytes_len, const guvrendik_action *a) {
+    *answer = guvrendik_gate_lent(bytes, bytes_len, *a);
 }
 
 void guvrendik_propose_at(guvrendik_proposed *answer, const guvrendik_register *r, uint32_t actor, const guvrendik_usage *usage,
@@ -42,7 +50,11 @@ void guvrendik_check_proposal_at(guvrendik_checked *answer, const guvrendik_regi
 }
 
 void guvrendik_judge_plan_at(guvrendik_plan_verdict *answer, const guvrendik_register *r, const guvrendik_plan *p) {
-    *answer = guvrendik_judge_plan(*r, *p);
+    *answer = guvrendik_judge_plan_lent((const uint8_t *)r, sizeof *r, *p);
+}
+
+void guvrendik_judge_plan_lent_at(guvrendik_plan_verdict *answer, const uint8_t *bytes, size_t bytes_len, const guvrendik_plan *p) {
+    *answer = guvrendik_judge_plan_lent(bytes, bytes_len, *p);
 }
 
 void guvrendik_plain_gate_at(guvrendik_verdict *answer, const guvrendik_register *r, const guvrendik_action *a) {
@@ -53,6 +65,10 @@ void guvrendik_plain_plan_at(guvrendik_plan_verdict *answer, const guvrendik_reg
     *answer = guvrendik_plain_plan(*r, *p);
 }
 
+void guvrendik_cover_table_at(guvrendik_table *answer, const guvrendik_register *r, uint32_t actor, uint64_t moment) {
+    *answer = guvrendik_cover_table(*r, actor, moment);
+}
+
 void guvrendik_attach_at(guvrendik_attached *answer, const guvrendik_book *book, const guvrendik_register *r, uint32_t actor,
                          uint32_t resource, uint64_t moment, const guvrendik_fingerprint *fingerprint) {
     *answer = guvrendik_attach(*book, *r, actor, resource, moment, *fingerprint);
@@ -61,6 +77,23 @@ void guvrendik_attach_at(guvrendik_attached *answer, const guvrendik_book *book,
 void guvrendik_fetch_at(guvrendik_fetched *answer, const guvrendik_book *book, const guvrendik_register *r, uint32_t actor,
                         uint32_t resource, uint64_t moment) {
     *answer = guvrendik_fetch(*book, *r, actor, resource, moment);
+}
+
+void guvrendik_why_unsound_at(guvrendik_fault *answer, const guvrendik_register *r) {
+    *answer = guvrendik_why_unsound(*r);
+}
+
+void guvrendik_why_unread_at(guvrendik_fault *answer, const uint8_t *text, size_t text_len) {
+    *answer = guvrendik_why_unread(text, text_len);
+}
+
+void guvrendik_who_at(guvrendik_holders *answer, const guvrendik_register *r, const guvrendik_usage *usage, uint64_t moment) {
+    *answer = guvrendik_who(*r, *usage, moment);
+}
+
+void guvrendik_why_use_at(guvrendik_use_reason *answer, const guvrendik_register *r, uint32_t actor, const guvrendik_usage *usage,
+                          uint64_t moment) {
+    *answer = guvrendik_why_use(*r, actor, *usage, moment);
 }
 
 void guvrendik_contains_at(guvrendik_containment *answer, const uint8_t *outer, size_t outer_len, const uint8_t *inner,

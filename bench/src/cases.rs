@@ -133,15 +133,79 @@ pub fn sound_table(shape: Shape, world: &World, name: &str) -> Case {
     }
 }
 
+/// The register lent where it lies.
+pub fn sound_lent(shape: Shape, world: &World, name: &str) -> Case {
+    let register = leak(*world.register.clone());
+    let name = name.to_owned();
+    same(&name, 0, &library::sound_lent(register).sound, &MODEL.sound(register).into());
+    Case {
+        name,
+        shape: Some(shape),
+        bytes: None,
+        goal: Goal::Times(1.3),
+        library: Box::new(|_| {
+            black_box(library::sound_lent(black_box(register)));
+        }),
+        model: Box::new(|_| {
+            black_box(MODEL.sound(black_box(register)));
+        }),
+        parts: None,
+    }
+}
+
+pub fn gate_lent(shape: Shape, world: &World, what: &str, actions: Vec<Action>) -> Case {
+    let register = leak(*world.register.clone());
+    let actions = leak(actions);
+    let name = format!("gate lent, {what}");
+    for (at, action) in actions.iter().enumerate() {
+        same(&name, at, &library::gate_lent(register, action), &MODEL.gate(register, action));
+    }
+    Case {
+        name,
+        shape: Some(shape),
+        bytes: None,
+        goal: Goal::Times(if shape == SMALL { 1.6 } else { 1.4 }),
+        library: Box::new(move |at| {
+            black_box(&library::gate_lent(black_box(register), &actions[at % VARIED]));
+        }),
+        model: Box::new(|at| {
+            black_box(MODEL.gate(black_box(register), &actions[at % VARIED]));
+        }),
+        parts: None,
+    }
+}
+
+pub fn plan_lent(shape: Shape, world: &World, used: usize) -> Case {
+    let register = leak(*world.register.clone());
+    let plans = leak(world.plans(used));
+    let name = format!("plan lent of 16, {used} uses each");
+    for (at, plan) in plans.iter().enumerate() {
+        same(&name, at, &library::judge_plan_lent(register, plan), &MODEL.judge_plan(register, plan));
+    }
+    Case {
+        name,
+        shape: Some(shape),
+        bytes: None,
+        goal: Goal::Times(1.3),
+        library: Box::new(move |at| {
+            black_box(&library::judge_plan_lent(black_box(register), &plans[at % VARIED]));
+        }),
+        model: Box::new(|at| {
+            black_box(MODEL.judge_plan(black_box(register), &plans[at % VARIED]));
+        }),
+        parts: None,
+    }
+}
+
 pub fn grant(shape: Shape, world: &World, name: &str, grants: Vec<Claim>) -> Case {
     let register = leak(*world.register.clone());
     let grants = leak(grants);
     let name = name.to_owned();
-    let (mut ours, mut theirs) = (Box::new(place()), Box::new(place()));
+    let mut theirs = Box::new(place());
     for (at, claim) in grants.iter().enumerate() {
         model_grant(&mut theirs, register, claim);
         // SAFETY: it was filled by the line before.
-        same(&name, at, library::grant(&mut ours, register, claim, NOW), unsafe { theirs.assume_init_ref() });
+        same(&name, at, &library::grant(register, claim, NOW), unsafe { theirs.assume_init_ref() });
     }
     Case {
         name,
@@ -149,7 +213,7 @@ pub fn grant(shape: Shape, world: &World, name: &str, grants: Vec<Claim>) -> Cas
         bytes: None,
         goal: Goal::judging(shape, 1.5, 4.43),
         library: Box::new(move |at| {
-            black_box(library::grant(&mut ours, black_box(register), &grants[at % VARIED], NOW));
+            black_box(&library::grant(black_box(register), &grants[at % VARIED], NOW));
         }),
         model: Box::new(move |at| {
             model_grant(&mut theirs, black_box(register), &grants[at % VARIED]);
@@ -176,11 +240,11 @@ fn withdraw(shape: Shape, world: &World, name: &str, withdrawals: Vec<(u32, With
     let register = leak(*world.register.clone());
     let withdrawals = leak(withdrawals);
     let name = name.to_owned();
-    let (mut ours, mut theirs) = (Box::new(place()), Box::new(place()));
+    let mut theirs = Box::new(place());
     for (at, &withdrawal) in withdrawals.iter().enumerate() {
         model_withdraw(&mut theirs, register, withdrawal);
         // SAFETY: it was filled by the line before.
-        same(&name, at, library::withdraw(&mut ours, register, withdrawal), unsafe { theirs.assume_init_ref() });
+        same(&name, at, &library::withdraw(register, withdrawal), unsafe { theirs.assume_init_ref() });
     }
     Case {
         name,
@@ -188,11 +252,37 @@ fn withdraw(shape: Shape, world: &World, name: &str, withdrawals: Vec<(u32, With
         bytes: None,
         goal: Goal::judging(shape, 1.5, 3.02),
         library: Box::new(move |at| {
-            black_box(library::withdraw(&mut ours, black_box(register), withdrawals[at % VARIED]));
+            black_box(&library::withdraw(black_box(register), withdrawals[at % VARIED]));
         }),
         model: Box::new(move |at| {
             model_withdraw(&mut theirs, black_box(register), withdrawals[at % VARIED]);
             black_box(&mut theirs);
+        }),
+        parts: None,
+    }
+}
+
+/// Why stands against the library's own soundness of the register that is sound; of one that is not, the last claim is broken.
+pub fn why_unsound(shape: Shape, world: &World, broken: bool) -> Case {
+    let register = leak(*world.register.clone());
+    let mut asked = register.clone();
+    if broken {
+        asked.claims.list[asked.claims.count - 1].rights = 0;
+    }
+    let asked = leak(asked);
+    let (name, times) =
+        if broken { ("why unsound, the last claim", 12.0) } else { ("why unsound, of a sound one", 1.2) };
+    same(name, 0, &library::why_unsound(asked), &MODEL.why_unsound(asked));
+    Case {
+        name: name.to_owned(),
+        shape: Some(shape),
+        bytes: None,
+        goal: Goal::Times(times),
+        library: Box::new(|_| {
+            black_box(&library::why_unsound(black_box(asked)));
+        }),
+        model: Box::new(|_| {
+            black_box(library::sound(black_box(register)));
         }),
         parts: None,
     }
@@ -208,9 +298,8 @@ pub fn gate(shape: Shape, world: &World, what: &str, actions: Vec<Action>) -> Ca
         _ => 3.17,
     };
     let name = format!("gate, {what}");
-    let mut ours = Box::new(place());
     for (at, action) in actions.iter().enumerate() {
-        same(&name, at, library::gate(&mut ours, register, action), &MODEL.gate(register, action));
+        same(&name, at, &library::gate(register, action), &MODEL.gate(register, action));
     }
     Case {
         name,
@@ -218,7 +307,7 @@ pub fn gate(shape: Shape, world: &World, what: &str, actions: Vec<Action>) -> Ca
         bytes: None,
         goal: Goal::judging(shape, 1.8, small),
         library: Box::new(move |at| {
-            black_box(library::gate(&mut ours, black_box(register), &actions[at % VARIED]));
+            black_box(&library::gate(black_box(register), &actions[at % VARIED]));
         }),
         model: Box::new(|at| {
             black_box(MODEL.gate(black_box(register), &actions[at % VARIED]));
@@ -242,9 +331,8 @@ pub fn propose(shape: Shape, world: &World, name: &str, questions: Vec<Question>
     let questions = leak(questions);
     let actions: &[Action] = leak(questions.iter().map(Question::action).collect::<Vec<_>>());
     let name = name.to_owned();
-    let (mut ours, mut theirs) = (Box::new(place()), Box::new(place()));
     for (at, question) in questions.iter().enumerate() {
-        same(&name, at, library::propose(&mut ours, register, question), &MODEL.propose(register, question));
+        same(&name, at, &library::propose(register, question), &MODEL.propose(register, question));
     }
     Case {
         name,
@@ -252,10 +340,10 @@ pub fn propose(shape: Shape, world: &World, name: &str, questions: Vec<Question>
         bytes: None,
         goal: Goal::Times(2.0),
         library: Box::new(move |at| {
-            black_box(library::propose(&mut ours, black_box(register), &questions[at % VARIED]));
+            black_box(&library::propose(black_box(register), &questions[at % VARIED]));
         }),
         model: Box::new(move |at| {
-            black_box(library::gate(&mut theirs, black_box(register), &actions[at % VARIED]));
+            black_box(&library::gate(black_box(register), &actions[at % VARIED]));
         }),
         parts: None,
     }
@@ -275,7 +363,6 @@ pub fn check_proposal(shape: Shape, world: &World, name: &str, grants: Vec<Claim
         let model = MODEL.check_proposal(register, question, proposal);
         same(&name, at, &library::check_proposal(register, question, proposal), &model);
     }
-    let (mut verdict, mut granted) = (Box::new(place()), Box::new(place()));
     Case {
         name,
         shape: Some(shape),
@@ -286,9 +373,114 @@ pub fn check_proposal(shape: Shape, world: &World, name: &str, grants: Vec<Claim
             black_box(library::check_proposal(black_box(register), question, proposal));
         }),
         model: Box::new(move |at| {
-            black_box(library::gate(&mut verdict, black_box(register), &actions[at % VARIED]));
-            black_box(library::grant(&mut granted, black_box(register), &grants[at % VARIED], NOW));
-            black_box(library::gate(&mut verdict, black_box(register), &actions[at % VARIED]));
+            black_box(&library::gate(black_box(register), &actions[at % VARIED]));
+            black_box(&library::grant(black_box(register), &grants[at % VARIED], NOW));
+            black_box(&library::gate(black_box(register), &actions[at % VARIED]));
+        }),
+        parts: None,
+    }
+}
+
+/// An attach, which is accepted, stands against the library's own gate of the one use.
+pub fn attach(shape: Shape, world: &World, name: &str) -> Case {
+    let register = leak(*world.register.clone());
+    let (actions, book) = (leak(world.single_uses(WRITE)), leak(world.book()));
+    let fingerprint = leak(Fingerprint { bytes: [0xA5; FINGERPRINT] });
+    let name = name.to_owned();
+    for (at, action) in actions.iter().enumerate() {
+        let mut after = book.clone();
+        let resource = action.uses[0].resource;
+        let attached = MODEL.attach(&mut after, register, action.actor, resource, action.now, *fingerprint);
+        attached.expect("it may be written");
+        let expected = Attached { book: after, accepted: 1, refusal: 0 };
+        same(&name, at, &library::attach(book, register, action, fingerprint), &expected);
+    }
+    Case {
+        name,
+        shape: Some(shape),
+        bytes: None,
+        goal: Goal::Times(1.2),
+        library: Box::new(move |at| {
+            let action = &actions[at % VARIED];
+            black_box(&library::attach(black_box(book), black_box(register), action, fingerprint));
+        }),
+        model: Box::new(move |at| {
+            black_box(&library::gate(black_box(register), &actions[at % VARIED]));
+        }),
+        parts: None,
+    }
+}
+
+/// A fetch of what is attached stands against the same.
+pub fn fetch(shape: Shape, world: &World, name: &str) -> Case {
+    let register = leak(*world.register.clone());
+    let (actions, book) = (leak(world.single_uses(READ)), leak(world.book()));
+    let name = name.to_owned();
+    for (at, action) in actions.iter().enumerate() {
+        let expected = MODEL.fetch(book, register, action.actor, action.uses[0].resource, action.now);
+        assert_eq!(expected.accepted, 1, "it may be read");
+        same(&name, at, &library::fetch(book, register, action), &expected);
+    }
+    Case {
+        name,
+        shape: Some(shape),
+        bytes: None,
+        goal: Goal::Times(1.2),
+        library: Box::new(move |at| {
+            black_box(&library::fetch(black_box(book), black_box(register), &actions[at % VARIED]));
+        }),
+        model: Box::new(move |at| {
+            black_box(&library::gate(black_box(register), &actions[at % VARIED]));
+        }),
+        parts: None,
+    }
+}
+
+/// Who may make the first use of each action, at its moment.
+pub fn who(shape: Shape, world: &World, what: &str, actions: Vec<Action>) -> Case {
+    let register = leak(*world.register.clone());
+    let actions = leak(actions);
+    let name = format!("who, {what}");
+    for (at, action) in actions.iter().enumerate() {
+        let model = MODEL.who(register, action.uses[0], action.now);
+        same(&name, at, &library::who(register, &action.uses[0], action.now), &model);
+    }
+    Case {
+        name,
+        shape: Some(shape),
+        bytes: None,
+        goal: Goal::Times(1.8),
+        library: Box::new(move |at| {
+            let action = &actions[at % VARIED];
+            black_box(&library::who(black_box(register), &action.uses[0], action.now));
+        }),
+        model: Box::new(|at| {
+            let action = &actions[at % VARIED];
+            black_box(MODEL.who(black_box(register), action.uses[0], action.now));
+        }),
+        parts: None,
+    }
+}
+
+/// Why an actor may make the one use of each action stands against the library's own gate of it.
+pub fn why_use(shape: Shape, world: &World, what: &str, actions: Vec<Action>) -> Case {
+    let register = leak(*world.register.clone());
+    let actions = leak(actions);
+    let name = format!("why use, {what}");
+    for (at, action) in actions.iter().enumerate() {
+        let model = MODEL.why_use(register, action.actor, action.uses[0], action.now);
+        same(&name, at, &library::why_use(register, action), &model);
+    }
+    Case {
+        name,
+        shape: Some(shape),
+        bytes: None,
+        goal: Goal::Times(1.5),
+        library: Box::new(move |at| {
+            black_box(&library::why_use(black_box(register), &actions[at % VARIED]));
+        }),
+        model: Box::new(move |at| {
+            black_box(&library::gate(black_box(register), &actions[at % VARIED]));
         }),
         parts: None,
     }
@@ -298,9 +490,8 @@ pub fn plan(shape: Shape, world: &World, used: usize, whose: &str) -> Case {
     let register = leak(*world.register.clone());
     let plans = leak(world.plans(used));
     let name = format!("plan of 16, {used} uses each{whose}");
-    let mut ours = Box::new(place());
     for (at, plan) in plans.iter().enumerate() {
-        same(&name, at, library::judge_plan(&mut ours, register, plan), &MODEL.judge_plan(register, plan));
+        same(&name, at, &library::judge_plan(register, plan), &MODEL.judge_plan(register, plan));
     }
     Case {
         name,
@@ -308,7 +499,7 @@ pub fn plan(shape: Shape, world: &World, used: usize, whose: &str) -> Case {
         bytes: None,
         goal: if shape == SMALL { Goal::TwiceTheModelAndFourCopies } else { Goal::judging(shape, 1.5, 2.5) },
         library: Box::new(move |at| {
-            black_box(library::judge_plan(&mut ours, black_box(register), &plans[at % VARIED]));
+            black_box(&library::judge_plan(black_box(register), &plans[at % VARIED]));
         }),
         model: Box::new(|at| {
             black_box(MODEL.judge_plan(black_box(register), &plans[at % VARIED]));
@@ -322,9 +513,8 @@ pub fn plain_gate(shape: Shape, world: &World, what: &str, actions: Vec<Action>)
     let register = leak(*world.register.clone());
     let actions = leak(actions);
     let name = format!("plain gate, {what}");
-    let mut ours = Box::new(place());
     for (at, action) in actions.iter().enumerate() {
-        same(&name, at, library::plain_gate(&mut ours, register, action), &MODEL.plain_gate(register, action));
+        same(&name, at, &library::plain_gate(register, action), &MODEL.plain_gate(register, action));
     }
     Case {
         name,
@@ -332,10 +522,35 @@ pub fn plain_gate(shape: Shape, world: &World, what: &str, actions: Vec<Action>)
         bytes: None,
         goal: Goal::judging(shape, 1.8, 4.5),
         library: Box::new(move |at| {
-            black_box(library::plain_gate(&mut ours, black_box(register), &actions[at % VARIED]));
+            black_box(&library::plain_gate(black_box(register), &actions[at % VARIED]));
         }),
         model: Box::new(|at| {
             black_box(MODEL.plain_gate(black_box(register), &actions[at % VARIED]));
+        }),
+        parts: None,
+    }
+}
+
+/// The table of each action's actor at its moment.
+pub fn cover_table(shape: Shape, world: &World, actions: Vec<Action>) -> Case {
+    let register = leak(*world.register.clone());
+    let actions = leak(actions);
+    let name = "cover table".to_owned();
+    for (at, action) in actions.iter().enumerate() {
+        let model = MODEL.cover_table(register, action.actor, action.now);
+        same(&name, at, &library::cover_table(register, action), &model);
+    }
+    Case {
+        name,
+        shape: Some(shape),
+        bytes: None,
+        goal: Goal::judging(shape, 1.8, 4.5),
+        library: Box::new(move |at| {
+            black_box(&library::cover_table(black_box(register), &actions[at % VARIED]));
+        }),
+        model: Box::new(|at| {
+            let action = &actions[at % VARIED];
+            black_box(MODEL.cover_table(black_box(register), action.actor, action.now));
         }),
         parts: None,
     }
@@ -345,9 +560,8 @@ pub fn plain_plan(shape: Shape, world: &World, used: usize) -> Case {
     let register = leak(*world.register.clone());
     let plans = leak(world.plans(used));
     let name = format!("plain plan of 16, {used} uses each");
-    let mut ours = Box::new(place());
     for (at, plan) in plans.iter().enumerate() {
-        same(&name, at, library::plain_plan(&mut ours, register, plan), &MODEL.plain_plan(register, plan));
+        same(&name, at, &library::plain_plan(register, plan), &MODEL.plain_plan(register, plan));
     }
     Case {
         name,
@@ -355,7 +569,7 @@ pub fn plain_plan(shape: Shape, world: &World, used: usize) -> Case {
         bytes: None,
         goal: Goal::judging(shape, 1.8, 4.5),
         library: Box::new(move |at| {
-            black_box(library::plain_plan(&mut ours, black_box(register), &plans[at % VARIED]));
+            black_box(&library::plain_plan(black_box(register), &plans[at % VARIED]));
         }),
         model: Box::new(|at| {
             black_box(MODEL.plain_plan(black_box(register), &plans[at % VARIED]));
@@ -369,9 +583,8 @@ pub fn plan_text(shape: Shape, world: &World, what: &str, texts: Vec<Vec<u8>>, g
     let register = leak(*world.register.clone());
     let texts = leak(texts);
     let name = format!("plan text of 64, {what}");
-    let mut ours = Box::new(place());
     for (at, text) in texts.iter().enumerate() {
-        same(&name, at, library::judge_plan_text(&mut ours, register, text), &MODEL.judge_plan_text(register, text));
+        same(&name, at, &library::judge_plan_text(register, text), &MODEL.judge_plan_text(register, text));
     }
     Case {
         name,
@@ -379,7 +592,7 @@ pub fn plan_text(shape: Shape, world: &World, what: &str, texts: Vec<Vec<u8>>, g
         bytes: Some(texts.iter().map(Vec::len).sum::<usize>() / texts.len()),
         goal: Goal::Times(goal),
         library: Box::new(move |at| {
-            black_box(library::judge_plan_text(&mut ours, black_box(register), &texts[at % VARIED]));
+            black_box(&library::judge_plan_text(black_box(register), &texts[at % VARIED]));
         }),
         model: Box::new(|at| {
             black_box(MODEL.judge_plan_text(black_box(register), &texts[at % VARIED]));
@@ -391,17 +604,17 @@ pub fn plan_text(shape: Shape, world: &World, what: &str, texts: Vec<Vec<u8>>, g
 pub fn read(shape: Shape, world: &World, name: &str, goal: Goal) -> Case {
     let text = leak(register_text(&world.register));
     let name = name.to_owned();
-    let (mut ours, mut theirs) = (Box::new(place()), Box::new(place()));
+    let mut theirs = Box::new(place());
     model_read(&mut theirs, text);
     // SAFETY: it was filled by the line before.
-    same(&name, 0, library::read_register(&mut ours, text), unsafe { theirs.assume_init_ref() });
+    same(&name, 0, &library::read_register(text), unsafe { theirs.assume_init_ref() });
     Case {
         name,
         shape: Some(shape),
         bytes: Some(text.len()),
         goal,
         library: Box::new(move |_| {
-            black_box(library::read_register(&mut ours, black_box(text)));
+            black_box(&library::read_register(black_box(text)));
         }),
         model: Box::new(move |_| {
             model_read(&mut theirs, black_box(text));
@@ -437,15 +650,14 @@ pub fn read_action(used: usize) -> Case {
     let action = &world(FULL, Holding { human: 64, machine: 0 }).actions(1, used, Covered::All)[0];
     let text = leak(action_text(action));
     let name = format!("read action, {used} uses");
-    let mut ours = Box::new(place());
-    same(&name, 0, library::read_action(&mut ours, text), &model_read_action(text));
+    same(&name, 0, &library::read_action(text), &model_read_action(text));
     Case {
         name,
         shape: None,
         bytes: Some(text.len()),
         goal: Goal::Times(2.0),
         library: Box::new(move |_| {
-            black_box(library::read_action(&mut ours, black_box(text)));
+            black_box(&library::read_action(black_box(text)));
         }),
         model: Box::new(|_| {
             black_box(model_read_action(black_box(text)));
@@ -458,9 +670,8 @@ pub fn read_action(used: usize) -> Case {
 pub fn read_json(what: &str, texts: Vec<Vec<u8>>) -> Case {
     let texts = leak(texts);
     let name = format!("read JSON action, {what}");
-    let mut ours = Box::new(place());
     for (at, text) in texts.iter().enumerate() {
-        same(&name, at, library::read_json(&mut ours, text, NOW), &MODEL.read_json(text, NOW));
+        same(&name, at, &library::read_json(text, NOW), &MODEL.read_json(text, NOW));
     }
     Case {
         name,
@@ -468,7 +679,7 @@ pub fn read_json(what: &str, texts: Vec<Vec<u8>>) -> Case {
         bytes: Some(texts[0].len()),
         goal: Goal::Times(1.5),
         library: Box::new(move |at| {
-            black_box(library::read_json(&mut ours, black_box(&texts[at % VARIED]), NOW));
+            black_box(&library::read_json(black_box(&texts[at % VARIED]), NOW));
         }),
         model: Box::new(|at| {
             black_box(MODEL.read_json(black_box(&texts[at % VARIED]), NOW));
@@ -543,6 +754,11 @@ pub fn all() -> Vec<Case> {
         let roomy = || if shape == FULL { usual().cut(CLAIMS - 1) } else { usual() };
         cases.push(sound(shape, &usual(), "sound"));
         cases.push(sound_table(shape, &usual(), "sound table"));
+        cases.push(why_unsound(shape, &usual(), false));
+        cases.push(why_unsound(shape, &usual(), true));
+        cases.push(sound_lent(shape, &usual(), "sound lent"));
+        cases.push(gate_lent(shape, &usual(), "1 use, 8 claims", usual().actions(usual().human, 1, Covered::All)));
+        cases.push(plan_lent(shape, &usual(), 4));
         if shape == FULL {
             cases.push(sound(shape, &deep(), "sound, chains of 16 hops"));
             cases.push(sound_table(shape, &deep(), "sound table, chains of 16 hops"));
@@ -550,6 +766,8 @@ pub fn all() -> Vec<Case> {
         cases.push(grant(shape, &roomy(), "grant", roomy().grants()));
         cases.push(propose(shape, &roomy(), "propose", roomy().questions(&roomy().grants())));
         cases.push(check_proposal(shape, &roomy(), "check proposal", roomy().grants()));
+        cases.push(attach(shape, &usual().with_read_and_write(), "attach, book of 64"));
+        cases.push(fetch(shape, &usual().with_read_and_write(), "fetch, book of 64"));
         cases.push(revoke(shape, &usual()));
         cases.push(clear_resource(shape, &usual()));
         cases.push(clear_expired(shape, usual()));
@@ -578,12 +796,18 @@ pub fn all() -> Vec<Case> {
             let chains = chains.cut(CLAIMS - 1);
             cases.push(grant(shape, &chains, "grant, claim of 16 hops", chains.deep_grants()));
             cases.push(propose(shape, &chains, "propose, claims of 15 hops, all circles", chains.circling_questions()));
-            for (by, what) in [(Covering::OnePath, "each by all 256 claims"), (Covering::Nested, "by 64 paths in each other")] {
+            for (by, what) in
+                [(Covering::OnePath, "each by all 256 claims"), (Covering::Nested, "by 64 paths in each other")]
+            {
                 let world = covering(by);
                 let actions = world.actions(world.human, USES, Covered::All);
                 cases.push(gate(shape, &world, &format!("32 uses, {what}"), actions));
             }
         }
+        let asked = usual();
+        cases.push(who(shape, &asked, "a use of 8 claims' holder", asked.actions(asked.human, 1, Covered::All)));
+        cases.push(why_use(shape, &asked, "covered, 8 claims", asked.actions(asked.human, 1, Covered::All)));
+        cases.push(why_use(shape, &asked, "not covered, 8 claims", asked.actions(asked.human, 1, Covered::None)));
         cases.push(plan(shape, &usual(), 4, ""));
         cases.push(plan(shape, &usual(), USES, ""));
         plain_calls(shape, &usual(), &mut cases);
@@ -614,6 +838,7 @@ pub fn all() -> Vec<Case> {
 /// The plain gate of a human and, where there is one, of a machine, and the plain plan.
 fn plain_calls(shape: Shape, world: &World, cases: &mut Vec<Case>) {
     let actions = world.actions(world.human, USES, Covered::All);
+    cases.push(cover_table(shape, world, actions.clone()));
     cases.push(plain_gate(shape, world, "32 uses, 8 claims", actions));
     if shape != SMALL {
         let actions = world.actions(world.machine, USES, Covered::All);

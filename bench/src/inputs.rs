@@ -220,6 +220,35 @@ impl World {
         (0..VARIED).map(action).collect()
     }
 
+    /// The same, where what the human holds gives READ and WRITE as well. Nothing is drawn from these claims.
+    pub fn with_read_and_write(mut self) -> World {
+        let human = self.human;
+        for claim in self.register.claims.list.iter_mut().filter(|claim| claim.holder == human) {
+            claim.rights |= 1 << READ | 1 << WRITE;
+        }
+        assert!(Sound::of(&self.register).is_some());
+        self
+    }
+
+    /// Actions of the human with one use of what it holds, with this right.
+    pub fn single_uses(&self, right: u32) -> Vec<Action> {
+        let mut actions = self.actions(self.human, 1, Covered::All);
+        actions.iter_mut().for_each(|action| action.uses[0].right = right);
+        actions
+    }
+
+    /// A full book, the register's resources first.
+    pub fn book(&self) -> Book {
+        let resources = &self.register.resources;
+        let known = resources.list[..resources.count].iter().map(|resource| resource.id);
+        let mut book = Book { count: PLACES, ..Book::EMPTY };
+        for (at, number) in known.chain(ID_MAX + 1..).take(PLACES).enumerate() {
+            let fingerprint = Fingerprint { bytes: std::array::from_fn(|byte| (at + byte) as u8) };
+            book.entries[at] = Entry { resource: number, fingerprint };
+        }
+        book
+    }
+
     /// An action of the holder of some claim.
     fn some_action(&self, random: &mut Random, used: usize) -> Action {
         let register = &self.register;

@@ -1,10 +1,10 @@
 //! Times the library and the model on the same inputs in one run.
 //!
-//! usage: bench measure RESULTS FIGURES MACHINE -- DRIVER [ARGUMENT..]
+//! usage: bench measure RESULTS FIGURES MACHINE BUILD -- DRIVER [ARGUMENT..]
 //!        bench profile CASE SHAPE SECONDS
 //!
-//! RESULTS has the marks that the tables go between, FIGURES is written whole, MACHINE names the machine in both. DRIVER is
-//! tests/model/driver.c, linked with the x86-64 library.
+//! RESULTS has the marks that the tables go between, FIGURES is written whole, MACHINE names the machine in both, and BUILD the library that
+//! is timed in the first. DRIVER is tests/model/driver.c, linked with the x86-64 library.
 
 mod cases;
 mod figures;
@@ -26,10 +26,10 @@ fn main() -> io::Result<()> {
     let words: Vec<String> = env::args().skip(1).collect();
     let words: Vec<&str> = words.iter().map(String::as_str).collect();
     match words[..] {
-        ["measure", results, figures, machine, "--", driver, ref arguments @ ..] => {
+        ["measure", results, figures, machine, build, "--", driver, ref arguments @ ..] => {
             let stack = stack::of(driver, arguments)?;
             let measured = Figures::measure();
-            report::replace(results, &report::tables(machine, &measured, &stack))?;
+            report::replace(results, &report::tables(machine, build, &measured, &stack))?;
             fs::write(figures, picture::svg(machine, &measured))
         }
         ["profile", name, shape, seconds] => {
@@ -37,7 +37,7 @@ fn main() -> io::Result<()> {
             Ok(())
         }
         _ => {
-            eprintln!("usage: bench measure RESULTS FIGURES MACHINE -- DRIVER [ARGUMENT..]");
+            eprintln!("usage: bench measure RESULTS FIGURES MACHINE BUILD -- DRIVER [ARGUMENT..]");
             eprintln!("       bench profile CASE SHAPE SECONDS");
             process::exit(2);
         }

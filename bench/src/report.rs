@@ -39,8 +39,8 @@ fn speed(bytes: usize, nanoseconds: f64) -> String {
     format!("{:.0}", bytes as f64 * 1_000.0 / nanoseconds)
 }
 
-pub fn tables(machine: &str, figures: &Figures, stack: &[Stack]) -> String {
-    let mut out = format!("\nMachine: {machine}.\n");
+pub fn tables(machine: &str, build: &str, figures: &Figures, stack: &[Stack]) -> String {
+    let mut out = format!("\nMachine: {machine}.\nLibrary: {build}.\n\n");
     let copy = figures.rows.iter().map(|row| row.copy).fold(f64::INFINITY, f64::min);
     let reached = figures.rows.iter().filter(|row| row.reached()).count();
     let _ =
@@ -56,7 +56,10 @@ pub fn tables(machine: &str, figures: &Figures, stack: &[Stack]) -> String {
 }
 
 fn calls(out: &mut String, title: &str, rows: &[Row]) {
-    let _ = write!(out, "\n{title}\n\nThe goal is so many times the model, or 2 times and four copies of a register (2+).\n\n");
+    let _ = write!(
+        out,
+        "\n{title}\n\nThe goal is so many times the model, or 2 times and four copies of a register (2+).\n\n"
+    );
     out.push_str("| call | register | library | model | library / model | goal | allowed | library / allowed | |\n");
     out.push_str("|---|---|--:|--:|--:|---|--:|--:|---|\n");
     for row in rows {

@@ -20,7 +20,7 @@ A public name of specs/ stands once there, and what stands in specs/ has a user:
 The papers are held to all this by papers.py; reading.py prints what a demand rests on.
 
 The lines that are counted are those of definitions, without comments, blank lines and `use`. The bar is for what the base's exported calls, `History`
-and `Authority` rest on; what the other theorems' statements add, and what only T-04's JSON, T-01's plan texts, T-10's proposals, T-13's book, T-06's table, the words for numbers and the version do,
+and `Authority` rest on; what the other theorems' statements add, and what only T-04's JSON, T-01's plan texts, T-10's proposals, T-13's book, T-06's table, the register lent, the words for numbers and the version do,
 are counted apart.
 """
 import functools
@@ -32,7 +32,7 @@ import papers
 BAR = 1230
 THEOREM_LINES = 100
 MARKS = ("Believed", "Working", "Laws")
-APART = re.compile(r"json|steps|plan_text|plan_verdict_text|words|refusal_text|violation_text|right_name|flag_name|version$|propos|attach|fetch|fingerprints|cover_table|table_showing|why|who|reason")
+APART = re.compile(r"json|steps|plan_text|plan_verdict_text|words|refusal_text|violation_text|right_name|flag_name|version$|propos|attach|fetch|fingerprints|cover_table|table_showing|why|who|reason|fault|_lent$|register_bytes")
 REPOSITORY = os.path.dirname(os.path.dirname(os.path.dirname(os.path.abspath(__file__))))
 EXPORTED, PRINTED = "portal", ("verdict_printing", "plan_verdict_text")
 DEMANDS = (("history", "History", "History"), ("gate_rules", "Authority", "Authority"), ("gate_rules", "Authority", "Traced"))

@@ -23,6 +23,10 @@ static guvrendik_book book;
 static guvrendik_fingerprint print;
 static uint8_t register_text[GUVRENDIK_TEXT_REGISTER], action_text[1024];
 static size_t action_length;
+/* The register and its text with another parent of the last claim: it is not sound, and that is found last. */
+static guvrendik_register broken;
+static uint8_t broken_text[GUVRENDIK_TEXT_REGISTER];
+static size_t broken_length;
 /* Eight levels of plans, each with eight of the 64 actions behind the plan in it. */
 static uint8_t plan_text[GUVRENDIK_LIMIT_TEXT_ACTIONS * (sizeof action_text + 16)];
 static size_t plan_length;
@@ -55,6 +59,19 @@ static void fill_register(uint64_t version) {
     book.count = GUVRENDIK_LIMIT_ENTRIES - 1;
     for (uint32_t i = 0; i < GUVRENDIK_LIMIT_ENTRIES - 1; i++) book.entries[i].resource = 2 + i;
     memset(print.bytes, 7, sizeof print.bytes);
+}
+
+/* Behind fill_register. In the text the parent of the last claim is the last 0 behind `parent=`. */
+static void fill_broken(void) {
+    broken = state;
+    broken.claims.list[CLAIMS - 1].parent = CLAIMS - 1;
+    broken_length = guvrendik_write_register(state, broken_text, sizeof broken_text).length;
+    for (size_t at = broken_length; at-- > 8;) {
+        if (memcmp(broken_text + at - 8, "\nparent=", 8) == 0) {
+            broken_text[at] = '9';
+            return;
+        }
+    }
 }
 
 static void put_plan(const char *lines) {

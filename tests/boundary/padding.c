@@ -138,6 +138,9 @@ static void changes(void) {
     TWICE(guvrendik_soundness, guvrendik_sound_table(second.claims.list, CLAIMS, 2, state.actors, state.resources), sound, 1);
     TWICE(guvrendik_soundness, guvrendik_sound_table(second.claims.list, CLAIMS, 3, state.actors, state.resources), sound, 0);
     TWICE(guvrendik_soundness, guvrendik_sound_table(table, GUVRENDIK_LIMIT_CLAIMS + 1, 1, state.actors, state.resources), sound, 0);
+    TWICE(guvrendik_soundness, guvrendik_sound_lent((const uint8_t *)&second, sizeof second), sound, 1);
+    TWICE(guvrendik_soundness, guvrendik_sound_lent((const uint8_t *)&unsound, sizeof unsound), sound, 0);
+    TWICE(guvrendik_soundness, guvrendik_sound_lent((const uint8_t *)&state, sizeof state - 1), sound, 0);
     TWICE(guvrendik_granted, guvrendik_grant(state, claim, 0), refusal, 0);
     TWICE(guvrendik_granted, guvrendik_grant(second, claim, 0), refusal, 0);
     TWICE(guvrendik_granted, guvrendik_grant(second, wide, 0), refusal, GUVRENDIK_REFUSAL_RANGE);
@@ -155,6 +158,9 @@ static void verdicts(void) {
     TWICE(guvrendik_verdict, guvrendik_gate(state, action), decision, GUVRENDIK_DECISION_PERMITTED);
     TWICE(guvrendik_verdict, guvrendik_gate(second, uncovered), decision, GUVRENDIK_DECISION_REFUSED);
     TWICE(guvrendik_verdict, guvrendik_gate(state, absent), decision, GUVRENDIK_DECISION_STOPPED);
+    TWICE(guvrendik_verdict, guvrendik_gate_lent((const uint8_t *)&state, sizeof state, action), decision, GUVRENDIK_DECISION_PERMITTED);
+    TWICE(guvrendik_verdict, guvrendik_gate_lent((const uint8_t *)&second, sizeof second, uncovered), decision, GUVRENDIK_DECISION_REFUSED);
+    TWICE(guvrendik_verdict, guvrendik_gate_lent((const uint8_t *)&state, sizeof state - 1, action), refusal, GUVRENDIK_REFUSAL_UNSOUND);
     TWICE(guvrendik_proposed, guvrendik_propose(second, 1, use, 0, signers), proposal.kind, GUVRENDIK_PROPOSES_GRANT);
     TWICE(guvrendik_proposed, guvrendik_propose(unsound, 1, use, 0, signers), refusal, GUVRENDIK_REFUSAL_UNSOUND);
     TWICE(guvrendik_checked, guvrendik_check_proposal(second, 1, use, 0, signers, proposal), answer, GUVRENDIK_CHECK_PASSES);
@@ -162,11 +168,16 @@ static void verdicts(void) {
     TWICE(guvrendik_checked, guvrendik_check_proposal(unsound, 1, use, 0, signers, none), refusal, GUVRENDIK_REFUSAL_UNSOUND);
     TWICE(guvrendik_plan_verdict, guvrendik_judge_plan(second, plan), count, 3);
     TWICE(guvrendik_plan_verdict, guvrendik_judge_plan(state, long_plan), refusal, GUVRENDIK_REFUSAL_RANGE);
+    TWICE(guvrendik_plan_verdict, guvrendik_judge_plan_lent((const uint8_t *)&second, sizeof second, plan), count, 3);
+    TWICE(guvrendik_plan_verdict, guvrendik_judge_plan_lent((const uint8_t *)&state, sizeof state + 1, plan), refusal, GUVRENDIK_REFUSAL_UNSOUND);
     TWICE(guvrendik_verdict, guvrendik_plain_gate(state, action), decision, GUVRENDIK_DECISION_PERMITTED);
     TWICE(guvrendik_verdict, guvrendik_plain_gate(second, uncovered), decision, GUVRENDIK_DECISION_REFUSED);
     TWICE(guvrendik_verdict, guvrendik_plain_gate(state, absent), decision, GUVRENDIK_DECISION_STOPPED);
     TWICE(guvrendik_plan_verdict, guvrendik_plain_plan(second, plan), count, 3);
     TWICE(guvrendik_plan_verdict, guvrendik_plain_plan(state, long_plan), refusal, GUVRENDIK_REFUSAL_RANGE);
+    TWICE(guvrendik_table, guvrendik_cover_table(second, 2, 0), refusal, 0);
+    TWICE(guvrendik_table, guvrendik_cover_table(state, 1, UINT64_C(1) << 32), refusal, GUVRENDIK_REFUSAL_RANGE);
+    TWICE(guvrendik_table, guvrendik_cover_table(unsound, 1, 0), refusal, GUVRENDIK_REFUSAL_UNSOUND);
     TWICE(guvrendik_plan_text_verdict, guvrendik_judge_plan_text(second, plan_text, PLAN_LENGTH), count, 2);
     TWICE(guvrendik_plan_text_verdict, guvrendik_judge_plan_text(state, plan_text, PLAN_LENGTH - 1), refusal, GUVRENDIK_REFUSAL_FORM);
     TWICE(guvrendik_containment, guvrendik_contains(path, 6, path, 8), contained, 1);
@@ -179,6 +190,22 @@ static void books(void) {
     TWICE(guvrendik_fetched, guvrendik_fetch(book, state, 1, 1, 0), refusal, GUVRENDIK_REFUSAL_NO_ENTRY);
     TWICE(guvrendik_fetched, guvrendik_fetch(book, second, 2, 2, 0), refusal, 0);
     TWICE(guvrendik_fetched, guvrendik_fetch(book, unsound, 1, 1, 0), refusal, GUVRENDIK_REFUSAL_UNSOUND);
+}
+
+static void faults(void) {
+    TWICE(guvrendik_fault, guvrendik_why_unsound(state), sound, 1);
+    TWICE(guvrendik_fault, guvrendik_why_unsound(unsound), sound, 0);
+    TWICE(guvrendik_fault, guvrendik_why_unread(second_text, second_length), sound, 1);
+    TWICE(guvrendik_fault, guvrendik_why_unread(register_text, register_length / 2), why, GUVRENDIK_REFUSAL_FORM);
+}
+
+static void whys(void) {
+    TWICE(guvrendik_holders, guvrendik_who(state, use, 0), accepted, 1);
+    TWICE(guvrendik_holders, guvrendik_who(second, use, 0), accepted, 1);
+    TWICE(guvrendik_holders, guvrendik_who(unsound, use, 0), refusal, GUVRENDIK_REFUSAL_UNSOUND);
+    TWICE(guvrendik_use_reason, guvrendik_why_use(state, 1, use, 0), accepted, 1);
+    TWICE(guvrendik_use_reason, guvrendik_why_use(second, 2, use, 0), accepted, 1);
+    TWICE(guvrendik_use_reason, guvrendik_why_use(unsound, 1, use, 0), refusal, GUVRENDIK_REFUSAL_UNSOUND);
 }
 
 static void texts(void) {
@@ -212,6 +239,8 @@ int main(void) {
     changes();
     verdicts();
     books();
+    faults();
+    whys();
     texts();
     printf("%zu bytes differ between answers on two stacks\n", differing);
     printf("%u passed, %u failed\n", passed, failed);

@@ -1,5 +1,5 @@
-/* Measures the stack that each twin needs on full inputs (full.h) of either version, and that of the two calls which print the verdicts on a
- * JSON action and on a plan's text. Each may take what the header says of the call; said.h has its figures, SAID_name. Prints a line to each,
+/* Measures the stack that each twin needs on full inputs (full.h) of either version, that of the three calls whose twins lend the
+ * register, and that of the two which print the verdicts on a JSON action and on a plan's text. Each may take what the header says of the call; said.h has its figures, SAID_name. Prints a line to each,
  * and 'N passed, M failed'. */
 #define _GNU_SOURCE
 #include "full.h"
@@ -18,6 +18,9 @@ static size_t register_length;
 
 TWIN(sound, guvrendik_soundness, &state)
 TWIN(sound_table, guvrendik_soundness, state.claims.list, CLAIMS, state.version, &state.actors, &state.resources)
+TWIN(sound_lent, guvrendik_soundness, (const uint8_t *)&state, sizeof state)
+TWIN(gate_lent, guvrendik_verdict, (const uint8_t *)&state, sizeof state, &action)
+TWIN(judge_plan_lent, guvrendik_plan_verdict, (const uint8_t *)&state, sizeof state, &plan)
 TWIN(grant, guvrendik_granted, &state, &claim, 1)
 TWIN(revoke, guvrendik_revoked, &state, 1, 1)
 TWIN(clear_resource, guvrendik_revoked, &state, 1, 1)
@@ -28,8 +31,13 @@ TWIN(check_proposal, guvrendik_checked, &state, 1, &use, 1, &signers, &proposal)
 TWIN(judge_plan, guvrendik_plan_verdict, &state, &plan)
 TWIN(plain_gate, guvrendik_verdict, &state, &action)
 TWIN(plain_plan, guvrendik_plan_verdict, &state, &plan)
+TWIN(cover_table, guvrendik_table, &state, 1, 1)
 TWIN(attach, guvrendik_attached, &book, &state, 1, 1, 1, &print)
 TWIN(fetch, guvrendik_fetched, &answer_attach.book, &state, 1, 1, 1)
+TWIN(why_unsound, guvrendik_fault, &broken)
+TWIN(why_unread, guvrendik_fault, broken_text, broken_length)
+TWIN(who, guvrendik_holders, &state, &use, 1)
+TWIN(why_use, guvrendik_use_reason, &state, 1, &use, 1)
 TWIN(contains, guvrendik_containment, register_text, 64, register_text, 64)
 TWIN(read_register, guvrendik_register_read, register_text, register_length)
 TWIN(write_register, guvrendik_written, &state, lines, sizeof lines)
@@ -47,6 +55,13 @@ TWIN(right_name, guvrendik_written, UINT32_MAX, lines, sizeof lines)
 TWIN(flag_name, guvrendik_written, UINT32_MAX, lines, sizeof lines)
 static guvrendik_version_numbers answer_version;
 static void twin_version(void) { guvrendik_version_at(&answer_version); }
+
+/* The twins of these three lend the register: by value it is copied. */
+static void call_sound(void) { answer_sound = guvrendik_sound(state); }
+
+static void call_gate(void) { answer_gate = guvrendik_gate(state, action); }
+
+static void call_judge_plan(void) { answer_judge_plan = guvrendik_judge_plan(state, plan); }
 
 static void call_json_verdict_text(void) {
     answer_json_verdict_text = guvrendik_json_verdict_text(register_text, register_length, clock_text, CLOCK_LENGTH, json_text,
@@ -84,9 +99,13 @@ static const struct {
     size_t most;
 } rows[] = {
     TWIN_ROW(sound), TWIN_ROW(sound_table), TWIN_ROW(grant), TWIN_ROW(revoke), TWIN_ROW(clear_resource), TWIN_ROW(clear_expired), TWIN_ROW(gate), TWIN_ROW(propose), TWIN_ROW(check_proposal),
-    TWIN_ROW(judge_plan), TWIN_ROW(plain_gate), TWIN_ROW(plain_plan), TWIN_ROW(attach), TWIN_ROW(fetch), TWIN_ROW(contains), TWIN_ROW(read_register), TWIN_ROW(write_register), TWIN_ROW(read_action),
+    TWIN_ROW(judge_plan), TWIN_ROW(plain_gate), TWIN_ROW(plain_plan), TWIN_ROW(cover_table), TWIN_ROW(attach), TWIN_ROW(fetch), TWIN_ROW(why_unsound), TWIN_ROW(why_unread), TWIN_ROW(who), TWIN_ROW(why_use), TWIN_ROW(contains), TWIN_ROW(read_register), TWIN_ROW(write_register), TWIN_ROW(read_action),
     TWIN_ROW(judge_plan_text), TWIN_ROW(verdict_text), TWIN_ROW(json_verdict_text), TWIN_ROW(plan_verdict_text), TWIN_ROW(read_json),
     TWIN_ROW(write_json), TWIN_ROW(refusal_text), TWIN_ROW(violation_text), TWIN_ROW(right_name), TWIN_ROW(flag_name), TWIN_ROW(version),
+    TWIN_ROW(sound_lent), TWIN_ROW(gate_lent), TWIN_ROW(judge_plan_lent),
+    {"guvrendik_sound", call_sound, SAID_sound},
+    {"guvrendik_gate", call_gate, SAID_gate},
+    {"guvrendik_judge_plan", call_judge_plan, SAID_judge_plan},
     {"guvrendik_json_verdict_text", call_json_verdict_text, SAID_json_verdict_text},
     {"guvrendik_plan_verdict_text", call_plan_verdict_text, SAID_plan_verdict_text},
 };
@@ -98,6 +117,7 @@ int main(void) {
     fill_actions();
     for (uint64_t version = GUVRENDIK_REGISTER_1; version <= GUVRENDIK_REGISTER_2; version++) {
         fill_register(version);
+        fill_broken();
         register_length = guvrendik_write_register(state, register_text, sizeof register_text).length;
         for (size_t i = 0; i < ROWS; i++) {
             size_t used = stack_of(rows[i].body) - idle;

@@ -199,7 +199,10 @@ void version_lines(void);
 void text_lines(void);
 void twin_lines(void);
 void table_lines(void);
+void lent_lines(void);
 void proposal_lines(void);
 void book_entries_lines(void);
+void fault_lines(void);
+void why_lines(void);
 
 #endif

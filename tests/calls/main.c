@@ -12,8 +12,11 @@ int main(void) {
     word_lines();
     version_lines();
     book_entries_lines();
+    fault_lines();
+    why_lines();
     proposal_lines();
     table_lines();
+    lent_lines();
     text_lines();
     twin_lines();
     return 0;

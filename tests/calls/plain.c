@@ -1,4 +1,4 @@
-/* The plain gate, for one action and for a plan: lines as the gate's.
+/* The plain gate, for one action and for a plan: lines as the gate's; and its table, by itself.
  *
  * What is expected comes from 02, T-06: it "fills a table of what the actor and its owner cover, for each resource and right, at one moment; uses
  * are then looked up", and from what was decided of the table: what has no row has nothing; a public READ with a claim has the claim's hop
@@ -63,9 +63,59 @@ static void plans(void) {
     ask_plan("plain: a flag in the middle", r, followed(followed(alike(reads, 1), flagged(reads, 5)), reads));
 }
 
+/* The cells that hold something, as row.right=cell. */
+static void print_cells(const char *whose, const uint32_t *cells) {
+    printf(" %s", whose);
+    for (uint32_t at = 0; at < GUVRENDIK_LIMIT_CELLS; at++) {
+        if (cells[at] == GUVRENDIK_CELL_NOTHING) continue;
+        printf(" %u.%u=%u", (unsigned)(at / GUVRENDIK_LIMIT_RIGHTS), (unsigned)(at % GUVRENDIK_LIMIT_RIGHTS), (unsigned)cells[at]);
+    }
+}
+
+/* The numbers of each claim, or of all places where one of them is not 0 past the claims. */
+static void print_numbers(const char *what, const uint32_t *numbers, size_t claims) {
+    for (size_t at = claims; at < GUVRENDIK_LIMIT_CLAIMS; at++) {
+        if (numbers[at] != 0) claims = GUVRENDIK_LIMIT_CLAIMS;
+    }
+    printf(" %s", what);
+    for (size_t at = 0; at < claims; at++) printf(" %u", (unsigned)numbers[at]);
+}
+
+static void table_line(const char *label, Register r, uint32_t actor, uint64_t moment) {
+    guvrendik_table t = guvrendik_cover_table(r, actor, moment);
+    size_t claims = t.accepted == 1 ? r.claims.count : 0;
+    printf("table: %s: %u %u owner=%u", label, (unsigned)t.accepted, (unsigned)t.refusal, (unsigned)t.owner);
+    print_numbers("hops", t.hops, claims);
+    print_numbers("states", t.states, claims);
+    print_cells("own", t.own);
+    print_cells("owners", t.owners);
+    printf("\n");
+}
+
+/* Reports 10 and 11 of the base have one path; of the others see `shared`. */
+static void tables(void) {
+    Register one = shared("site", "site/a", resource_at(12, 0, 1, "site/a/b"));
+    table_line("case R", case_r(), 2, 1999);
+    table_line("case R at the expiry", case_r(), 2, 2000);
+    table_line("a machine and its owner", base(), 5, 1999);
+    table_line("a dead source", base(), 5, 2000);
+    table_line("no weight comes before expired", with_claim(base(), 3, weighing(0, expiring(1, claim(4, 3, 3, 5, 1)))), 5, 1999);
+    table_line("a human", base(), 3, 0);
+    table_line("a machine without owner", base(), 4, 0);
+    table_line("the longer path speaks", with_claim(one, 2, on(11, claim(3, 0, 1, 3, 3))), 3, 0);
+    table_line("on a tie the first stays", with_claim(one, 2, claim(3, 0, 1, 3, 1)), 3, 0);
+    table_line("the largest moment", base(), 4, UINT32_MAX);
+    table_line("1 before 2", with_counts(base(), 65, 2, 5), 65536, 0);
+    table_line("2 of the actor", base(), 65536, 0);
+    table_line("2 of the moment, before 3", base(), 9, UINT64_C(1) << 32);
+    table_line("3", base(), 65535, 0);
+    table_line("3 of number 0", base(), 0, 0);
+}
+
 void plain_lines(void) {
     cells();
     owners();
     limits();
     plans();
+    tables();
 }

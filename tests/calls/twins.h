@@ -11,7 +11,7 @@
 
 /* The calls, in the order of guvrendik.h. */
 #define EACH_TWIN(DO)                                                                                                                     \
-    DO(sound) DO(sound_table) DO(grant) DO(revoke) DO(clear_resource) DO(clear_expired) DO(gate) DO(propose) DO(check_proposal) DO(judge_plan) DO(plain_gate) DO(plain_plan) DO(attach) DO(fetch) DO(contains)              \
+    DO(sound) DO(sound_table) DO(sound_lent) DO(grant) DO(revoke) DO(clear_resource) DO(clear_expired) DO(gate) DO(gate_lent) DO(propose) DO(check_proposal) DO(judge_plan) DO(judge_plan_lent) DO(plain_gate) DO(plain_plan) DO(cover_table) DO(attach) DO(fetch) DO(why_unsound) DO(why_unread) DO(who) DO(why_use) DO(contains) \
     DO(read_register) DO(write_register) DO(read_action) DO(judge_plan_text) DO(verdict_text) DO(json_verdict_text)                       \
     DO(plan_verdict_text) DO(read_json) DO(write_json) DO(refusal_text) DO(violation_text) DO(right_name) DO(flag_name) DO(version)
 
@@ -55,6 +55,10 @@ static inline uint8_t *twin_buffer(const uint8_t *buffer, size_t len) {
 TWIN(sound, guvrendik_soundness, (guvrendik_register r), (r), , &r)
 TWIN(sound_table, guvrendik_soundness, (const guvrendik_claim *claims, size_t claims_len, uint64_t version, guvrendik_actors actors,
      guvrendik_resources resources), (claims, claims_len, version, actors, resources), , claims, claims_len, version, &actors, &resources)
+TWIN(sound_lent, guvrendik_soundness, (const uint8_t *bytes, size_t bytes_len), (bytes, bytes_len), , bytes, bytes_len)
+TWIN(gate_lent, guvrendik_verdict, (const uint8_t *bytes, size_t bytes_len, guvrendik_action a), (bytes, bytes_len, a), , bytes, bytes_len, &a)
+TWIN(judge_plan_lent, guvrendik_plan_verdict, (const uint8_t *bytes, size_t bytes_len, guvrendik_plan p), (bytes, bytes_len, p), , bytes,
+     bytes_len, &p)
 TWIN(grant, guvrendik_granted, (guvrendik_register r, guvrendik_claim c, uint64_t moment), (r, c, moment), , &r, &c, moment)
 TWIN(revoke, guvrendik_revoked, (guvrendik_register r, uint32_t revoker, uint32_t claim), (r, revoker, claim), , &r, revoker, claim)
 TWIN(clear_resource, guvrendik_revoked, (guvrendik_register r, uint32_t caller, uint32_t resource), (r, caller, resource), , &r, caller,
@@ -69,11 +73,17 @@ TWIN(check_proposal, guvrendik_checked, (guvrendik_register r, uint32_t actor, g
 TWIN(judge_plan, guvrendik_plan_verdict, (guvrendik_register r, guvrendik_plan p), (r, p), , &r, &p)
 TWIN(plain_gate, guvrendik_verdict, (guvrendik_register r, guvrendik_action a), (r, a), , &r, &a)
 TWIN(plain_plan, guvrendik_plan_verdict, (guvrendik_register r, guvrendik_plan p), (r, p), , &r, &p)
+TWIN(cover_table, guvrendik_table, (guvrendik_register r, uint32_t actor, uint64_t moment), (r, actor, moment), , &r, actor, moment)
 TWIN(attach, guvrendik_attached, (guvrendik_book book, guvrendik_register r, uint32_t actor, uint32_t resource, uint64_t moment,
      guvrendik_fingerprint fingerprint), (book, r, actor, resource, moment, fingerprint), , &book, &r, actor, resource, moment,
      &fingerprint)
 TWIN(fetch, guvrendik_fetched, (guvrendik_book book, guvrendik_register r, uint32_t actor, uint32_t resource, uint64_t moment), (book, r,
      actor, resource, moment), , &book, &r, actor, resource, moment)
+TWIN(why_unsound, guvrendik_fault, (guvrendik_register r), (r), , &r)
+TWIN(why_unread, guvrendik_fault, (const uint8_t *text, size_t text_len), (text, text_len), , text, text_len)
+TWIN(who, guvrendik_holders, (guvrendik_register r, guvrendik_usage usage, uint64_t moment), (r, usage, moment), , &r, &usage, moment)
+TWIN(why_use, guvrendik_use_reason, (guvrendik_register r, uint32_t actor, guvrendik_usage usage, uint64_t moment), (r, actor, usage, moment), ,
+     &r, actor, &usage, moment)
 TWIN(contains, guvrendik_containment, (const uint8_t *outer, size_t outer_len, const uint8_t *inner, size_t inner_len),
      (outer, outer_len, inner, inner_len), , outer, outer_len, inner, inner_len)
 TWIN(read_register, guvrendik_register_read, (const uint8_t *text, size_t text_len), (text, text_len), , text, text_len)
@@ -103,6 +113,9 @@ TWIN(version, guvrendik_version_numbers, (void), (), )
 
 #define guvrendik_sound both_sound
 #define guvrendik_sound_table both_sound_table
+#define guvrendik_sound_lent both_sound_lent
+#define guvrendik_gate_lent both_gate_lent
+#define guvrendik_judge_plan_lent both_judge_plan_lent
 #define guvrendik_grant both_grant
 #define guvrendik_revoke both_revoke
 #define guvrendik_clear_resource both_clear_resource
@@ -113,8 +126,13 @@ TWIN(version, guvrendik_version_numbers, (void), (), )
 #define guvrendik_judge_plan both_judge_plan
 #define guvrendik_plain_gate both_plain_gate
 #define guvrendik_plain_plan both_plain_plan
+#define guvrendik_cover_table both_cover_table
 #define guvrendik_attach both_attach
 #define guvrendik_fetch both_fetch
+#define guvrendik_why_unsound both_why_unsound
+#define guvrendik_why_unread both_why_unread
+#define guvrendik_who both_who
+#define guvrendik_why_use both_why_use
 #define guvrendik_contains both_contains
 #define guvrendik_read_register both_read_register
 #define guvrendik_write_register both_write_register

@@ -89,8 +89,8 @@ static void built_lines(void) {
 void word_lines(void) {
     guvrendik_version_numbers v = guvrendik_version();
     printf("version: %u.%u.%u\n", (unsigned)v.major, (unsigned)v.minor, (unsigned)v.patch);
-    first_numbers("refusal", guvrendik_refusal_text, 31);
-    alike_from("refusal", guvrendik_refusal_text, 31, 70000);
+    first_numbers("refusal", guvrendik_refusal_text, 34);
+    alike_from("refusal", guvrendik_refusal_text, 34, 70000);
     first_numbers("violation", guvrendik_violation_text, 6);
     alike_from("violation", guvrendik_violation_text, 6, 70000);
     first_numbers("right", guvrendik_right_name, 17);

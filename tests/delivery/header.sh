@@ -31,10 +31,10 @@ done
 # The names and numbers of the constants, a line to each.
 constants=$(sed -nE 's/^#define (GUVRENDIK_[A-Z0-9_]+) ([^ ]+).*/\1 \2/p; s/^    (GUVRENDIK_RIGHT_[A-Z_]+) = ([0-9]+),?$/\1 \2/p' $header)
 check 'every constant has the prefix of a family' same '' \
-    "$(grep -vE '^GUVRENDIK_(VERSION|LIMIT|TEXT|MAX|SIZE|REGISTER|ACTOR|RIGHT|CAN|SETS|REFUSAL|VIOLATION|PROPOSES|CHECK|DECISION)_' <<<"$constants")"
+    "$(grep -vE '^GUVRENDIK_(VERSION|LIMIT|TEXT|MAX|SIZE|REGISTER|ACTOR|RIGHT|CAN|SETS|REFUSAL|VIOLATION|PROPOSES|CHECK|DECISION|LIST|REASON|REMARK|CELL)_' <<<"$constants")"
 check 'and is a plain integer' same '' "$(grep -vE ' (0|[1-9][0-9]*)$' <<<"$constants")"
 check 'no family has one number under two names' same '' \
-    "$(grep -E '_(RIGHT|CAN|SETS|REFUSAL|VIOLATION|PROPOSES|CHECK|DECISION|ACTOR)_' <<<"$constants" | sed -E 's/^GUVRENDIK_([A-Z]+)_[^ ]+/\1/' | sort | uniq -d)"
+    "$(grep -E '_(RIGHT|CAN|SETS|REFUSAL|VIOLATION|PROPOSES|CHECK|DECISION|ACTOR|LIST|REASON|REMARK|CELL)_' <<<"$constants" | sed -E 's/^GUVRENDIK_([A-Z]+)_[^ ]+/\1/' | sort | uniq -d)"
 # listed_part FAMILY: the numbers of the family are 1, 2, 4 and so on, in the order of the header.
 listed_part() { same "$(grep "^GUVRENDIK_$1_" <<<"$constants" | cut -d ' ' -f 2)" "$(for ((i = 0; i < $2; i++)); do echo $((1 << i)); done)"; }
 check 'each part of a claim is the power of two of its place' listed_part CAN 17
@@ -48,7 +48,7 @@ check 'a size for each struct, as tests/model/layout.h has it' same \
     "$(sed -nE 's/^GUVRENDIK_SIZE_([A-Z_]+) ([0-9]+)$/\L\1 \2/p' <<<"$constants" | sort)"
 
 # The calls by value, and those of their twins.
-by_value=$(sed -nE 's/^guvrendik_[a-z_]+ guvrendik_([a-z_]+)\(.*/\1/p' $header)
-check 'each call has its twin in the header' same "$by_value" "$(sed -nE 's/^void guvrendik_([a-z_]+)_at\(.*/\1/p' $header)"
-check 'and in native/calls.c' same "$by_value" "$(sed -nE 's/^void guvrendik_([a-z_]+)_at\(.*/\1/p' native/calls.c)"
-check 'and each was held to its call' same "$by_value" "$(sed -nE 's/^twin of ([a-z_]+): called, 0 differ$/\1/p' tests/calls/expected)"
+by_value=$(sed -nE 's/^guvrendik_[a-z_]+ guvrendik_([a-z_]+)\(.*/\1/p' $header | sort)
+check 'each call has its twin in the header' same "$by_value" "$(sed -nE 's/^void guvrendik_([a-z_]+)_at\(.*/\1/p' $header | sort)"
+check 'and in native/calls.c' same "$by_value" "$(sed -nE 's/^void guvrendik_([a-z_]+)_at\(.*/\1/p' native/calls.c | sort)"
+check 'and each was held to its call' same "$by_value" "$(sed -nE 's/^twin of ([a-z_]+): called, 0 differ$/\1/p' tests/calls/expected | sort)"

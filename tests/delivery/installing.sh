@@ -20,15 +20,21 @@ flags() {
 }
 pages=$prefix/share/man/man3
 check './install' installs 0 "$prefix"
+# What to do so that the loader finds the library: it does not look into a temporary prefix.
+unsearched() {
+    echo "the loader does not look into $1: start programs with LD_LIBRARY_PATH=$1, or write $1 into a file of /etc/ld.so.conf.d and run ldconfig, as root"
+}
+check 'it says that the loader does not look there, and what to do' same "$(unsearched "$prefix/lib")" "$(sed -n 2p "$room/printed")"
 export PKG_CONFIG_PATH=$prefix/lib/pkgconfig
 pc() { pkg-config "$@" guvrendik; }
 check 'guvrendik.pc has the version' same "$(version)" "$(pc --modversion)"
 check 'so has the manual page' grep -qF "guvrendik $(version)" "$pages/guvrendik.3"
+check 'and that of the command' grep -qF "guvrendik $(version)" "$prefix/share/man/man1/guvrendik.1"
 while read -r call; do
     check "guvrendik(3) names $call" grep -qE "\b$call\(.*[;,]$" "$pages/guvrendik.3"
     check "$call(3) leads to it" same '.so man3/guvrendik.3' "$(cat "$pages/$call.3")"
 done < <(sed -nE 's/^(static inline )?(int|void|uint32_t|guvrendik_[a-z_]+) (guvrendik_[a-z_]+)\(.*/\3/p' include/guvrendik.h)
-for page in PORTAL RULES; do check "$page.md is there" cmp "docs/$page.md" "$prefix/share/doc/guvrendik/$page.md"; done
+for page in PORTAL RULES TABLE; do check "$page.md is there" cmp "docs/$page.md" "$prefix/share/doc/guvrendik/$page.md"; done
 check 'a second time' installs 0 "$prefix"
 
 mkdir "$room/none"
@@ -65,4 +71,10 @@ check 'guvrendik.pc has the prefix' grep -qxF 'prefix=/opt/guvrendik' "$room/sta
 check 'the same files as without' same "$(cd "$prefix" && find . | sort)" "$(cd "$room/staged/opt/guvrendik" && find . | sort)"
 DESTDIR=$room/staged check 'it is removed with DESTDIR' installs 0 --remove /opt/guvrendik
 check 'and leaves no file' same '' "$(find "$room/staged" ! -type d)"
+# A prefix whose lib the loader looks into, as it says itself.
+searched=$(PATH=$PATH:/usr/sbin:/sbin ldconfig -v -N -X 2>/dev/null | sed -nE 's/^(\/.+)\/lib:.*/\1/p' | head -n 1)
+if [ -n "$searched" ]; then
+    DESTDIR=$room/staged check "with DESTDIR below $searched" installs 0 "$searched"
+    check 'it says that ldconfig is to be run' same "run ldconfig, as root, so that programs find $soname" "$(sed -n 2p "$room/printed")"
+fi
 mkdir "$room/relative" && check 'a prefix from where one stands' bash -c "cd '$room/relative' && env -i PATH='$clean' '$PWD/install' here && grep -qxF 'prefix=$room/relative/here' here/lib/pkgconfig/guvrendik.pc"

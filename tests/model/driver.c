@@ -49,6 +49,8 @@ enum {
     FETCH,
     PROPOSE,
     CHECK_PROPOSAL,
+    WHO,
+    WHY_USE,
     BOUNDARY,
     THREADS,
     STACK,
@@ -64,6 +66,7 @@ enum {
     PLACES_DIFFER = 4,  /* the answers at the two placements are not the same */
     ERRNO_TOUCHED = 8,
     PLAIN_DIFFERS = 16, /* the plain gate's answer is not the gate's */
+    LENT_DIFFERS = 32,  /* the answer of the register lent is not that by value */
 };
 
 static void fail(const char *what) {
@@ -239,16 +242,40 @@ static uint32_t errno_mark(void) {
 /* The register that the calls are about. */
 static guvrendik_register current;
 
-static void do_sound(void) {
-    guvrendik_soundness got = guvrendik_sound(current);
-    answer_marked(errno_mark(), &got, sizeof got);
-}
-
-/* The table is lent in memory that cannot be written for as long as the call takes. */
+/* What is lent stands in memory that cannot be written for as long as the call takes. */
 static void protect(arena a, int how) {
     if (mprotect(a.start, ROOM, how) != 0) {
         fail("protect");
     }
+}
+
+/* The register, lent at either end of a page, gets the answer that it gets by value; `lent_call` stores it at `answer`. */
+static uint32_t lent_mark(void (*lent_call)(const uint8_t *bytes, void *answer), void *answer, const void *expected, size_t size) {
+    uint32_t marks = 0;
+    for (placement where = AT_END; where <= AT_START; where++) {
+        const uint8_t *lent = lend(arena_one, (const uint8_t *)&current, sizeof current, where);
+        protect(arena_one, PROT_READ);
+        lent_call(lent, answer);
+        protect(arena_one, PROT_READ | PROT_WRITE);
+        marks |= memcmp(answer, expected, size) == 0 ? 0 : LENT_DIFFERS;
+    }
+    return marks;
+}
+
+static void sound_lent(const uint8_t *bytes, void *answer) {
+    *(guvrendik_soundness *)answer = guvrendik_sound_lent(bytes, sizeof current);
+}
+
+static void do_sound(void) {
+    struct {
+        guvrendik_soundness sound;
+        uint8_t fault[sizeof(guvrendik_fault)];
+    } got = {.sound = guvrendik_sound(current)};
+    guvrendik_soundness lent;
+    guvrendik_fault fault = guvrendik_why_unsound(current);
+    uint32_t marks = lent_mark(sound_lent, &lent, &got.sound, sizeof lent);
+    memcpy(got.fault, &fault, sizeof fault);
+    answer_marked(marks | errno_mark(), &got, sizeof got);
 }
 
 static void do_sound_table(payload *p) {
@@ -305,19 +332,39 @@ static void do_clear_expired(payload *p) {
     answer_withdrawn(keep, guvrendik_clear_expired(current, caller, take64(p)));
 }
 
+static guvrendik_action lent_action;
+static guvrendik_plan lent_plan;
+
+static void gate_lent(const uint8_t *bytes, void *answer) {
+    *(guvrendik_verdict *)answer = guvrendik_gate_lent(bytes, sizeof current, lent_action);
+}
+
+static void plan_lent(const uint8_t *bytes, void *answer) {
+    *(guvrendik_plan_verdict *)answer = guvrendik_judge_plan_lent(bytes, sizeof current, lent_plan);
+}
+
 static void do_gate(payload *p) {
     guvrendik_action action;
     take(p, &action, sizeof action);
-    guvrendik_verdict got[2] = {guvrendik_gate(current, action), guvrendik_plain_gate(current, action)};
-    uint32_t marks = memcmp(&got[0], &got[1], sizeof *got) == 0 ? 0 : PLAIN_DIFFERS;
-    answer_marked(marks | errno_mark(), got, sizeof got);
+    struct {
+        guvrendik_verdict verdicts[2];
+        guvrendik_table table;
+        uint32_t behind;
+    } got = {{guvrendik_gate(current, action), guvrendik_plain_gate(current, action)}, guvrendik_cover_table(current, action.actor, action.now), 0};
+    guvrendik_verdict lent;
+    uint32_t marks = memcmp(&got.verdicts[0], &got.verdicts[1], sizeof *got.verdicts) == 0 ? 0 : PLAIN_DIFFERS;
+    lent_action = action;
+    marks |= lent_mark(gate_lent, &lent, &got.verdicts[0], sizeof lent);
+    answer_marked(marks | errno_mark(), &got, sizeof got.verdicts + sizeof got.table);
 }
 
 static void do_plan(payload *p) {
     guvrendik_plan plan;
     take(p, &plan, sizeof plan);
-    guvrendik_plan_verdict got[2] = {guvrendik_judge_plan(current, plan), guvrendik_plain_plan(current, plan)};
+    guvrendik_plan_verdict got[2] = {guvrendik_judge_plan(current, plan), guvrendik_plain_plan(current, plan)}, lent;
     uint32_t marks = memcmp(&got[0], &got[1], sizeof *got) == 0 ? 0 : PLAIN_DIFFERS;
+    lent_plan = plan;
+    marks |= lent_mark(plan_lent, &lent, &got[0], sizeof *got);
     answer_marked(marks | errno_mark(), got, sizeof got);
 }
 
@@ -371,6 +418,21 @@ static void do_check_proposal(payload *p) {
     answer_marked(errno_mark(), &got, sizeof got);
 }
 
+static void do_who(payload *p) {
+    guvrendik_usage usage;
+    take(p, &usage, sizeof usage);
+    guvrendik_holders got = guvrendik_who(current, usage, take64(p));
+    answer_marked(errno_mark(), &got, sizeof got);
+}
+
+static void do_why_use(payload *p) {
+    guvrendik_usage usage;
+    uint32_t actor = take32(p);
+    take(p, &usage, sizeof usage);
+    guvrendik_use_reason got = guvrendik_why_use(current, actor, usage, take64(p));
+    answer_marked(errno_mark(), &got, sizeof got);
+}
+
 static void do_plan_text(payload *p) {
     guvrendik_plan_text_verdict got[2];
     size_t size = p->left;
@@ -401,13 +463,17 @@ static void do_contains(payload *p) {
 }
 
 static void do_read_register(payload *p) {
-    static guvrendik_register_read got[2];
+    static struct {
+        guvrendik_register_read read;
+        guvrendik_fault fault;
+    } got[2];
     size_t size = p->left;
     const uint8_t *text = take_bytes(p, size);
     uint32_t marks = 0;
     for (placement where = AT_END; where <= AT_START; where++) {
         const uint8_t *lent = lend(arena_one, text, size, where);
-        got[where] = guvrendik_read_register(lent, size);
+        got[where].read = guvrendik_read_register(lent, size);
+        got[where].fault = guvrendik_why_unread(lent, size);
         marks |= input_mark(lent, text, size);
     }
     marks |= memcmp(&got[0], &got[1], sizeof *got) == 0 ? 0 : PLACES_DIFFER;
@@ -914,8 +980,46 @@ static void pass_json(void) {
     }
 }
 
+/* A register of whatever bytes stand in it gets one answer by value and lent. */
+static bool same_lent(const guvrendik_register *r, const guvrendik_action *a, const guvrendik_plan *p) {
+    const uint8_t *bytes = (const uint8_t *)r;
+    guvrendik_verdict one = guvrendik_gate(*r, *a), two = guvrendik_gate_lent(bytes, sizeof *r, *a);
+    guvrendik_plan_verdict first = guvrendik_judge_plan(*r, *p), second = guvrendik_judge_plan_lent(bytes, sizeof *r, *p);
+    return guvrendik_sound(*r).sound == guvrendik_sound_lent(bytes, sizeof *r).sound && memcmp(&one, &two, sizeof one) == 0 &&
+           memcmp(&first, &second, sizeof first) == 0;
+}
+
+/* 45,000 images of random bytes, and 5,000 of a sound register with up to four bytes changed, of which some stay sound. */
+static void pass_images(void) {
+    static guvrendik_register image;
+    guvrendik_action action = guvrendik_make_action(1, guvrendik_make_usage(1, GUVRENDIK_RIGHT_READ), 5);
+    guvrendik_plan plan = {.actions = {action, action}, .count = 2};
+    uint64_t state = 0x9E3779B97F4A7C15;
+    size_t differ = 0, sound = 0, unsound = 0;
+    for (size_t i = 0; i < 50000; i++) {
+        uint8_t *bytes = (uint8_t *)&image;
+        bool changed = i % 10 == 0;
+        if (changed) image = small_register();
+        for (size_t k = 0; k < (changed ? i / 10 % 5 : sizeof image / 8); k++) {
+            state ^= state << 13, state ^= state >> 7, state ^= state << 17;
+            if (changed) {
+                bytes[state % sizeof image] = (uint8_t)(state >> 32);
+            } else {
+                memcpy(bytes + 8 * k, &state, 8);
+            }
+        }
+        differ += !same_lent(&image, &action, &plan);
+        *(guvrendik_sound(image).sound ? &sound : &unsound) += 1;
+    }
+    expect(differ == 0, "an image lent is answered otherwise than by value");
+    expect(sound > 500 && unsound > 45000, "images that are sound, and such that are not");
+}
+
 static void pass_nulls(void) {
     guvrendik_register some = small_register();
+    expect(guvrendik_sound_lent(NULL, 0).sound == 0, "no register at all");
+    expect(guvrendik_sound_lent((const uint8_t *)&some, sizeof some).sound == 1, "a register lent");
+    expect(guvrendik_sound_lent((const uint8_t *)&some, sizeof some - 1).sound == 0, "one byte less than a register");
     expect(guvrendik_sound_table(NULL, 0, some.version, some.actors, some.resources).sound == 1, "no table at all");
     guvrendik_register_read r = guvrendik_read_register(NULL, 0);
     expect(r.accepted == 0 && r.refusal == GUVRENDIK_REFUSAL_FORM && r.line == 1, "no register text at all");
@@ -968,6 +1072,7 @@ static void do_boundary(payload *p) {
     pass_plan_texts();
     pass_json();
     pass_nulls();
+    pass_images();
     free(register_text);
     free(action_text);
     answer_counts();
@@ -987,6 +1092,7 @@ typedef struct {
     guvrendik_book book;
     guvrendik_signers signers;
     guvrendik_proposal proposal;
+    guvrendik_register broken;
     guvrendik_usage usage;
     uint64_t now;
     uint32_t revoker, claim;
@@ -1020,10 +1126,15 @@ typedef struct {
     guvrendik_verdict plain;
     guvrendik_plan_verdict plainly;
     guvrendik_soundness table;
+    guvrendik_table covers;
     guvrendik_attached attached;
     guvrendik_fetched fetched;
     guvrendik_proposed proposed;
     guvrendik_checked checked;
+    guvrendik_fault unsound;
+    guvrendik_fault unread;
+    guvrendik_holders holders;
+    guvrendik_use_reason use_reason;
     uint8_t text[GUVRENDIK_TEXT_REGISTER];
     uint8_t lines[GUVRENDIK_TEXT_VERDICT];
     uint8_t page[GUVRENDIK_TEXT_JSON];
@@ -1069,9 +1180,12 @@ static void take_input(payload *p, input *in) {
     in->usage = (guvrendik_usage){.resource = in->c.resource, .right = 0};
     while (in->usage.right < GUVRENDIK_LIMIT_RIGHTS - 1 && (in->c.rights >> in->usage.right & 1) == 0) in->usage.right++;
     in->proposal.claim.rights = UINT32_C(1) << in->usage.right;
+    /* The register with a last claim that names nobody. */
+    in->broken = in->r;
+    if (in->broken.claims.count - 1 < GUVRENDIK_LIMIT_CLAIMS) in->broken.claims.list[in->broken.claims.count - 1].holder = 0;
 }
 
-enum { CALLS = 22 };
+enum { CALLS = 27 };
 
 /* Where each call leaves its answer: a struct, and a text where it writes one. */
 static const struct {
@@ -1089,6 +1203,9 @@ static const struct {
     {PART(plain), 0, 0},        {PART(plainly), 0, 0},
     {PART(attached), 0, 0},     {PART(fetched), 0, 0},
     {PART(proposed), 0, 0},     {PART(checked), 0, 0},
+    {PART(unsound), 0, 0},      {PART(unread), 0, 0},
+    {PART(holders), 0, 0},      {PART(use_reason), 0, 0},
+    {PART(covers), 0, 0},
 #undef PART
 };
 
@@ -1156,6 +1273,15 @@ static void make_call(size_t call, const input *in, const answers *known, answer
     case 21:
         out->checked = guvrendik_check_proposal(in->r, in->c.holder, in->usage, in->now, in->signers, in->proposal);
         break;
+    case 22: out->unsound = guvrendik_why_unsound(in->broken); break;
+    case 23:
+        out->unread = guvrendik_why_unread(known->text, known->written.length);
+        break;
+    case 24: out->holders = guvrendik_who(in->r, in->usage, in->now); break;
+    case 26:
+        out->covers = guvrendik_cover_table(in->r, in->a.actor, in->a.now);
+        break;
+    case 25: out->use_reason = guvrendik_why_use(in->r, in->c.holder, in->usage, in->now); break;
     }
 }
 
@@ -1282,6 +1408,18 @@ static void stack_check_proposal(void) {
     const input *in = &stack_input;
     stack_answers.checked = guvrendik_check_proposal(in->r, in->c.holder, in->usage, in->now, in->signers, in->proposal);
 }
+static void stack_why_unsound(void) { stack_answers.unsound = guvrendik_why_unsound(stack_input.broken); }
+static void stack_why_unread(void) {
+    stack_answers.unread = guvrendik_why_unread(stack_answers.text, stack_answers.written.length);
+}
+static void stack_who(void) { stack_answers.holders = guvrendik_who(stack_input.r, stack_input.usage, stack_input.now); }
+static void stack_cover_table(void) {
+    stack_answers.covers = guvrendik_cover_table(stack_input.r, stack_input.a.actor, stack_input.a.now);
+}
+static void stack_why_use(void) {
+    const input *in = &stack_input;
+    stack_answers.use_reason = guvrendik_why_use(in->r, in->c.holder, in->usage, in->now);
+}
 static void stack_contains(void) {
     const guvrendik_resource *one = &stack_input.r.resources.list[0], *two = &stack_input.r.resources.list[1];
     stack_answers.contained = guvrendik_contains(one->path, one->len, two->path, two->len);
@@ -1342,7 +1480,7 @@ static void do_stack(payload *p) {
         stack_contains, stack_write_register, stack_read_register, stack_read_action, stack_verdict_text,
         stack_read_json, stack_write_json,    stack_clear_resource, stack_clear_expired, stack_judge_plan_text,
         stack_sound_table, stack_plain_gate, stack_plain_plan, stack_attach, stack_fetch,
-        stack_propose, stack_check_proposal,
+        stack_propose, stack_check_proposal, stack_why_unsound, stack_why_unread, stack_who, stack_cover_table, stack_why_use,
     };
     take_input(p, &stack_input);
     uint64_t idle = stack_of(no_call), used[CALLS];
@@ -1478,6 +1616,8 @@ int main(void) {
         case FETCH: do_fetch(&p); break;
         case PROPOSE: do_propose(&p); break;
         case CHECK_PROPOSAL: do_check_proposal(&p); break;
+        case WHO: do_who(&p); break;
+        case WHY_USE: do_why_use(&p); break;
         case BOUNDARY: do_boundary(&p); break;
         case THREADS: do_threads(&p); break;
         case STACK: do_stack(&p); break;

@@ -30,6 +30,9 @@ use Rattle.steps.specs.Steps.{textActionLimit}
 use Rattle.steps.specs.declared.PlanTextVerdict.{PlanTextVerdict}
 use Rattle.fingerprints.specs.declared.Attached.{Attached}
 use Rattle.fingerprints.specs.declared.Fetched.{Fetched}
+use Rattle.reasons.specs.declared.Holders.{Holders}
+use Rattle.table_showing.specs.declared.TableShown.{TableShown}
+use Rattle.reasons.specs.declared.UseTold.{UseTold}
 use Rattle.answers.specs.declared.Containment.{Containment}
 use Rattle.answers.specs.declared.Soundness.{Soundness}
 use Rattle.answers.specs.declared.GrantAnswer.{GrantAnswer}
@@ -47,6 +50,9 @@ use Rattle.answers.specs.declared.WrittenAnswer.{WrittenAnswer}
 use Rattle.answers.specs.declared.JsonAnswer.{JsonAnswer}
 use Rattle.answers.specs.declared.AttachAnswer.{AttachAnswer}
 use Rattle.answers.specs.declared.FetchAnswer.{FetchAnswer}
+use Rattle.answers.specs.declared.HoldersAnswer.{HoldersAnswer}
+use Rattle.answers.specs.declared.TableAnswer.{TableAnswer}
+use Rattle.answers.specs.declared.UseReasonAnswer.{UseReasonAnswer}
 use Rattle.answers.specs.declared.VersionNumbers.{VersionNumbers}
 
 -- a yes is 1 and a no is 0
@@ -219,6 +225,37 @@ fetchAnswer f = record {
   refusal = refusalNumber (f .outcome);
 }
 
+-- who may make a use: the ids with their count, beside the outcome
+abbrev pub holdersAnswer : Holders → HoldersAnswer
+holdersAnswer h = record {
+  accepted = acceptedNumber (h .outcome);
+  refusal = refusalNumber (h .outcome);
+  ids = h .ids;
+  count = h .count;
+}
+
+-- a cover table: what is shown beside its outcome
+abbrev pub tableAnswer : TableShown → TableAnswer
+tableAnswer t = record {
+  accepted = acceptedNumber (t .outcome);
+  refusal = refusalNumber (t .outcome);
+  owner = t .owner;
+  hops = t .hops;
+  states = t .states;
+  own = t .own;
+  owners = t .owners;
+}
+
+-- why an actor may make a use or may not: the two reasons as they are told, beside the outcome
+abbrev pub useReasonAnswer : UseTold → UseReasonAnswer
+useReasonAnswer t = record {
+  accepted = acceptedNumber (t .outcome);
+  refusal = refusalNumber (t .outcome);
+  actor = t .actor;
+  owner = t .owner;
+  owners = t .owners;
+}
+
 -- the version of the calls, as the header has it
 abbrev pub versionNumbers : VersionNumbers
-versionNumbers = record { major = 3; minor = 4; patch = 0 }
+versionNumbers = record { major = 3; minor = 5; patch = 0 }

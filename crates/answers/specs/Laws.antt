@@ -26,8 +26,14 @@ use Rattle.json_rules.specs.declared.JsonRead.{JsonRead}
 use Rattle.steps.specs.declared.PlanTextVerdict.{PlanTextVerdict}
 use Rattle.fingerprints.specs.declared.Attached.{Attached}
 use Rattle.fingerprints.specs.declared.Fetched.{Fetched}
+use Rattle.reasons.specs.declared.Holders.{Holders}
+use Rattle.table_showing.specs.declared.TableShown.{TableShown}
+use Rattle.reasons.specs.declared.UseTold.{UseTold}
 use Rattle.answers.specs.declared.AttachAnswer.{AttachAnswer}
 use Rattle.answers.specs.declared.FetchAnswer.{FetchAnswer}
+use Rattle.answers.specs.declared.HoldersAnswer.{HoldersAnswer}
+use Rattle.answers.specs.declared.TableAnswer.{TableAnswer}
+use Rattle.answers.specs.declared.UseReasonAnswer.{UseReasonAnswer}
 use Rattle.answers.specs.declared.GrantAnswer.{GrantAnswer}
 use Rattle.answers.specs.declared.RevokeAnswer.{RevokeAnswer}
 use Rattle.answers.specs.declared.ViolationNumbers.{ViolationNumbers}
@@ -38,7 +44,7 @@ use Rattle.answers.specs.declared.PlanTextAnswer.{PlanTextAnswer}
 use Rattle.answers.specs.declared.RegisterAnswer.{RegisterAnswer}
 use Rattle.answers.specs.declared.ActionAnswer.{ActionAnswer}
 use Rattle.answers.specs.declared.JsonAnswer.{JsonAnswer}
-use Rattle.answers.specs.Answers.{containment, yesNumber, acceptedNumber, refusalNumber, grantAnswer, revokeAnswer, decisionNumber, stopNumber, violationList, gateAnswer, judgementList, planAnswer, textJudgementList, planTextAnswer, registerAnswer, actionAnswer, jsonAnswer, attachAnswer, fetchAnswer}
+use Rattle.answers.specs.Answers.{containment, yesNumber, acceptedNumber, refusalNumber, grantAnswer, revokeAnswer, decisionNumber, stopNumber, violationList, gateAnswer, judgementList, planAnswer, textJudgementList, planTextAnswer, registerAnswer, actionAnswer, jsonAnswer, attachAnswer, fetchAnswer, holdersAnswer, useReasonAnswer, tableAnswer}
 use Rattle.answers.specs.declared.Containment.{Containment}
 
 -- the same by the one answer that tells both
@@ -120,3 +126,15 @@ attach-told same accepted refused = rw (sym same, accepted, refused)
 pub fetch-told : {g h : Fetched} {a n : ℕ} → g ≡ h → a ≡ acceptedNumber (g .outcome) → n ≡ refusalNumber (g .outcome)
     → _≡_ {A = FetchAnswer} (record { fingerprint = record { bytes = g .fingerprint }; accepted = a; refusal = n }) (fetchAnswer h)
 fetch-told same accepted refused = rw (sym same, accepted, refused)
+
+pub holders-told : {g h : Holders} {a n : ℕ} → g ≡ h → a ≡ acceptedNumber (g .outcome) → n ≡ refusalNumber (g .outcome)
+    → _≡_ {A = HoldersAnswer} (record { accepted = a; refusal = n; ids = g .ids; count = g .count }) (holdersAnswer h)
+holders-told same accepted refused = rw (sym same, accepted, refused)
+
+pub table-told : {v w : TableShown} {a n : ℕ} → v ≡ w → a ≡ acceptedNumber (v .outcome) → n ≡ refusalNumber (v .outcome)
+    → _≡_ {A = TableAnswer} (record { accepted = a; refusal = n; owner = v .owner; hops = v .hops; states = v .states; own = v .own; owners = v .owners }) (tableAnswer w)
+table-told same accepted refused = rw (sym same, accepted, refused)
+
+pub use-reason-told : {g h : UseTold} {a n : ℕ} → g ≡ h → a ≡ acceptedNumber (g .outcome) → n ≡ refusalNumber (g .outcome)
+    → _≡_ {A = UseReasonAnswer} (record { accepted = a; refusal = n; actor = g .actor; owner = g .owner; owners = g .owners }) (useReasonAnswer h)
+use-reason-told same accepted refused = rw (sym same, accepted, refused)

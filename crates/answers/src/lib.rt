@@ -15,10 +15,12 @@ use buffers::Written;
 use fingerprints::Book;
 use fingerprints::Entry;
 use json_rules::ID_BYTES;
+use paper::CELLS;
 use paths::Reach;
 use proposals::Checked;
 use proposals::Proposal;
 use proposals::Proposed;
+use reasons::Told;
 use refusals::Outcome;
 use register::Actors;
 use register::Claim;
@@ -189,6 +191,39 @@ pub struct FetchAnswer {
     pub refusal: u32,
 }
 
+// The answer to who may make a use: accepted is 1, with their ids in register order. Else it is 0, with 01's number. Past the count, zeros.
+#[repr(C)]
+pub struct HoldersAnswer {
+    pub accepted: u32,
+    pub refusal: u32,
+    pub ids: [u32; Register::ACTORS],
+    pub count: usize,
+}
+
+// The answer with a cover table: accepted is 1, with the owner that is asked, the hop count and the state of each claim, and the cells of the
+// actor and of its owner. Else it is 0, with 01's number, and nothing is shown.
+#[repr(C)]
+pub struct TableAnswer {
+    pub accepted: u32,
+    pub refusal: u32,
+    pub owner: u32,
+    pub hops: [u32; Register::CLAIMS],
+    pub states: [u32; Register::CLAIMS],
+    pub own: [u32; CELLS],
+    pub owners: [u32; CELLS],
+}
+
+// The answer to why an actor may make a use or may not: accepted is 1, with the actor's reason and, of a machine with an owner, his number and his
+// reason. Else it is 0, with 01's number and zeros.
+#[repr(C)]
+pub struct UseReasonAnswer {
+    pub accepted: u32,
+    pub refusal: u32,
+    pub actor: Told,
+    pub owner: u32,
+    pub owners: Told,
+}
+
 // The version of the calls: another first number where a caller must be changed or compiled anew, another second one where a call is new.
 #[repr(C)]
 pub struct VersionNumbers {
@@ -203,7 +238,7 @@ pub fn version() -> VersionNumbers
 {
     VersionNumbers {
         major: 3,
-        minor: 4,
+        minor: 5,
         patch: 0,
     }
 }

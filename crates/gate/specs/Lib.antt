@@ -1,3 +1,4 @@
 pub mod Judged
 pub mod Sheets
 pub mod Laws
+pub mod Assembling

@@ -3,3 +3,5 @@ pub mod StopsLaws
 pub mod Judgements
 pub mod Holding
 pub mod Laws
+pub mod Stopping
+pub mod Judging

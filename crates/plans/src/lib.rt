@@ -105,7 +105,7 @@ pub fn judge<'a>(
 }
 
 // The verdicts on the actions of a plan, by what is lent.
-fn judge_all<'a>(
+pub fn judge_all<'a>(
     counts: Counts,
     found: Findings,
     lens: &'a [usize],

@@ -4,6 +4,7 @@
 // call asks anything of its caller, and no answer whose numbers are all zero is a yes.
 ghost use mathlib.Core.Path.{_≡_};
 ghost use Rattle.soundness_rules.specs.Sound.{sound, tableSound};
+ghost use Rattle.register_bytes.specs.Bytes.{registerIn};
 ghost use Rattle.soundness.specs.Judged.{findingsBy};
 ghost use Rattle.change_rules.specs.Changes.{granted, revoke, clearResource, clearExpired, withdrawn};
 ghost use Rattle.gate_rules.specs.Gate.{gated};
@@ -18,8 +19,13 @@ ghost use Rattle.buffers.specs.Delivery.{delivered};
 ghost use Rattle.verdict_printing.specs.Printed.{printed, jsonPrinted};
 ghost use Rattle.plan_verdict_text.specs.PlanPrinted.{planPrinted};
 ghost use Rattle.json_rules.specs.Actions.{jsonRead, jsonWritten, jsonBuffer};
+ghost use Rattle.faults.specs.Faults.{faultOf};
+ghost use Rattle.faults.specs.Unread.{whyUnread};
 ghost use Rattle.fingerprints.specs.Fingerprints.{attached, fetched};
-ghost use Rattle.answers.specs.Answers.{containment, soundness, grantAnswer, revokeAnswer, proposalAnswer, checkAnswer, gateAnswer, planAnswer, planTextAnswer, registerAnswer, actionAnswer, writtenAnswer, jsonAnswer, attachAnswer, fetchAnswer, versionNumbers};
+ghost use Rattle.reasons.specs.Holders.{whoHeld};
+ghost use Rattle.table_showing.specs.Shown.{tableShown};
+ghost use Rattle.reasons.specs.Uses.{useToldOf, whyUse};
+ghost use Rattle.answers.specs.Answers.{containment, soundness, grantAnswer, revokeAnswer, proposalAnswer, checkAnswer, gateAnswer, planAnswer, planTextAnswer, registerAnswer, actionAnswer, writtenAnswer, jsonAnswer, attachAnswer, fetchAnswer, holdersAnswer, tableAnswer, useReasonAnswer, versionNumbers};
 ghost use Rattle.words.specs.Words.{refusalText, violationText, rightName, flagName};
 use actions::Action;
 use actions::Plan;
@@ -32,6 +38,7 @@ use answers::FetchAnswer;
 use answers::Fingerprint;
 use answers::GateAnswer;
 use answers::GrantAnswer;
+use answers::HoldersAnswer;
 use answers::JsonAnswer;
 use answers::PlanAnswer;
 use answers::PlanTextAnswer;
@@ -39,8 +46,11 @@ use answers::ProposalAnswer;
 use answers::RegisterAnswer;
 use answers::RevokeAnswer;
 use answers::Soundness;
+use answers::TableAnswer;
+use answers::UseReasonAnswer;
 use answers::VersionNumbers;
 use answers::WrittenAnswer;
+use faults::Fault;
 use fingerprints::Book;
 use proposals::Proposal;
 use proposals::Signers;
@@ -190,6 +200,50 @@ pub extern "C" fn guvrendik_judge_plan(r: Register, p: Plan) -> PlanAnswer
     ensures { λ y. ⌜ y ≡ planAnswer (planned r p) ⌝ }
 {
     let verdict = plans::plan(r, p);
+    let outcome = verdict.outcome;
+    PlanAnswer {
+        accepted: answers::accepted(outcome),
+        refusal: answers::refusal(outcome),
+        position: verdict.position,
+        list: answers::judgements(verdict),
+        count: verdict.count,
+    }
+}
+
+// Whether the register that lent bytes hold is sound.
+#[no_mangle]
+pub extern "C" fn guvrendik_sound_lent(bytes: &[u8]) -> Soundness
+    ensures { λ y. ⌜ y ≡ soundness (sound (registerIn (now (bytes .entry)))) ⌝ }
+{
+    Soundness {
+        sound: answers::yes(lending::is_sound(bytes)),
+    }
+}
+
+// The gate for an action, by the register that lent bytes hold.
+#[no_mangle]
+pub extern "C" fn guvrendik_gate_lent(bytes: &[u8], a: Action) -> GateAnswer
+    ensures { λ y. ⌜ y ≡ gateAnswer (gated (registerIn (now (bytes .entry))) a) ⌝ }
+{
+    let verdict = lending::gate(bytes, a);
+    let decided = verdict.decision;
+    let violated = verdict.violations;
+    let hops = verdict.hops;
+    GateAnswer {
+        decision: answers::decision(decided),
+        refusal: answers::stop(decided),
+        violations: answers::violations(violated),
+        count: violated.count,
+        hops,
+    }
+}
+
+// The gate for a plan, by the register that lent bytes hold.
+#[no_mangle]
+pub extern "C" fn guvrendik_judge_plan_lent(bytes: &[u8], p: Plan) -> PlanAnswer
+    ensures { λ y. ⌜ y ≡ planAnswer (planned (registerIn (now (bytes .entry))) p) ⌝ }
+{
+    let verdict = lending::plan(bytes, p);
     let outcome = verdict.outcome;
     PlanAnswer {
         accepted: answers::accepted(outcome),
@@ -409,6 +463,67 @@ pub extern "C" fn guvrendik_fetch(
     }
 }
 
+// Who may make a use at a moment.
+#[no_mangle]
+pub extern "C" fn guvrendik_who(r: Register, usage: Usage, moment: u64) -> HoldersAnswer
+    ensures { λ y. ⌜ y ≡ holdersAnswer (whoHeld r usage moment) ⌝ }
+{
+    let answer = reason_finding::who(r, usage, moment);
+    let ids = answer.ids;
+    let outcome = answer.outcome;
+    HoldersAnswer {
+        accepted: answers::accepted(outcome),
+        refusal: answers::refusal(outcome),
+        ids,
+        count: answer.count,
+    }
+}
+
+// The cover table of the actor at the moment.
+#[no_mangle]
+pub extern "C" fn guvrendik_cover_table(r: Register, actor: u32, moment: u64) -> TableAnswer
+    ensures { λ y. ⌜ y ≡ tableAnswer (tableShown r actor moment) ⌝ }
+{
+    let shown = table_showing::cover_table(r, actor, moment);
+    let hops = shown.hops;
+    let states = shown.states;
+    let own = shown.own;
+    let owners = shown.owners;
+    let outcome = shown.outcome;
+    TableAnswer {
+        accepted: answers::accepted(outcome),
+        refusal: answers::refusal(outcome),
+        owner: shown.owner,
+        hops,
+        states,
+        own,
+        owners,
+    }
+}
+
+// Why an actor may make a use at a moment or may not.
+#[no_mangle]
+pub extern "C" fn guvrendik_why_use(
+    r: Register,
+    actor: u32,
+    usage: Usage,
+    moment: u64,
+) -> UseReasonAnswer
+    ensures { λ y. ⌜ y ≡ useReasonAnswer (useToldOf (whyUse r actor usage moment)) ⌝ }
+{
+    let answer = reason_finding::why_use(r, actor, usage, moment);
+    let own = answer.actor;
+    let owners = answer.owners;
+    let outcome = answer.outcome;
+    UseReasonAnswer {
+        accepted: answers::accepted(outcome),
+        refusal: answers::refusal(outcome),
+        actor: own,
+        owner: answer.owner,
+        owners,
+    }
+}
+
 // Puts what a refusal's number says into the buffer.
 #[no_mangle]
 pub extern "C" fn guvrendik_refusal_text(number: u32, buffer: &mut [u8]) -> WrittenAnswer
@@ -443,6 +558,22 @@ pub extern "C" fn guvrendik_flag_name(flag: u32, buffer: &mut [u8]) -> WrittenAn
     ensures buffer { λ _. ⌜ now (buffer .exit) ≡ put 0 (flagName flag) (now (buffer .entry)) ⌝ }
 {
     answers::written(words::flag_name(flag, buffer))
+}
+
+// The first fault of a register.
+#[no_mangle]
+pub extern "C" fn guvrendik_why_unsound(r: Register) -> Fault
+    ensures { λ y. ⌜ y ≡ faultOf r ⌝ }
+{
+    fault_finding::why_unsound(r)
+}
+
+// The first fault of a text that is to be a register.
+#[no_mangle]
+pub extern "C" fn guvrendik_why_unread(text: &[u8]) -> Fault
+    ensures { λ y. ⌜ y ≡ whyUnread (now (text .entry)) ⌝ }
+{
+    fault_finding::why_unread(text)
 }
 
 // The version of these calls.

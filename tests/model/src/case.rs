@@ -11,6 +11,7 @@ use std::ops::RangeInclusive;
 /// A call. Those about a register are made on the script's register as it stands.
 #[derive(Clone, Debug, PartialEq, Eq)]
 pub enum Call {
+    /// And the first fault.
     Sound,
     /// Of the script's version, actors and resources with the claims of this table.
     SoundTable(Vec<Claim>),
@@ -42,6 +43,7 @@ pub enum Call {
         outer: Vec<u8>,
         inner: Vec<u8>,
     },
+    /// And the text's first fault.
     ReadRegister(Vec<u8>),
     /// Into a buffer of `room` bytes, each `fill`.
     WriteRegister {
@@ -85,6 +87,15 @@ pub enum Call {
         question: Box<Question>,
         proposal: Proposal,
     },
+    Who {
+        usage: Usage,
+        moment: u64,
+    },
+    WhyUse {
+        actor: u32,
+        usage: Usage,
+        moment: u64,
+    },
 }
 
 /// Calls in order, on a register where one is given.
@@ -94,7 +105,7 @@ pub struct Script {
     pub calls: Vec<Call>,
 }
 
-pub const CALLS: usize = 20;
+pub const CALLS: usize = 22;
 
 /// The calls that withdraw claims, by `Call::number`.
 pub const WITHDRAWALS: [usize; 3] = [2, 12, 13];
@@ -104,7 +115,7 @@ pub const KINDS: RangeInclusive<u32> = 1..=5;
 
 /// By `Call::number`: the name, and the outcomes that a run must meet.
 pub const NAMES: [(&str, &[Outcome]); CALLS] = [
-    ("sound", &[YES, NO]),
+    ("sound", &[YES, 2, 3, 4, 6, 7, 8, 9, 10, 12, 13, 14, 15, 16, 31, 32, 33]),
     ("grant", &[YES, 1, 2, 3, 4, 5, 6, 7, 8, 9, 10, 11, 12, 13, 14, 15, 16]),
     ("revoke", &[YES, 1, 3, 17, 18]),
     ("gate", &[YES, 1, 2, 3, violation(1), violation(2), violation(3), violation(4), violation(5)]),
@@ -127,6 +138,8 @@ pub const NAMES: [(&str, &[Outcome]); CALLS] = [
     ("fetch", &[YES, 1, 30, 2, 3, 27, 28]),
     ("propose", &[YES, GRANT, 1, 2, 3, 26]),
     ("check_proposal", &[YES, NO, 1, 2, 3]),
+    ("who", &[YES, NO, 1, 2]),
+    ("why_use", &[1, 2, 3, reason(1), reason(2), reason(3), reason(4), reason(5)]),
 ];
 
 /// What an answer comes to: a refusal's number, or one of those below.
@@ -147,6 +160,11 @@ pub const fn judgement(decision: u32) -> Outcome {
     200 + decision
 }
 
+/// The actor's reason is of this kind.
+pub const fn reason(kind: u32) -> Outcome {
+    300 + kind
+}
+
 pub fn outcome_name(outcome: Outcome) -> String {
     match outcome {
         YES => "yes".to_owned(),
@@ -154,6 +172,7 @@ pub fn outcome_name(outcome: Outcome) -> String {
         GRANT => "grant".to_owned(),
         1..=97 => format!("refusal {outcome}"),
         100..=199 => format!("violation {}", outcome - 100),
+        300.. => format!("reason {}", outcome - 300),
         _ => format!("judgement {}", outcome - 200),
     }
 }
@@ -202,6 +221,8 @@ impl Call {
             Call::Fetch { .. } => 17,
             Call::Propose(_) => 18,
             Call::CheckProposal { .. } => 19,
+            Call::Who { .. } => 20,
+            Call::WhyUse { .. } => 21,
         }
     }
 
@@ -276,26 +297,38 @@ impl Call {
                 put_question(question, out);
                 proposal.put(out);
             }),
+            Call::Who { usage, moment } => put_request(out, Request::Who, |out| {
+                usage.put(out);
+                moment.put(out);
+            }),
+            Call::WhyUse { actor, usage, moment } => put_request(out, Request::WhyUse, |out| {
+                actor.put(out);
+                usage.put(out);
+                moment.put(out);
+            }),
         }
     }
 
     pub fn answer_size(&self) -> usize {
         MARKS
             + match self {
-                Call::Sound | Call::SoundTable(_) => size_of::<Soundness>(),
+                Call::Sound => size_of::<Soundness>() + size_of::<FirstFault>(),
+                Call::SoundTable(_) => size_of::<Soundness>(),
                 Call::Grant { .. } => size_of::<Granted>(),
                 Call::Revoke { .. } | Call::ClearResource { .. } | Call::ClearExpired { .. } => size_of::<Revoked>(),
-                Call::Gate(_) => 2 * size_of::<Verdict>(),
+                Call::Gate(_) => 2 * size_of::<Verdict>() + size_of::<CoverTable>(),
                 Call::Plan(_) => 2 * size_of::<PlanVerdict>(),
                 Call::PlanText(_) => size_of::<PlanTextVerdict>(),
                 Call::Contains { .. } => size_of::<Containment>(),
-                Call::ReadRegister(_) => size_of::<RegisterRead>(),
+                Call::ReadRegister(_) => size_of::<RegisterRead>() + size_of::<FirstFault>(),
                 Call::ReadAction(_) => size_of::<ActionRead>(),
                 Call::ReadJson { .. } => size_of::<JsonRead>(),
                 Call::Attach { .. } => size_of::<Attached>(),
                 Call::Fetch { .. } => size_of::<Fetched>(),
                 Call::Propose(_) => size_of::<Proposed>(),
                 Call::CheckProposal { .. } => size_of::<Checked>(),
+                Call::Who { .. } => size_of::<Holders>(),
+                Call::WhyUse { .. } => size_of::<UseReason>(),
                 Call::WriteRegister { room, .. } | Call::VerdictText { room, .. } | Call::WriteJson { room, .. } => {
                     size_of::<Written>() + room
                 }
@@ -308,9 +341,10 @@ impl Call {
         0u32.put(out);
         match self {
             Call::Sound => {
-                let sound = model.sound(state);
-                u32::from(sound).put(out);
-                yes_or_no(sound)
+                u32::from(model.sound(state)).put(out);
+                let fault = model.why_unsound(state);
+                fault.put(out);
+                fault.why
             }
             Call::SoundTable(claims) => {
                 let sound = model.sound_table(claims, state.version, &state.actors, &state.resources);
@@ -348,6 +382,7 @@ impl Call {
                 let verdict = model.gate(state, action);
                 verdict.put(out);
                 model.plain_gate(state, action).put(out);
+                model.cover_table(state, action.actor, action.now).put(out);
                 match verdict.decision {
                     PERMITTED => YES,
                     REFUSED => violation(verdict.violations[0].kind),
@@ -371,6 +406,7 @@ impl Call {
                 read.put(out);
                 put_result(result.map_err(|unread| unread.refusal), out);
                 result.err().map_or(0, |unread| unread.line).put(out);
+                model.why_unread(text).put(out);
                 outcome(result.map_err(|unread| unread.refusal))
             }
             Call::ReadAction(text) => {
@@ -424,6 +460,22 @@ impl Call {
                     _ => checked.refusal,
                 }
             }
+            Call::Who { usage, moment } => {
+                let holders = model.who(state, *usage, *moment);
+                holders.put(out);
+                match (holders.accepted, holders.count) {
+                    (1, 0) => NO,
+                    _ => holders.refusal,
+                }
+            }
+            Call::WhyUse { actor, usage, moment } => {
+                let told = model.why_use(state, *actor, *usage, *moment);
+                told.put(out);
+                match told.accepted {
+                    1 => reason(told.actor.kind),
+                    _ => told.refusal,
+                }
+            }
         }
     }
 
@@ -443,22 +495,28 @@ impl Call {
         let from = &mut answer;
         let marks = u32::take(from);
         let mut fields = match self {
-            Call::Sound | Call::SoundTable(_) => fields(&Soundness::take(from)),
+            Call::Sound => both("fault", fields(&Soundness::take(from)), fields(&FirstFault::take(from))),
+            Call::SoundTable(_) => fields(&Soundness::take(from)),
             Call::Grant { .. } => fields(&Granted::take(from)),
             Call::Revoke { .. } | Call::ClearResource { .. } | Call::ClearExpired { .. } => {
                 fields(&Revoked::take(from))
             }
-            Call::Gate(_) => both("plain", fields(&Verdict::take(from)), fields(&Verdict::take(from))),
+            Call::Gate(_) => {
+                let verdicts = both("plain", fields(&Verdict::take(from)), fields(&Verdict::take(from)));
+                both("table", verdicts, fields(&CoverTable::take(from)))
+            }
             Call::Plan(_) => both("plain", fields(&PlanVerdict::take(from)), fields(&PlanVerdict::take(from))),
             Call::PlanText(_) => fields(&PlanTextVerdict::take(from)),
             Call::Contains { .. } => fields(&Containment::take(from)),
-            Call::ReadRegister(_) => fields(&RegisterRead::take(from)),
+            Call::ReadRegister(_) => both("fault", fields(&RegisterRead::take(from)), fields(&FirstFault::take(from))),
             Call::ReadAction(_) => fields(&ActionRead::take(from)),
             Call::ReadJson { .. } => fields(&JsonRead::take(from)),
             Call::Attach { .. } => fields(&Attached::take(from)),
             Call::Fetch { .. } => fields(&Fetched::take(from)),
             Call::Propose(_) => fields(&Proposed::take(from)),
             Call::CheckProposal { .. } => fields(&Checked::take(from)),
+            Call::Who { .. } => fields(&Holders::take(from)),
+            Call::WhyUse { .. } => fields(&UseReason::take(from)),
             Call::WriteRegister { .. } | Call::VerdictText { .. } | Call::WriteJson { .. } => {
                 fields(&Written::take(from))
             }

@@ -52,9 +52,11 @@ pub struct Tally {
     pub pairs_on_one_chain: u64,
     /// How often a call of a pair had these outcomes, when it came first and when it came second.
     pub pair_outcomes: BTreeMap<(Outcome, Outcome), u64>,
-    /// How many registers were alike to an action's actor, and how many of these had a used number whose record differs.
+    /// How many registers were alike to an action's actor, how many of these had a used number whose record differs, and how many of these
+    /// came with a book that has an entry of it.
     pub alike: u64,
     pub aimed: u64,
+    pub entered: u64,
     /// How many calls were made on a register of each version; and of the grants among them, how often each outcome was met.
     pub versions: BTreeMap<u64, u64>,
     pub grants: BTreeMap<(u64, Outcome), u64>,
@@ -260,10 +262,17 @@ impl<'c> Comparison<'c> {
             let known = findings.len();
             self.tally.alike += 1;
             self.tally.aimed += u64::from(guess.aims());
+            self.tally.entered += u64::from(guess.aims() && guess.enters());
             let scripts = guess.scripts();
             let mut told = [Vec::new(), Vec::new()];
+            // Of the gate, which comes first, the verdicts alone: the table behind them shows the register whole.
+            let verdicts = size_of::<u32>() + 2 * size_of::<Verdict>();
             for (script, answers) in scripts.iter().zip(&mut told) {
-                if let Some(difference) = self.ask_seeing(script, |answer| answers.push(answer.to_vec()))? {
+                let seeing = |answer: &[u8]| {
+                    let seen = if answers.is_empty() { verdicts } else { answer.len() };
+                    answers.push(answer[..seen].to_vec());
+                };
+                if let Some(difference) = self.ask_seeing(script, seeing)? {
                     findings.push(Finding { script: script.clone(), difference });
                 }
             }
@@ -448,7 +457,8 @@ impl<'c> Comparison<'c> {
         const MEASURED: usize = STACK_ORDER.len();
         let mut most = [0; MEASURED];
         for shape in [SMALL, MEDIUM, FULL].repeat(8) {
-            let answer = self.special(Request::Stack, MEASURED * size_of::<u64>(), |out| put_input(random, shape, out))?;
+            let answer =
+                self.special(Request::Stack, MEASURED * size_of::<u64>(), |out| put_input(random, shape, out))?;
             let used = <[u64; MEASURED]>::take(&mut &answer[..]);
             most = std::array::from_fn(|call| most[call].max(used[call]));
         }
@@ -621,7 +631,8 @@ impl Tally {
         self.summarise_kinds();
         self.summarise_pairs();
         println!("{:>7} registers that look alike, {} with a used number whose record differs", self.alike, self.aimed);
-        self.count(10 * self.aimed >= self.alike && self.aimed > 0);
+        println!("{:>7} of these with a book that has an entry of it", self.entered);
+        self.count(10 * self.aimed >= self.alike && 10 * self.entered >= self.aimed && self.entered > 0);
     }
 
     /// Prints how many calls were on a register of each version, and counts that 0 to 3 were met, and in 1 and 2 each refusal that the version

@@ -56,6 +56,39 @@ pub unsafe extern "C" fn guvrendik_sound_table(
     Soundness { sound: MODEL.sound_table(claims, version, &actors, &resources).into() }
 }
 
+/// The register that lent bytes hold: that of version 0 where they are not as many as it has.
+///
+/// # Safety
+/// As the header says: `bytes` points to `len` bytes, or `len` is 0.
+unsafe fn held(bytes: *const u8, len: usize) -> Register {
+    if len == std::mem::size_of::<Register>() {
+        bytes.cast::<Register>().read_unaligned()
+    } else {
+        std::mem::zeroed()
+    }
+}
+
+/// # Safety
+/// The pointer and length are good, as the header says.
+#[no_mangle]
+pub unsafe extern "C" fn guvrendik_sound_lent(bytes: *const u8, bytes_len: usize) -> Soundness {
+    guvrendik_sound(held(bytes, bytes_len))
+}
+
+/// # Safety
+/// The pointer and length are good, as the header says.
+#[no_mangle]
+pub unsafe extern "C" fn guvrendik_gate_lent(bytes: *const u8, bytes_len: usize, action: Action) -> Verdict {
+    guvrendik_gate(held(bytes, bytes_len), action)
+}
+
+/// # Safety
+/// The pointer and length are good, as the header says.
+#[no_mangle]
+pub unsafe extern "C" fn guvrendik_judge_plan_lent(bytes: *const u8, bytes_len: usize, plan: Plan) -> PlanVerdict {
+    guvrendik_judge_plan(held(bytes, bytes_len), plan)
+}
+
 #[no_mangle]
 pub extern "C" fn guvrendik_grant(register: Register, claim: Claim, now: u64) -> Granted {
     let mut answer = Granted { state: register, accepted: 1, refusal: 0 };
@@ -102,6 +135,11 @@ pub extern "C" fn guvrendik_judge_plan(register: Register, plan: Plan) -> PlanVe
 #[no_mangle]
 pub extern "C" fn guvrendik_plain_gate(register: Register, action: Action) -> Verdict {
     MODEL.plain_gate(&register, &action)
+}
+
+#[no_mangle]
+pub extern "C" fn guvrendik_cover_table(register: Register, actor: u32, now: u64) -> CoverTable {
+    MODEL.cover_table(&register, actor, now)
 }
 
 #[no_mangle]
@@ -271,6 +309,28 @@ pub extern "C" fn guvrendik_check_proposal(
 }
 
 #[no_mangle]
+pub extern "C" fn guvrendik_why_unsound(register: Register) -> FirstFault {
+    MODEL.why_unsound(&register)
+}
+
+/// # Safety
+/// The pointer and length are good, as the header says.
+#[no_mangle]
+pub unsafe extern "C" fn guvrendik_why_unread(text: *const u8, text_len: usize) -> FirstFault {
+    MODEL.why_unread(lent(text, text_len))
+}
+
+#[no_mangle]
+pub extern "C" fn guvrendik_who(register: Register, usage: Usage, moment: u64) -> Holders {
+    MODEL.who(&register, usage, moment)
+}
+
+#[no_mangle]
+pub extern "C" fn guvrendik_why_use(register: Register, actor: u32, usage: Usage, moment: u64) -> UseReason {
+    MODEL.why_use(&register, actor, usage, moment)
+}
+
+#[no_mangle]
 pub extern "C" fn guvrendik_version() -> VersionNumbers {
-    VersionNumbers { major: 3, minor: 4, patch: 0 }
+    VersionNumbers { major: 3, minor: 5, patch: 0 }
 }

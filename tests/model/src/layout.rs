@@ -46,11 +46,16 @@ layout! {
     "proposal" Proposal { kind, claim }
     "proposed" Proposed { proposal, accepted, refusal }
     "checked" Checked { answer, refusal }
+    "table" CoverTable { accepted, refusal, owner, hops, states, own, owners }
     "fingerprint" Fingerprint { bytes }
     "entry" Entry { resource, fingerprint }
     "book" Book { entries, count }
     "attached" Attached { book, accepted, refusal }
     "fetched" Fetched { fingerprint, accepted, refusal }
+    "fault" FirstFault { sound, why, list, id, place, line }
+    "holders" Holders { accepted, refusal, ids, count }
+    "reason" Reason { kind, count, chain, keeper, ended }
+    "use_reason" UseReason { accepted, refusal, actor, owner, owners }
 }
 
 /// The first line where the two differ, as (the header's, the model's).

@@ -27,6 +27,8 @@ pub enum Request {
     Fetch,
     Propose,
     CheckProposal,
+    Who,
+    WhyUse,
     Boundary,
     Threads,
     Stack,
@@ -46,7 +48,7 @@ pub fn put_request(out: &mut Vec<u8>, request: Request, put: impl FnOnce(&mut Ve
 }
 
 /// The calls, in the order in which the driver answers how much stack each of them took.
-pub const STACK_ORDER: [&str; 22] = [
+pub const STACK_ORDER: [&str; 27] = [
     "sound",
     "grant",
     "revoke",
@@ -69,4 +71,9 @@ pub const STACK_ORDER: [&str; 22] = [
     "fetch",
     "propose",
     "check_proposal",
+    "why_unsound",
+    "why_unread",
+    "who",
+    "cover_table",
+    "why_use",
 ];

@@ -80,7 +80,8 @@ fn write_book(book: &Book, out: &mut String) {
 }
 
 fn fingerprint(parts: &Parts) -> Result<Fingerprint, String> {
-    let bytes = unquoted(value(parts, "fingerprint")?)?.try_into().map_err(|_| "a fingerprint has 32 bytes".to_owned())?;
+    let bytes =
+        unquoted(value(parts, "fingerprint")?)?.try_into().map_err(|_| "a fingerprint has 32 bytes".to_owned())?;
     Ok(Fingerprint { bytes })
 }
 
@@ -154,7 +155,9 @@ fn write_call(call: &Call, out: &mut String) {
             let count = book.count;
             line(
                 out,
-                format_args!("call {name} actor={actor} resource={resource} now={now} fingerprint={bytes} count={count}"),
+                format_args!(
+                    "call {name} actor={actor} resource={resource} now={now} fingerprint={bytes} count={count}"
+                ),
             );
             write_book(book, out);
         }
@@ -166,6 +169,13 @@ fn write_call(call: &Call, out: &mut String) {
         Call::CheckProposal { question, proposal } => {
             let claim = claim_parts(&proposal.claim);
             line(out, format_args!("call {name} {} proposes={} {claim}", question_parts(question), proposal.kind));
+        }
+        Call::WhyUse { actor, usage, moment } => line(
+            out,
+            format_args!("call {name} actor={actor} used={} right={} moment={moment}", usage.resource, usage.right),
+        ),
+        Call::Who { usage, moment } => {
+            line(out, format_args!("call {name} used={} right={} moment={moment}", usage.resource, usage.right))
         }
     }
 }
@@ -426,6 +436,15 @@ fn call(name: &str, parts: &Parts) -> Result<Call, String> {
         "check_proposal" => Call::CheckProposal {
             question: question(parts)?,
             proposal: Proposal { kind: number(parts, "proposes")?, claim: claim(parts)? },
+        },
+        "why_use" => Call::WhyUse {
+            actor: number(parts, "actor")?,
+            usage: Usage { resource: number(parts, "used")?, right: number(parts, "right")? },
+            moment: number(parts, "moment")?,
+        },
+        "who" => Call::Who {
+            usage: Usage { resource: number(parts, "used")?, right: number(parts, "right")? },
+            moment: number(parts, "moment")?,
         },
         _ => return Err(format!("unknown call: {name}")),
     })

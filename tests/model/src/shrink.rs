@@ -145,7 +145,7 @@ fn call_steps(call: &Call) -> usize {
         Call::WriteJson { action, id, .. } => action_steps(action) + id.len() + 2,
         Call::SoundTable(claims) => claims.len(),
         Call::Sound | Call::Grant { .. } | Call::Revoke { .. } => 0,
-        Call::ClearResource { .. } | Call::ClearExpired { .. } => 0,
+        Call::ClearResource { .. } | Call::ClearExpired { .. } | Call::Who { .. } | Call::WhyUse { .. } => 0,
         Call::WriteRegister { .. } => 1,
         Call::Attach { book, .. } | Call::Fetch { book, .. } => book.count.min(PLACES) + 1,
         Call::Propose(question) | Call::CheckProposal { question, .. } => question.signers.count.min(SIGNERS) + 1,
@@ -243,7 +243,7 @@ fn step_call(call: &mut Call, mut step: usize) {
             }
         }
         Call::Sound | Call::Grant { .. } | Call::Revoke { .. } => (),
-        Call::ClearResource { .. } | Call::ClearExpired { .. } => (),
+        Call::ClearResource { .. } | Call::ClearExpired { .. } | Call::Who { .. } | Call::WhyUse { .. } => (),
     }
 }
 

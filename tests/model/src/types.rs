@@ -381,6 +381,52 @@ pub struct Checked {
     pub refusal: u32,
 }
 
+/// Who may make a use, in register order.
+#[repr(C)]
+#[derive(Clone, Debug, PartialEq, Eq)]
+pub struct Holders {
+    pub accepted: u32,
+    pub refusal: u32,
+    pub ids: [u32; ACTORS],
+    pub count: usize,
+}
+
+impl Holders {
+    pub const NONE: Self = Holders { accepted: 0, refusal: 0, ids: [0; ACTORS], count: 0 };
+}
+
+/// The claims from one up to its root, at most.
+pub const CHAIN: usize = HOPS + 1;
+
+#[repr(C)]
+#[derive(Clone, Copy, Debug, PartialEq, Eq)]
+pub struct Reason {
+    pub kind: u32,
+    pub count: u32,
+    pub chain: [u32; CHAIN],
+    pub keeper: u32,
+    pub ended: u32,
+}
+
+impl Zero for Reason {
+    const ZERO: Self = Reason { kind: 0, count: 0, chain: [0; CHAIN], keeper: 0, ended: 0 };
+}
+
+/// The reason of an actor and, of a machine with an owner, his.
+#[repr(C)]
+#[derive(Clone, Copy, Debug, PartialEq, Eq)]
+pub struct UseReason {
+    pub accepted: u32,
+    pub refusal: u32,
+    pub actor: Reason,
+    pub owner: u32,
+    pub owners: Reason,
+}
+
+impl Zero for UseReason {
+    const ZERO: Self = UseReason { accepted: 0, refusal: 0, actor: Reason::ZERO, owner: 0, owners: Reason::ZERO };
+}
+
 #[repr(C)]
 #[derive(Clone, Copy, Debug, PartialEq, Eq)]
 pub struct Fingerprint {
@@ -427,4 +473,61 @@ pub struct Fetched {
     pub fingerprint: Fingerprint,
     pub accepted: u32,
     pub refusal: u32,
+}
+
+/// The first fault of a register or of a text.
+#[repr(C)]
+#[derive(Clone, Copy, Debug, PartialEq, Eq)]
+pub struct FirstFault {
+    pub sound: u32,
+    pub why: u32,
+    pub list: u32,
+    pub id: u32,
+    pub place: usize,
+    pub line: usize,
+}
+
+impl FirstFault {
+    pub const NONE: Self = FirstFault { sound: 1, why: 0, list: 0, id: 0, place: 0, line: 0 };
+
+    pub fn of(why: crate::model::Refusal, list: u32, place: usize, id: u32) -> Self {
+        FirstFault { sound: 0, why: why as u32, list, id, place, line: 0 }
+    }
+}
+
+/// What is said of a claim: it lives, or the first of these that holds.
+pub const LIVES: u32 = 1;
+pub const WEIGHTLESS: u32 = 2;
+pub const EXPIRED: u32 = 3;
+pub const SOURCE_DEAD: u32 = 4;
+
+/// What a cell holds besides the place of a claim.
+pub const CELL_PUBLIC: u32 = 256;
+pub const CELL_NOTHING: u32 = 257;
+
+pub const CELLS: usize = RESOURCES * (RIGHT_MAX as usize + 1);
+
+/// The cover table of an actor, by places of claims and of cells.
+#[repr(C)]
+#[derive(Clone, Debug, PartialEq, Eq)]
+pub struct CoverTable {
+    pub accepted: u32,
+    pub refusal: u32,
+    pub owner: u32,
+    pub hops: [u32; CLAIMS],
+    pub states: [u32; CLAIMS],
+    pub own: [u32; CELLS],
+    pub owners: [u32; CELLS],
+}
+
+impl CoverTable {
+    pub const EMPTY: Self = CoverTable {
+        accepted: 0,
+        refusal: 0,
+        owner: 0,
+        hops: [0; CLAIMS],
+        states: [0; CLAIMS],
+        own: [CELL_NOTHING; CELLS],
+        owners: [CELL_NOTHING; CELLS],
+    };
 }

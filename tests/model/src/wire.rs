@@ -94,10 +94,15 @@ structs! {
     Book { entries, count }
     Attached { book, accepted, refusal }
     Fetched { fingerprint, accepted, refusal }
+    Holders { accepted, refusal, ids, count }
+    CoverTable { accepted, refusal, owner, hops, states, own, owners }
+    Reason { kind, count, chain, keeper, ended }
+    UseReason { accepted, refusal, actor, owner, owners }
     Signers { list, count }
     Proposal { kind, claim }
     Proposed { proposal, accepted, refusal }
     Checked { answer, refusal }
+    FirstFault { sound, why, list, id, place, line }
 }
 
 #[cfg(test)]

@@ -10,7 +10,7 @@ use Rattle.lists.specs.Lists.{All}
 use Rattle.register.specs.Limits.{actorLimit, resourceLimit, claimLimit, pathLimit}
 use Rattle.register.specs.Register.{Shaped}
 use Rattle.coverage.specs.LaidLaws.{laid-zeros}
-use Rattle.gate.proofs.Assembling.{verdict-unsound, verdict-stopped, verdict-judged, both-told}
+use Rattle.gate.specs.Assembling.{verdict-unsound, verdict-stopped, verdict-judged, both-told}
 use Rattle.gate.proofs.gate_by.Statement.{statement}
 use Rattle.gate.proofs.gate_by.Tie as tie
 

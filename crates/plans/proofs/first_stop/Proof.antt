@@ -2,7 +2,7 @@
 -- the number of actions left. Assumes nothing.
 use Prim.Native.Nat.{_-_}
 use Rattle.lists.specs.Loops.{length-mapped}
-use Rattle.plans.proofs.Stopping.{Stopping, stopping-start, stopping-here, stopping-next, stopping-done}
+use Rattle.plans.specs.Stopping.{Stopping, stopping-start, stopping-here, stopping-next, stopping-done}
 use borrow.Author.Needs.{needs}
 use Rattle.plans.proofs.first_stop.Statement.{statement}
 use Rattle.plans.proofs.first_stop.Tie as tie

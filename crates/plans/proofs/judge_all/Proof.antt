@@ -7,7 +7,7 @@ use Rattle.gate.specs.Judged.{lentOf}
 use Rattle.gate.specs.Laws.{judged-most}
 use Rattle.plans.specs.Judgements.{judgedAs, judgementsBy}
 use Rattle.plans.specs.Holding.{Holding, holding-start}
-use Rattle.plans.proofs.Judging.{judging-next, judging-done}
+use Rattle.plans.specs.Judging.{judging-next, judging-done}
 use borrow.Author.Needs.{needs}
 use Rattle.plans.proofs.judge_all.Statement.{statement}
 use Rattle.plans.proofs.judge_all.Tie as tie

@@ -12,8 +12,8 @@ use Rattle.gate_rules.specs.Plans.{haltOf}
 use Rattle.gate.specs.Sheets.{sheeted}
 use Rattle.gate.specs.Laws.{found-sound, lent-told}
 use Rattle.plans.specs.StopsLaws.{told-runs}
-use Rattle.plans.proofs.Stopping.{stop-unsound, stop-many, stop-found, found-halts}
-use Rattle.plans.proofs.Judging.{planned-lent, planned-sheeted}
+use Rattle.plans.specs.Stopping.{stop-unsound, stop-many, stop-found, found-halts}
+use Rattle.plans.specs.Judging.{planned-lent, planned-sheeted}
 use borrow.Author.Needs.{needs}
 use Rattle.plans.proofs.plan.Statement.{statement}
 use Rattle.plans.proofs.plan.Tie as tie

@@ -170,46 +170,47 @@ fn append_child(
     true
 }
 
-pub const DEFECTS: &[(&str, Defect)] = &[
-    ("65 actors", |register, _| {
+/// Each with the numbers that its first fault may have: another record may be spoiled with the one that is changed, and stand before it.
+pub const DEFECTS: &[(&str, &[u32], Defect)] = &[
+    ("65 actors", &[2], |register, _| {
         register.actors.count = ACTORS + 1;
         true
     }),
-    ("actors without number", |register, _| {
+    ("actors without number", &[2], |register, _| {
         register.actors.count = usize::MAX;
         true
     }),
-    ("65 resources", |register, _| {
+    ("65 resources", &[2], |register, _| {
         register.resources.count = RESOURCES + 1;
         true
     }),
-    ("resources wrap to none", |register, _| {
+    ("resources wrap to none", &[2], |register, _| {
         register.resources.count = 1 << 32;
         true
     }),
-    ("257 claims", |register, _| {
+    ("257 claims", &[2], |register, _| {
         register.claims.count = CLAIMS + 1;
         true
     }),
-    ("claims wrap to none", |register, _| {
+    ("claims wrap to none", &[2], |register, _| {
         register.claims.count = 1 << 32;
         true
     }),
-    ("version 0", |register, _| versioned(register, 0)),
-    ("version 3", |register, _| versioned(register, 3)),
-    ("version wraps", |register, _| versioned(register, register.version + (1 << 32))),
-    ("version without number", |register, _| versioned(register, u64::MAX)),
-    ("actor id 0", |register, random| actor_of(register, random, MACHINE, |actor| actor.id = 0)),
-    ("actor id 65536", |register, random| actor_of(register, random, MACHINE, |actor| actor.id = 65_536)),
-    ("actor id wraps", |register, random| actor(register, random, |actor| actor.id += 65_536)),
-    ("actor id doubled", |register, random| double(&mut register.actors, random, |actor| &mut actor.id)),
-    ("actor kind 0", |register, random| actor(register, random, |actor| actor.kind = 0)),
-    ("actor kind 3", |register, random| actor(register, random, |actor| actor.kind = 3)),
-    ("actor kind wraps", |register, random| actor(register, random, |actor| actor.kind += 256)),
-    ("human with itself as owner", |register, random| {
+    ("version 0", &[2], |register, _| versioned(register, 0)),
+    ("version 3", &[2], |register, _| versioned(register, 3)),
+    ("version wraps", &[2], |register, _| versioned(register, register.version + (1 << 32))),
+    ("version without number", &[2], |register, _| versioned(register, u64::MAX)),
+    ("actor id 0", &[2], |register, random| actor_of(register, random, MACHINE, |actor| actor.id = 0)),
+    ("actor id 65536", &[2], |register, random| actor_of(register, random, MACHINE, |actor| actor.id = 65_536)),
+    ("actor id wraps", &[2, 32], |register, random| actor(register, random, |actor| actor.id += 65_536)),
+    ("actor id doubled", &[31, 32], |register, random| double(&mut register.actors, random, |actor| &mut actor.id)),
+    ("actor kind 0", &[2, 32], |register, random| actor(register, random, |actor| actor.kind = 0)),
+    ("actor kind 3", &[2, 32], |register, random| actor(register, random, |actor| actor.kind = 3)),
+    ("actor kind wraps", &[2, 32], |register, random| actor(register, random, |actor| actor.kind += 256)),
+    ("human with itself as owner", &[32], |register, random| {
         actor_of(register, random, HUMAN, |actor| actor.owner = actor.id)
     }),
-    ("human with an owner", |register, random| {
+    ("human with an owner", &[32], |register, random| {
         let humans: Vec<u32> =
             standing(&register.actors).iter().filter(|actor| actor.kind == HUMAN).map(|actor| actor.id).collect();
         !humans.is_empty()
@@ -220,8 +221,10 @@ pub const DEFECTS: &[(&str, Defect)] = &[
                 |actor, random| actor.owner = *random.pick(&humans),
             )
     }),
-    ("machine owned by itself", |register, random| actor_of(register, random, MACHINE, |actor| actor.owner = actor.id)),
-    ("machine owned by a machine", |register, random| {
+    ("machine owned by itself", &[32], |register, random| {
+        actor_of(register, random, MACHINE, |actor| actor.owner = actor.id)
+    }),
+    ("machine owned by a machine", &[32], |register, random| {
         let machines: Vec<u32> =
             standing(&register.actors).iter().filter(|actor| actor.kind == MACHINE).map(|actor| actor.id).collect();
         !machines.is_empty()
@@ -232,11 +235,11 @@ pub const DEFECTS: &[(&str, Defect)] = &[
                 |actor, random| actor.owner = *random.pick(&machines),
             )
     }),
-    ("machine owned by nobody known", |register, random| {
+    ("machine owned by nobody known", &[32], |register, random| {
         let owner = absent(register, random);
         one(&mut register.actors, random, |actor| actor.kind == MACHINE, |actor, _| actor.owner = owner)
     }),
-    ("owner wraps to a human", |register, random| {
+    ("owner wraps to a human", &[2], |register, random| {
         one(
             &mut register.actors,
             random,
@@ -244,47 +247,51 @@ pub const DEFECTS: &[(&str, Defect)] = &[
             |actor, _| actor.owner += 65_536,
         )
     }),
-    ("owner 65536 for none", |register, random| {
+    ("owner 65536 for none", &[2], |register, random| {
         one(&mut register.actors, random, |actor| actor.owner == 0, |actor, _| actor.owner = 65_536)
     }),
-    ("resource id 0", |register, random| resource(register, random, |resource| resource.id = 0)),
-    ("resource id wraps", |register, random| resource(register, random, |resource| resource.id += 65_536)),
-    ("resource id doubled", |register, random| double(&mut register.resources, random, |resource| &mut resource.id)),
-    ("public 2", |register, random| resource(register, random, |resource| resource.is_public = 2)),
-    ("public wraps", |register, random| resource(register, random, |resource| resource.is_public += 256)),
-    ("keeper 0", |register, random| resource(register, random, |resource| resource.keeper = 0)),
-    ("keeper wraps", |register, random| resource(register, random, |resource| resource.keeper += 65_536)),
-    ("keeper nobody known", |register, random| {
+    ("resource id 0", &[2], |register, random| resource(register, random, |resource| resource.id = 0)),
+    ("resource id wraps", &[2], |register, random| resource(register, random, |resource| resource.id += 65_536)),
+    ("resource id doubled", &[31], |register, random| {
+        double(&mut register.resources, random, |resource| &mut resource.id)
+    }),
+    ("public 2", &[2], |register, random| resource(register, random, |resource| resource.is_public = 2)),
+    ("public wraps", &[2], |register, random| resource(register, random, |resource| resource.is_public += 256)),
+    ("keeper 0", &[2], |register, random| resource(register, random, |resource| resource.keeper = 0)),
+    ("keeper wraps", &[2], |register, random| resource(register, random, |resource| resource.keeper += 65_536)),
+    ("keeper nobody known", &[33], |register, random| {
         let keeper = absent(register, random);
         one(&mut register.resources, random, |_| true, |resource, _| resource.keeper = keeper)
     }),
-    ("keeper a machine", |register, random| {
+    ("keeper a machine", &[33], |register, random| {
         let Some(machine) = standing(&register.actors).iter().find(|actor| actor.kind == MACHINE).map(|actor| actor.id)
         else {
             return false;
         };
         one(&mut register.resources, random, |_| true, |resource, _| resource.keeper = machine)
     }),
-    ("path of 65 bytes", |register, random| resource(register, random, |resource| resource.len = PATH as u32 + 1)),
-    ("path without length", |register, random| resource(register, random, |resource| resource.len = u32::MAX)),
-    ("path length wraps", |register, random| resource(register, random, |resource| resource.len += 1 << 16)),
-    ("blank in a path", |register, random| byte(register, random, 0x20)),
-    ("DEL in a path", |register, random| byte(register, random, 0x7F)),
-    ("NUL in a path", |register, random| byte(register, random, 0)),
-    ("LF in a path", |register, random| byte(register, random, b'\n')),
-    ("high byte in a path", |register, random| byte(register, random, 0xA1)),
-    ("claim id 0", |register, random| claim(register, random, |claim| claim.id = 0)),
-    ("claim id wraps", |register, random| claim(register, random, |claim| claim.id += 65_536)),
-    ("claim id doubled", |register, random| double(&mut register.claims, random, |claim| &mut claim.id)),
-    ("parent wraps", |register, random| child(register, random, |claim, _| claim.parent += 65_536)),
-    ("parent 65536 for none", |register, random| {
+    ("path of 65 bytes", &[2], |register, random| {
+        resource(register, random, |resource| resource.len = PATH as u32 + 1)
+    }),
+    ("path without length", &[2], |register, random| resource(register, random, |resource| resource.len = u32::MAX)),
+    ("path length wraps", &[2], |register, random| resource(register, random, |resource| resource.len += 1 << 16)),
+    ("blank in a path", &[2], |register, random| byte(register, random, 0x20)),
+    ("DEL in a path", &[2], |register, random| byte(register, random, 0x7F)),
+    ("NUL in a path", &[2], |register, random| byte(register, random, 0)),
+    ("LF in a path", &[2], |register, random| byte(register, random, b'\n')),
+    ("high byte in a path", &[2], |register, random| byte(register, random, 0xA1)),
+    ("claim id 0", &[2], |register, random| claim(register, random, |claim| claim.id = 0)),
+    ("claim id wraps", &[2], |register, random| claim(register, random, |claim| claim.id += 65_536)),
+    ("claim id doubled", &[4, 9], |register, random| double(&mut register.claims, random, |claim| &mut claim.id)),
+    ("parent wraps", &[2], |register, random| child(register, random, |claim, _| claim.parent += 65_536)),
+    ("parent 65536 for none", &[2], |register, random| {
         one(&mut register.claims, random, |claim| claim.parent == 0, |claim, _| claim.parent = 65_536)
     }),
-    ("parent does not stand", |register, random| {
+    ("parent does not stand", &[9], |register, random| {
         let parent = absent(register, random);
         child(register, random, |claim, _| claim.parent = parent)
     }),
-    ("parent removed", |register, random| {
+    ("parent removed", &[9], |register, random| {
         let pairs = pairs(register, |_, _| true);
         if pairs.is_empty() {
             return false;
@@ -295,8 +302,8 @@ pub const DEFECTS: &[(&str, Defect)] = &[
         claims.count -= 1;
         true
     }),
-    ("parent is the claim", |register, random| child(register, random, |claim, _| claim.parent = claim.id)),
-    ("parent later in the list", |register, random| {
+    ("parent is the claim", &[9], |register, random| child(register, random, |claim, _| claim.parent = claim.id)),
+    ("parent later in the list", &[9], |register, random| {
         let pairs = pairs(register, |_, _| true);
         if pairs.is_empty() {
             return false;
@@ -305,33 +312,33 @@ pub const DEFECTS: &[(&str, Defect)] = &[
         register.claims.list.swap(at, parent);
         true
     }),
-    ("grantor 0", |register, random| claim(register, random, |claim| claim.grantor = 0)),
-    ("grantor wraps", |register, random| claim(register, random, |claim| claim.grantor += 65_536)),
-    ("grantor nobody known", |register, random| {
+    ("grantor 0", &[2], |register, random| claim(register, random, |claim| claim.grantor = 0)),
+    ("grantor wraps", &[2], |register, random| claim(register, random, |claim| claim.grantor += 65_536)),
+    ("grantor nobody known", &[3], |register, random| {
         let grantor = absent(register, random);
         one(&mut register.claims, random, |_| true, |claim, _| claim.grantor = grantor)
     }),
-    ("holder 0", |register, random| claim(register, random, |claim| claim.holder = 0)),
-    ("holder wraps", |register, random| claim(register, random, |claim| claim.holder += 65_536)),
-    ("holder nobody known", |register, random| {
+    ("holder 0", &[2], |register, random| claim(register, random, |claim| claim.holder = 0)),
+    ("holder wraps", &[2], |register, random| claim(register, random, |claim| claim.holder += 65_536)),
+    ("holder nobody known", &[3], |register, random| {
         let holder = absent(register, random);
         one(&mut register.claims, random, |_| true, |claim, _| claim.holder = holder)
     }),
-    ("resource 0", |register, random| claim(register, random, |claim| claim.resource = 0)),
-    ("resource wraps", |register, random| claim(register, random, |claim| claim.resource += 65_536)),
-    ("resource not known", |register, random| {
+    ("resource 0", &[2], |register, random| claim(register, random, |claim| claim.resource = 0)),
+    ("resource wraps", &[2], |register, random| claim(register, random, |claim| claim.resource += 65_536)),
+    ("resource not known", &[3], |register, random| {
         let resource = absent(register, random);
         one(&mut register.claims, random, |_| true, |claim, _| claim.resource = resource)
     }),
-    ("no rights", |register, random| claim(register, random, |claim| claim.rights = 0)),
-    ("right 17", |register, random| claim(register, random, |claim| claim.rights |= 1 << 17)),
-    ("weight 1001 at a root", |register, random| {
+    ("no rights", &[2], |register, random| claim(register, random, |claim| claim.rights = 0)),
+    ("right 17", &[2], |register, random| claim(register, random, |claim| claim.rights |= 1 << 17)),
+    ("weight 1001 at a root", &[2], |register, random| {
         one(&mut register.claims, random, |claim| claim.parent == 0, |claim, _| claim.weight = 1_001)
     }),
-    ("weight wraps", |register, random| claim(register, random, |claim| claim.weight += 65_536)),
-    ("expiry 2^32", |register, random| claim(register, random, |claim| claim.expiry = 1 << 32)),
-    ("expiry wraps", |register, random| claim(register, random, |claim| claim.expiry += 1 << 32)),
-    ("root not granted by the keeper", |register, random| {
+    ("weight wraps", &[2], |register, random| claim(register, random, |claim| claim.weight += 65_536)),
+    ("expiry 2^32", &[2], |register, random| claim(register, random, |claim| claim.expiry = 1 << 32)),
+    ("expiry wraps", &[2], |register, random| claim(register, random, |claim| claim.expiry += 1 << 32)),
+    ("root not granted by the keeper", &[6], |register, random| {
         let others: Vec<u32> =
             standing(&register.actors).iter().filter(|actor| actor.kind == HUMAN).map(|actor| actor.id).collect();
         let roots: Vec<usize> = (0..register.claims.count).filter(|&at| register.claims.list[at].parent == 0).collect();
@@ -342,7 +349,7 @@ pub const DEFECTS: &[(&str, Defect)] = &[
         root.grantor = *others.iter().find(|id| **id != root.grantor).expect("two humans");
         true
     }),
-    ("parent held by another", |register, random| {
+    ("parent held by another", &[10], |register, random| {
         let pairs = pairs(register, |claim, _| claim.grantor != 0);
         let humans: Vec<u32> =
             standing(&register.actors).iter().filter(|actor| actor.kind == HUMAN).map(|actor| actor.id).collect();
@@ -357,14 +364,14 @@ pub const DEFECTS: &[(&str, Defect)] = &[
         register.claims.list[at].grantor = *other;
         true
     }),
-    ("parent on another resource", |register, random| {
+    ("parent on another resource", &[10], |register, random| {
         let resources: Vec<u32> = standing(&register.resources).iter().map(|resource| resource.id).collect();
         resources.len() > 1
             && child(register, random, |claim, _| {
                 claim.resource = *resources.iter().find(|id| **id != claim.resource).expect("two resources");
             })
     }),
-    ("parent lacks DELEGATE", |register, random| {
+    ("parent lacks DELEGATE", &[12, 13], |register, random| {
         let pairs = pairs(register, |_, _| true);
         if pairs.is_empty() {
             return false;
@@ -375,7 +382,7 @@ pub const DEFECTS: &[(&str, Defect)] = &[
         parent.rights |= u32::from(parent.rights == 0);
         true
     }),
-    ("a right the parent lacks", |register, random| {
+    ("a right the parent lacks", &[13], |register, random| {
         let pairs = pairs(register, |claim, parent| {
             parent.rights != RIGHTS_MAX && (!parent.rights & RIGHTS_MAX & !NOT_BY_MACHINE != 0 || claim.grantor == 0)
         });
@@ -387,7 +394,7 @@ pub const DEFECTS: &[(&str, Defect)] = &[
         register.claims.list[at].rights |= 1 << lacking.trailing_zeros();
         true
     }),
-    ("weight above the parent's", |register, random| {
+    ("weight above the parent's", &[14], |register, random| {
         let pairs = pairs(register, |_, parent| parent.weight < WEIGHT_MAX);
         if pairs.is_empty() {
             return false;
@@ -396,7 +403,7 @@ pub const DEFECTS: &[(&str, Defect)] = &[
         register.claims.list[at].weight = register.claims.list[parent].weight + 1;
         true
     }),
-    ("granted by a machine without owner", |register, random| {
+    ("granted by a machine without owner", &[7], |register, random| {
         let machines: Vec<usize> = pairs(register, |_, _| true)
             .into_iter()
             .filter(|&(at, _)| is_machine(register, register.claims.list[at].grantor))
@@ -410,33 +417,33 @@ pub const DEFECTS: &[(&str, Defect)] = &[
         register.actors.list[at].owner = 0;
         true
     }),
-    ("right 13 granted by a machine", |register, random| machine_grants(register, random, 13)),
-    ("right 15 granted by a machine", |register, random| machine_grants(register, random, 15)),
-    ("right 16 granted by a machine", |register, random| machine_grants(register, random, 16)),
-    ("17 hops", |register, random| {
+    ("right 13 granted by a machine", &[8], |register, random| machine_grants(register, random, 13)),
+    ("right 15 granted by a machine", &[8], |register, random| machine_grants(register, random, 15)),
+    ("right 16 granted by a machine", &[8], |register, random| machine_grants(register, random, 16)),
+    ("17 hops", &[15], |register, random| {
         append_child(register, random, |register, at| above(register, at).len() == HOPS, |_| ())
     }),
-    ("left 17 at a root", |register, random| {
+    ("left 17 at a root", &[2], |register, random| {
         in_two(register, random, |register, random| {
             one(&mut register.claims, random, |claim| claim.parent == 0, |claim, _| claim.left = LEFT_MAX + 1)
         })
     }),
-    ("left wraps", |register, random| {
+    ("left wraps", &[2], |register, random| {
         in_two(register, random, |register, random| claim(register, random, |claim| claim.left += 65_536))
     }),
-    ("as much left as the parent", |register, random| {
+    ("as much left as the parent", &[15], |register, random| {
         in_two(register, random, |register, random| left_over(register, random, 0))
     }),
-    ("more left than the parent", |register, random| {
+    ("more left than the parent", &[15], |register, random| {
         in_two(register, random, |register, random| left_over(register, random, 1))
     }),
-    ("held already higher on the chain", |register, random| {
+    ("held already higher on the chain", &[16], |register, random| {
         leaf_held_by(register, random, |register, above, random| register.claims.list[*random.pick(above)].holder)
     }),
-    ("held by the root's grantor", |register, random| {
+    ("held by the root's grantor", &[16], |register, random| {
         leaf_held_by(register, random, |register, above, _| register.claims.list[above[above.len() - 1]].grantor)
     }),
-    ("rights joined from two claims", |register, random| {
+    ("rights joined from two claims", &[13], |register, random| {
         // Another claim of the grantor on the resource has the right that the parent lacks.
         let claims = standing(&register.claims);
         let joined = pairs(register, |claim, parent| {
@@ -523,8 +530,8 @@ mod tests {
     #[test]
     fn every_defect_fits_and_is_one() {
         let mut random = Random::new(3);
-        for (name, defect) in DEFECTS {
-            let mut fitted = 0;
+        for (name, numbers, defect) in DEFECTS {
+            let (mut fitted, mut told) = (0, std::collections::BTreeSet::new());
             for round in 0..120 {
                 let shape = [SMALL, MEDIUM, FULL, Shape { claims: 200, ..FULL }][round % 4];
                 let mut register = registers::sound(&mut random, shape, round % 2 == 0);
@@ -535,6 +542,9 @@ mod tests {
                 if defect(&mut register, &mut random) {
                     fitted += 1;
                     assert!(!Model::default().sound(&register), "{name}");
+                    let why = Model::default().why_unsound(&register).why;
+                    assert!(numbers.contains(&why), "{name}: {why}");
+                    told.insert(why);
                     let verdict = Model::default().gate(&register, &Action::ZERO);
                     assert_eq!((verdict.decision, verdict.refusal, verdict.count), (STOPPED, 1, 0), "{name}");
                 } else {
@@ -542,6 +552,7 @@ mod tests {
                 }
             }
             assert!(fitted > 5, "{name}: {fitted}");
+            assert_eq!(told.len(), numbers.len(), "{name}: {told:?}");
         }
     }
 }

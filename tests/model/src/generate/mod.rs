@@ -14,6 +14,7 @@ pub mod registers;
 pub mod tables;
 pub mod texts;
 pub mod trees;
+pub mod why;
 
 use crate::case::{Call, Script};
 use crate::guesses::Guess;
@@ -35,6 +36,8 @@ pub struct Generator {
     books: Random,
     /// Of the proposals alone, for the same.
     proposals: Random,
+    /// Of who may and why alone, for the same.
+    whys: Random,
 }
 
 impl Generator {
@@ -45,6 +48,7 @@ impl Generator {
             tables: Random::new(seed.rotate_left(32)),
             books: Random::new(seed ^ 0x5555),
             proposals: Random::new(seed ^ 0xAAAA),
+            whys: Random::new(seed ^ 0x3333),
         }
     }
 
@@ -92,6 +96,7 @@ impl Generator {
         .chain(self.as_two(&register, round))
         .chain(self.books(&register))
         .chain(self.proposals(&register))
+        .chain(self.whys(&register))
         .collect()
     }
 
@@ -215,6 +220,21 @@ impl Generator {
         registers.map(|(register, questions)| proposals::questions(random, register, questions)).into()
     }
 
+    /// Who may and why, of the register, of the same as version 2, of one whose claims are in each other and of one that is not sound.
+    fn whys(&mut self, register: &Register) -> Vec<Script> {
+        let random = &mut self.whys;
+        let nested = nested::register(random, true);
+        let mut broken = Box::new(register.clone());
+        broken.version = 3;
+        let registers = [
+            (Box::new(register.clone()), 14),
+            (registers::as_two(random, register, false), 6),
+            (nested, 10),
+            (broken, 2),
+        ];
+        registers.map(|(register, count)| why::questions(random, register, count)).into()
+    }
+
     /// Texts of plans in plans.
     fn trees(&mut self, register: Box<Register>) -> Script {
         let calls = trees::calls(&mut self.trees, &register, 17);
@@ -239,7 +259,7 @@ impl Generator {
     /// Every call on a register with one defect.
     fn defect(&mut self, round: usize) -> Script {
         let random = &mut self.random;
-        let (_, defect) = DEFECTS[round % DEFECTS.len()];
+        let (_, _, defect) = DEFECTS[round % DEFECTS.len()];
         let register = loop {
             let shape = match random.below(30) {
                 0 => FULL,

@@ -21,7 +21,8 @@ pub fn own(register: &Register) -> Call {
 #[inline(never)]
 fn roots(register: &Register, length: usize) -> Vec<Claim> {
     let first = &register.resources.list[0];
-    let root = Claim { grantor: first.keeper, holder: first.keeper, resource: first.id, rights: 1, weight: 1, ..Claim::ZERO };
+    let root =
+        Claim { grantor: first.keeper, holder: first.keeper, resource: first.id, rights: 1, weight: 1, ..Claim::ZERO };
     (1..=length as u32).map(|id| Claim { id, ..root }).collect()
 }
 

@@ -1,6 +1,7 @@
 //! The rules, each in the words of the rule book.
 
 mod book;
+mod faults;
 mod gate;
 mod grant;
 mod ids;
@@ -12,6 +13,7 @@ mod plan_text;
 pub mod proposals;
 mod rules;
 pub mod text;
+mod why;
 mod withdraw;
 pub mod words;
 
@@ -90,6 +92,12 @@ pub enum Refusal {
     BookFull = 29,
     /// The book has more than 64 entries, or two for one number.
     BadBook = 30,
+    /// An earlier record of the list has the id.
+    Doubled = 31,
+    /// An owner of a human, or an owner who is no human of the register.
+    BadOwner = 32,
+    /// A keeper who is no human of the register.
+    BadKeeper = 33,
 }
 
 /// A fault put into the model on purpose, to show that the comparison finds it.
@@ -145,10 +153,18 @@ pub enum Fault {
     OwnerNotAsked,
     /// A grant is proposed below a claim that has nothing left.
     LeftZeroParent,
+    /// The first fault of the claims is told at the place behind it.
+    FaultBehind,
+    /// A machine that covers the use may, whatever its owner does.
+    OwnerUnasked,
+    /// A claim whose source is dead is shown as one that lives.
+    DeadSourceShown,
+    /// A claim that is not live is told with the last on its chain that is not current.
+    LastEnded,
 }
 
 impl Fault {
-    pub const ALL: [(&'static str, Fault); 25] = [
+    pub const ALL: [(&'static str, Fault); 29] = [
         ("expiry-equal-live", Fault::ExpiryEqualLive),
         ("source-unasked", Fault::SourceUnasked),
         ("direct-children", Fault::DirectChildren),
@@ -174,6 +190,10 @@ impl Fault {
         ("told-with-27", Fault::ToldWithRefusal),
         ("owner-not-asked", Fault::OwnerNotAsked),
         ("left-zero-parent", Fault::LeftZeroParent),
+        ("fault-behind", Fault::FaultBehind),
+        ("owner-unasked", Fault::OwnerUnasked),
+        ("dead-source-shown", Fault::DeadSourceShown),
+        ("last-ended", Fault::LastEnded),
     ];
 }
 

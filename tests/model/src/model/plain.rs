@@ -2,7 +2,7 @@
 //! each resource and right, at one moment. Uses are then looked up in it.
 
 use super::paths::contains;
-use super::{Model, Refusal, Sound};
+use super::{Fault, Model, Refusal, Sound};
 use crate::types::*;
 
 const RIGHTS: usize = RIGHT_MAX as usize + 1;
@@ -14,12 +14,12 @@ struct Remark {
     lives: bool,
 }
 
-/// What stands in a cell: nothing, public, or a claim with its hop count and the length of its resource's trimmed path.
+/// What stands in a cell: nothing, public, or a claim by its place, with its hop count and the length of its resource's trimmed path.
 #[derive(Clone, Copy)]
 enum Cell {
     Nothing,
     Public,
-    Claim { hops: usize, length: usize },
+    Claim { place: usize, hops: usize, length: usize },
 }
 
 /// A row for each resource, in it a cell for each right.
@@ -41,7 +41,8 @@ impl Table {
 
     /// The claim speaks in the cell of each resource whose path its own contains, for each right it has, unless the cell has a claim
     /// whose trimmed path is as long or longer.
-    fn enter(&mut self, sound: &Sound, claim: &Claim, hops: usize) {
+    fn enter(&mut self, sound: &Sound, place: usize, hops: usize) {
+        let claim = &sound.claims[place];
         let Some(outer) = sound.resource(claim.resource).and_then(Resource::path) else {
             return;
         };
@@ -52,10 +53,23 @@ impl Table {
             for (right, cell) in row.iter_mut().enumerate() {
                 let keeps_off = matches!(cell, Cell::Claim { length: most, .. } if *most >= length);
                 if claim.has_right(right as u32) && !keeps_off {
-                    *cell = Cell::Claim { hops, length };
+                    *cell = Cell::Claim { place, hops, length };
                 }
             }
         }
+    }
+
+    /// The cells of every row as numbers.
+    fn numbers(&self) -> [u32; CELLS] {
+        let mut numbers = [CELL_NOTHING; CELLS];
+        for (number, cell) in numbers.iter_mut().zip(self.rows.iter().flatten()) {
+            *number = match cell {
+                Cell::Nothing => CELL_NOTHING,
+                Cell::Public => CELL_PUBLIC,
+                Cell::Claim { place, .. } => *place as u32,
+            };
+        }
+        numbers
     }
 
     /// The cell of a use: nothing where its resource does not stand.
@@ -65,7 +79,7 @@ impl Table {
 }
 
 /// The walk: a remark on each claim by the remark on its parent, and each claim that lives entered in the table of its holder.
-fn walk(sound: &Sound, holders: [Option<u32>; 2], now: u64) -> [Table; 2] {
+fn walk(sound: &Sound, holders: [Option<u32>; 2], now: u64) -> ([Remark; CLAIMS], [Table; 2]) {
     let mut tables = [Table::open(sound), Table::open(sound)];
     let mut remarks = [Remark { hops: 0, lives: false }; CLAIMS];
     for (place, claim) in sound.claims.iter().enumerate() {
@@ -76,11 +90,11 @@ fn walk(sound: &Sound, holders: [Option<u32>; 2], now: u64) -> [Table; 2] {
         remarks[place] = Remark { hops, lives };
         for (table, holder) in tables.iter_mut().zip(holders) {
             if lives && holder == Some(claim.holder) {
-                table.enter(sound, claim, hops);
+                table.enter(sound, place, hops);
             }
         }
     }
-    tables
+    (remarks, tables)
 }
 
 fn add(verdict: &mut Verdict, kind: u32, value: u32) {
@@ -100,7 +114,7 @@ fn judge(sound: &Sound, action: &Action, actor: &Actor) -> Verdict {
     if machine {
         (0..action.governed).for_each(|position| add(&mut verdict, 3, position as u32));
     }
-    let [own, owners] = walk(sound, [Some(actor.id), owner], action.now);
+    let (_, [own, owners]) = walk(sound, [Some(actor.id), owner], action.now);
     for (position, usage) in action.uses[..action.used].iter().enumerate() {
         let cell = own.cell(sound, usage);
         if let Cell::Claim { hops, .. } = cell {
@@ -117,6 +131,44 @@ fn judge(sound: &Sound, action: &Action, actor: &Actor) -> Verdict {
 }
 
 impl Model {
+    /// What is said of a claim on which it is remarked whether it lives.
+    fn state(&self, claim: &Claim, lives: bool, now: u64) -> u32 {
+        if claim.weight == 0 {
+            WEIGHTLESS
+        } else if claim.expiry != 0 && claim.expiry <= now {
+            EXPIRED
+        } else if lives || self.has(Fault::DeadSourceShown) {
+            LIVES
+        } else {
+            SOURCE_DEAD
+        }
+    }
+
+    /// The remarks and the tables by themselves.
+    pub fn cover_table(&self, register: &Register, actor: u32, now: u64) -> CoverTable {
+        let refused = |refusal: Refusal| CoverTable { refusal: refusal as u32, ..CoverTable::EMPTY };
+        let Some(sound) = Sound::of(register) else {
+            return refused(Refusal::Unsound);
+        };
+        if actor > ID_MAX || now > MOMENT_MAX {
+            return refused(Refusal::Range);
+        }
+        let Some(actor) = sound.actor(actor) else {
+            return refused(Refusal::Absent);
+        };
+        let owner = (actor.kind == MACHINE && actor.owner != 0).then_some(actor.owner);
+        let (remarks, [own, owners]) = walk(&sound, [Some(actor.id), owner], now);
+        let mut table = CoverTable { accepted: 1, owner: owner.unwrap_or(0), own: own.numbers(), ..CoverTable::EMPTY };
+        if owner.is_some() {
+            table.owners = owners.numbers();
+        }
+        for (place, (claim, remark)) in sound.claims.iter().zip(remarks).enumerate() {
+            table.hops[place] = remark.hops as u32;
+            table.states[place] = self.state(claim, remark.lives, now);
+        }
+        table
+    }
+
     pub fn plain_gate(&self, register: &Register, action: &Action) -> Verdict {
         let Some(sound) = Sound::of(register) else {
             return Verdict::stopped(Refusal::Unsound);

@@ -75,7 +75,7 @@ impl Model {
     }
 
     /// Whether the claim by itself has weight and has not expired.
-    fn lasts(&self, claim: &Claim, now: u64) -> bool {
+    pub fn lasts(&self, claim: &Claim, now: u64) -> bool {
         claim.weight > 0
             && (claim.expiry == 0 || claim.expiry > now || claim.expiry == now && self.has(Fault::ExpiryEqualLive))
     }

@@ -336,7 +336,7 @@ impl Model {
 
     /// Reads a register's text into an empty register, each claim with what it has left. Refused, the register is left empty.
     pub fn read_register(&self, text: &[u8], register: &mut Register) -> Result<(), Unread> {
-        let read = self.lines(text).register(register).and_then(|()| {
+        let read = self.read_lines(text, register).and_then(|()| {
             let sound = Sound::of(register).ok_or(Unread { refusal: Refusal::Unsound, line: 0 })?;
             let lefts: [u32; CLAIMS] =
                 std::array::from_fn(|at| if at < sound.claims.len() { sound.left(at) } else { 0 });
@@ -347,6 +347,11 @@ impl Model {
             *register = Register::EMPTY;
         }
         read
+    }
+
+    /// Reads the lines of a register's text, and judges nothing.
+    pub(super) fn read_lines(&self, text: &[u8], register: &mut Register) -> Result<(), Unread> {
+        self.lines(text).register(register)
     }
 
     /// Writes the register's text to the front of the buffer and answers its length. Refused, the buffer is untouched.

@@ -72,6 +72,9 @@ fn refusal(number: u32) -> &'static str {
         28 => "no fingerprint is attached to the resource's number",
         29 => "64 entries stand, and none of the resource's number",
         30 => "book with more than 64 entries or with two for one number",
+        31 => "an earlier record of the list has the id",
+        32 => "owner of a human, or owner who is no human of the register",
+        33 => "keeper who is no human of the register",
         _ => "unknown refusal",
     }
 }

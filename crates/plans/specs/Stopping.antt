@@ -1,4 +1,4 @@
--- What stops a plan: a loop over its actions, and the answer by it and by the tests before it. Assumes nothing.
+-- Laws: What stops a plan: a loop over its actions, and the answer by it and by the tests before it. Assumes nothing.
 use mathlib.Core.Path.{_≡_, refl, sym, ap, _∙_}
 use mathlib.Core.Bool.{true, false}
 use mathlib.Core.List.{List}

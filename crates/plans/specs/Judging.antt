@@ -1,4 +1,4 @@
--- The verdicts on the actions of a plan by what is lent, and the whole answer. Assumes nothing.
+-- Laws: The verdicts on the actions of a plan by what is lent, and the whole answer. Assumes nothing.
 use mathlib.Core.Path.{_≡_, sym, ap, _∙_}
 use mathlib.Core.Bool.{Bool, false, not, _||_, cond}
 use mathlib.Core.List.{List, _∷_}

@@ -1,4 +1,4 @@
--- What is judged by columns, put together: what is told of what is lent, and the whole answer. Assumes nothing.
+-- Laws: What is judged by columns, put together: what is told of what is lent, and the whole answer. Assumes nothing.
 use mathlib.Core.Path.{_≡_, refl, sym, ap, _∙_}
 use mathlib.Core.Bool.{true, false, cond}
 use mathlib.Core.List.{List, [], _∷_}

@@ -1,0 +1,5 @@
+pub mod Reading
+pub mod Imaging
+pub mod Whole
+pub mod Theorems
+pub mod Cases

@@ -1,0 +1,2 @@
+// A register as the bytes of its struct: definitions and theorems.
+// Nothing to run.
