@@ -32,7 +32,7 @@ def files(machine):
     found[f"{info}/METADATA"] = (f"Metadata-Version: 2.1\nName: {PACKAGE}\nVersion: {version()}\nSummary: A proved authority gate: who may do what to a report\n"
                                  "Requires-Python: >=3.9\n").encode()
     found[f"{info}/WHEEL"] = f"Wheel-Version: 1.0\nGenerator: {PACKAGE}\nRoot-Is-Purelib: false\nTag: py3-none-{TAGS[machine]}\n".encode()
-    found[f"{info}/entry_points.txt"] = f"[console_scripts]\n{PACKAGE} = {PACKAGE}.__main__:run\n".encode()
+    found[f"{info}/entry_points.txt"] = f"[console_scripts]\n{PACKAGE} = {PACKAGE}.command:run\n".encode()
     return info, found
 
 

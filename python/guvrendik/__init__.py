@@ -7,14 +7,15 @@ True
 Traceback (most recent call last):
 guvrendik.values.Refused: 10, parent not held by the grantor, or on another resource
 
-A portal must serialise changes and give moment, actor and flags itself: docs/PORTAL.md. Reasons, tables and `who` are for those who keep the
-register; a visitor is told a verdict and no more.
+More examples: help(guvrendik.values) and help(guvrendik.Register). A portal must serialise changes and give moment,
+actor and flags itself: docs/PORTAL.md. Reasons and `who` are for those who keep the register, not for a visitor.
 """
 from .forms import OutOfRange
 from .register import Book, Register
-from .values import (CASE_R, Action, Actor, Because, Claim, Decision, Fault, Flag, JsonAction, Judgement, Kind, PlanVerdict, Reason,
-                     Refusal, Refused, Resource, Right, Use, UseReason, Verdict, Violated, Violation, json_action, why_unread)
+from .values import (CASE_R, Action, Actor, Because, Claim, Decision, Fault, Flag, JsonAction, Judgement, Kind,
+                     PlanVerdict, Reason, Refusal, Refused, Resource, Right, Use, UseReason, Verdict, Violated,
+                     Violation, json_action, why_unread)
 
-__all__ = ["Action", "Actor", "Because", "Book", "CASE_R", "Claim", "Decision", "Fault", "Flag", "JsonAction", "Judgement", "Kind",
-           "OutOfRange", "PlanVerdict", "Reason", "Refusal", "Refused", "Register", "Resource", "Right", "Use", "UseReason", "Verdict", "Violated",
-           "Violation", "json_action", "why_unread"]
+__all__ = ["Action", "Actor", "Because", "Book", "CASE_R", "Claim", "Decision", "Fault", "Flag", "JsonAction",
+           "Judgement", "Kind", "OutOfRange", "PlanVerdict", "Reason", "Refusal", "Refused", "Register", "Resource",
+           "Right", "Use", "UseReason", "Verdict", "Violated", "Violation", "json_action", "why_unread"]

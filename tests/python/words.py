@@ -27,7 +27,7 @@ use=1 resource=10 WRITE nothing violation=4
 
 def helps(count):
     count.holds(ask("--help")[0] == 0 and all(word in ask("--help")[1] for word in WORDS), "--help names each word")
-    count.same(WORDS, [word.__name__ for word in command.WORDS], "the words")
+    count.same(WORDS, list(command.WORDS), "the words")
     for word in WORDS:
         status, out, err = ask(word, "--help")
         for said in ("- is standard input, but not for --names,\nand not for a register that is to be changed", "1 refused, or check of a register not sound",
