@@ -1,7 +1,7 @@
 """Writes docs/CONTRACTS.md to standard output: up to and with the line that begins with BELOW it is kept as it stands, what comes behind it is made
-of the crates, in the order of crates.txt: the contract of each public call of src/lib.rt, the comment of each theorem of proofs/Theorems*.antt, and
-the first line of each must-fail edit. It fails for a public call that asks something of its caller or has no contract, unless the kept part names it
-as `crate::call`, for a theorem without comment and for an edit without first line.
+of the crates, in the order of crates.txt: the contract of each public call of src/lib.rt and of the modules that it hands on, the comment of each
+theorem of proofs/Theorems*.antt, and the first line of each must-fail edit. It fails for a public call that asks something of its caller or has no
+contract, unless the kept part names it as `crate::call`, for a theorem without comment and for an edit without first line.
 """
 import glob
 import os
@@ -57,11 +57,27 @@ def stated(text):
         yield f"`ensures{' ' + name if name else ''} {says}`"
 
 
+def sources(crate):
+    """The text of the crate's public face with no names, for all of them, and that of each module whose calls it hands on, with their names."""
+    face = read(f"crates/{crate}/src/lib.rt")
+    yield face, None
+    for module in re.findall(r"^mod (\w+);$", face, re.M):
+        handed = re.findall(rf"^pub use {module}::(\w+);$", face, re.M)
+        if handed:
+            yield read(f"crates/{crate}/src/{module}.rt"), handed
+
+
 def calls(crate, kept):
-    text = read(f"crates/{crate}/src/lib.rt")
+    for text, handed in sources(crate):
+        yield from calls_of(crate, kept, text, handed)
+
+
+def calls_of(crate, kept, text, handed):
     spans = [(found.start(), found.end(), found.group(1)) for found in WITHIN.finditer(text)]
     for found in CALL.finditer(text):
         _, name, rest = found.groups()
+        if handed is not None and name not in handed:
+            continue
         taken = re.split(r"^\s*(?:requires|ensures) ", rest, maxsplit=1, flags=re.M)[0]
         owner = next((owner + "::" for start, end, owner in spans if start < found.start() < end), "")
         said, parts = above(text, found.start(), "//"), list(stated(rest))

@@ -9,16 +9,14 @@ ghost use Rattle.lines.specs.Answers.{stateOf};
 ghost use Rattle.text_rules.specs.Actions.{readUse, readUses, readGoverns, readAction, actionRead, actionEnding};
 ghost use Rattle.register_reading.specs.Reads.{Reads};
 use actions::Action;
+use actions::FLAGS_LIMIT;
 use actions::Usage;
 use lines::Cursor;
 use refusals::Outcome;
 use register::ID_LIMIT;
-use register::MOMENT_END;
 use rights::POLICY_MODIFY;
 use text_rules::ActionRead;
-
-// The greatest flags number: the ten flags set.
-const FLAGS_LIMIT: u64 = 1023;
+use text_rules::LAST_MOMENT;
 
 // What was read of a kind, and where the reading then stands.
 struct UseRead {
@@ -48,11 +46,11 @@ pub struct ActionForm {
 fn read_use(s: &[u8], c: Cursor) -> UseRead
     ensures { λ r. ⌜ Reads (now (s .entry)) (r .usage) (r .cursor) (readUse (stateOf (now (s .entry)) c)) ⌝ }
 {
-    let resource = lines::read_number(s, c, b"use=", 0, ID_LIMIT as u64);
-    let right = lines::read_number(s, resource.cursor, b"right=", 0, POLICY_MODIFY as u64);
+    let resource = lines::read_number(s, c, b"use=", 0, ID_LIMIT);
+    let right = lines::read_number(s, resource.cursor, b"right=", 0, POLICY_MODIFY);
     let usage = Usage {
-        resource: resource.value as u32,
-        right: right.value as u32,
+        resource: resource.value,
+        right: right.value,
     };
     let cursor = right.cursor;
     UseRead { usage, cursor }
@@ -64,7 +62,7 @@ fn read_uses(s: &[u8], c: Cursor) -> UsesRead
     ensures used { λ r. ⌜ r .used ≡ length (readUses (stateOf (now (s .entry)) c) .value) ⌝ }
     ensures state { λ r. ⌜ stateOf (now (s .entry)) (r .cursor) ≡ readUses (stateOf (now (s .entry)) c) .state ⌝ }
 {
-    let counted = lines::read_count(s, c, b"uses=", Action::USES as u64);
+    let counted = lines::read_count(s, c, b"uses=", Action::USES as u32);
     let used = counted.value as usize;
     let none = Usage {
         resource: 0,
@@ -90,15 +88,15 @@ fn read_governs(s: &[u8], c: Cursor) -> GovernsRead
     ensures governed { λ r. ⌜ r .governed ≡ length (readGoverns (stateOf (now (s .entry)) c) .value) ⌝ }
     ensures state { λ r. ⌜ stateOf (now (s .entry)) (r .cursor) ≡ readGoverns (stateOf (now (s .entry)) c) .state ⌝ }
 {
-    let counted = lines::read_count(s, c, b"governs=", Action::GOVERNED as u64);
+    let counted = lines::read_count(s, c, b"governs=", Action::GOVERNED as u32);
     let governed = counted.value as usize;
     let mut governs = [0u32; Action::GOVERNED];
     let mut cursor = counted.cursor;
     let mut i: usize = 0;
     while i < governed {
-        let one = lines::read_number(s, cursor, b"govern=", 0, ID_LIMIT as u64);
+        let one = lines::read_number(s, cursor, b"govern=", 0, ID_LIMIT);
         let next = one.cursor;
-        governs[i] = one.value as u32;
+        governs[i] = one.value;
         cursor = next;
         i += 1;
     }
@@ -154,17 +152,17 @@ fn answer(s: &[u8], c: Cursor, action: Action) -> ActionRead
 pub fn read_lines(s: &[u8], c: Cursor) -> ActionForm
     ensures { λ r. ⌜ Reads (now (s .entry)) (r .action) (r .cursor) (readAction (stateOf (now (s .entry)) c)) ⌝ }
 {
-    let moment = lines::read_number(s, c, b"now=", 0, MOMENT_END - 1);
-    let actor = lines::read_number(s, moment.cursor, b"actor=", 0, ID_LIMIT as u64);
+    let moment = lines::read_number(s, c, b"now=", 0, LAST_MOMENT);
+    let actor = lines::read_number(s, moment.cursor, b"actor=", 0, ID_LIMIT);
     let flags = lines::read_number(s, actor.cursor, b"flags=", 0, FLAGS_LIMIT);
     let first = read_uses(s, flags.cursor);
     let second = read_governs(s, first.cursor);
     let uses = first.uses;
     let governs = second.governs;
     let action = Action {
-        actor: actor.value as u32,
-        flags: flags.value as u32,
-        now: moment.value,
+        actor: actor.value,
+        flags: flags.value,
+        now: moment.value as u64,
         uses,
         used: first.used,
         governs,

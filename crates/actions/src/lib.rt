@@ -1,13 +1,16 @@
 // What the gate and the plan are asked and answer, and whether an action is in range.
 // Every number of an action has a type that can say one out of range; entries past a count are
 // ignored. The structs that come in cross to C as they are; answers hold enums.
+mod numbers;
+mod ranges;
+
 ghost use mathlib.Core.Path.{_≡_};
-ghost use Rattle.actions.specs.Actions.{kindOf, valueOf, judgementNumber, judgementValue, usesOf, governsOf, actionFits, oneUse};
-ghost use mathlib.Core.Bool.{_&&_};
-ghost use lib.Dec.{leb};
-ghost use Rattle.lists.specs.Lists.{every};
-ghost use Rattle.rights.specs.Rights.{isRight};
-ghost use Rattle.register.specs.Limits.{idLimit};
+ghost use Rattle.actions.specs.Actions.{oneUse};
+pub use numbers::judgement_number;
+pub use numbers::judgement_value;
+pub use numbers::kind;
+pub use numbers::value;
+pub use ranges::action_fits;
 use refusals::Outcome;
 use refusals::Refusal;
 
@@ -36,6 +39,9 @@ impl Action {
 
     pub const FLAGS: u32 = 10;
 }
+
+// The greatest flags number: all ten flags.
+pub const FLAGS_LIMIT: u32 = 1023;
 
 #[repr(C)]
 pub struct Plan {
@@ -128,111 +134,4 @@ pub fn one_use(actor: u32, usage: Usage, moment: u64) -> Action
         governs: [0; Action::GOVERNED],
         governed: 0,
     }
-}
-
-// 01's number of a violation's kind.
-pub fn kind(v: Violation) -> u32
-    ensures { λ r. ⌜ r ≡ kindOf v ⌝ }
-{
-    match v {
-        Violation::FlagSet(_) => 1,
-        Violation::NoOwner(_) => 2,
-        Violation::MachineGoverns(_) => 3,
-        Violation::NotCovered(_) => 4,
-        Violation::OwnerNotCovering(_) => 5,
-    }
-}
-
-// The flag, actor or position that a violation is about.
-pub fn value(v: Violation) -> u32
-    ensures { λ r. ⌜ r ≡ valueOf v ⌝ }
-{
-    match v {
-        Violation::FlagSet(i) => i,
-        Violation::NoOwner(id) => id,
-        Violation::MachineGoverns(at) => at,
-        Violation::NotCovered(at) => at,
-        Violation::OwnerNotCovering(at) => at,
-    }
-}
-
-// The number of a verdict of a plan. 3 is a stopped call's, and no verdict of a plan has it.
-pub fn judgement_number(j: Judgement) -> u32
-    ensures { λ r. ⌜ r ≡ judgementNumber j ⌝ }
-{
-    match j {
-        Judgement::Permitted => 1,
-        Judgement::Refused(_) => 2,
-        Judgement::Cancelled => 4,
-    }
-}
-
-// The number of violations that a verdict of a plan names, 0 where it names none.
-pub fn judgement_value(j: Judgement) -> u32
-    ensures { λ r. ⌜ r ≡ judgementValue j ⌝ }
-{
-    match j {
-        Judgement::Permitted => 0,
-        Judgement::Refused(violations) => violations,
-        Judgement::Cancelled => 0,
-    }
-}
-
-// Flags are below this: 2 to the power of `Action::FLAGS`.
-const FLAGS_END: u32 = 1024;
-
-// Whether each use's numbers are in range.
-fn uses_fit(a: Action) -> bool
-    ensures { λ r. ⌜ r ≡ every (λ u. leb (u .resource) idLimit && isRight (u .right)) (usesOf a) ⌝ }
-{
-    let top = lists::least(a.used, Action::USES);
-    let mut i: usize = 0;
-    while i < top {
-        let u = a.uses[i];
-        if register::ID_LIMIT < u.resource {
-            return false;
-        }
-        if rights::POLICY_MODIFY < u.right {
-            return false;
-        }
-        i += 1;
-    }
-    true
-}
-
-// Whether each governed number is in range.
-fn governs_fit(a: Action) -> bool
-    ensures { λ r. ⌜ r ≡ every (λ g. leb g idLimit) (governsOf a) ⌝ }
-{
-    let top = lists::least(a.governed, Action::GOVERNED);
-    let mut i: usize = 0;
-    while i < top {
-        if register::ID_LIMIT < a.governs[i] {
-            return false;
-        }
-        i += 1;
-    }
-    true
-}
-
-// Whether an action's numbers and counts are in range.
-pub fn action_fits(a: Action) -> bool
-    ensures { λ r. ⌜ r ≡ actionFits a ⌝ }
-{
-    if register::ID_LIMIT < a.actor {
-        return false;
-    }
-    if register::MOMENT_END <= a.now {
-        return false;
-    }
-    if FLAGS_END <= a.flags {
-        return false;
-    }
-    if Action::USES < a.used {
-        return false;
-    }
-    if Action::GOVERNED < a.governed {
-        return false;
-    }
-    uses_fit(a) & governs_fit(a)
 }

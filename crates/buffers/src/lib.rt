@@ -10,12 +10,10 @@ ghost use Rattle.lines.specs.Lines.{decimalLine, kindLine};
 ghost use Rattle.buffers.specs.Buffers.{put};
 ghost use Rattle.buffers.specs.Positions.{behind};
 ghost use Rattle.buffers.specs.Delivery.{delivered};
+use lines::LINE_FEED;
 use refusals::Outcome;
 use refusals::Refusal;
 use register::Actor;
-
-// The byte that ends a line.
-const LINE_FEED: u8 = 10;
 
 // What was written into a lent buffer: the length of the text. Refused: 0.
 pub struct Written {

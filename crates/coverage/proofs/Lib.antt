@@ -1,7 +1,7 @@
 pub mod Collecting
 pub mod Copying
 pub mod Ending
-pub mod Laying
+pub mod Pasting
 pub mod Owned
 pub mod Parts
-pub mod Reaching
+pub mod Nearing

@@ -7,7 +7,7 @@ ghost use Rattle.decimals.specs.Answers.{Says};
 
 // What reading a number finds, with the position behind its digits.
 pub enum Number {
-    Value(u64, usize),
+    Value(u32, usize),
     // A decimal above the limit, of any length.
     Large(usize),
     Bad,
@@ -22,11 +22,11 @@ fn is_digit(b: u8) -> bool
     b < 58
 }
 
-fn digit(b: u8) -> u64
+fn digit(b: u8) -> u32
     requires { ⌜ 48 ≤ b ⌝ }
     ensures { λ r. ⌜ r ≡ b - 48 ⌝ }
 {
-    (b as u64) - 48
+    (b as u32) - 48
 }
 
 // The position behind the digits that begin at `at`.
@@ -45,12 +45,12 @@ fn digits_end(s: &[u8], at: usize) -> usize
 }
 
 // The worth of the digits that begin at `at`, leading zeros or not.
-fn scan(s: &[u8], at: usize, greatest: u64) -> Number
+fn scan(s: &[u8], at: usize, greatest: u32) -> Number
     requires { ⌜ at ≤ length (now s) ⌝ }
     ensures { λ r. ⌜ Says (now (s .entry)) r (judge greatest (value 0 (digitRun (drop at (now (s .entry))))) (after (drop at (now (s .entry))))) ⌝ }
 {
     let mut i = at;
-    let mut n: u64 = 0;
+    let mut n: u32 = 0;
     while i < s.len() {
         let b = s[i];
         if !is_digit(b) {
@@ -70,7 +70,7 @@ fn scan(s: &[u8], at: usize, greatest: u64) -> Number
 }
 
 // The decimal at `at`: no leading zero, and no limit on its length.
-pub fn read_number(s: &[u8], at: usize, greatest: u64) -> Number
+pub fn read_number(s: &[u8], at: usize, greatest: u32) -> Number
     ensures { λ r. ⌜ Says (now (s .entry)) r (parse greatest (drop at (now (s .entry)))) ⌝ }
 {
     if s.len() <= at {

@@ -10,6 +10,7 @@ use Rattle.actions.specs.Actions.{useLimit}
 use Rattle.actions.specs.declared.Action.{Action}
 use Rattle.actions.specs.declared.Violations.{Violations}
 use Rattle.gate_rules.specs.Gate.{listed}
+use Rattle.columns.specs.Sheet.{columnOf, holderColumn, rightsColumn}
 use Rattle.violations.specs.Pushed.{besides, pushedAll}
 use Rattle.coverage.specs.Gathering.{gatheredBy}
 use Rattle.coverage.specs.GatheringLaws.{gathered-first, held-below}
@@ -18,41 +19,39 @@ use Rattle.uses.specs.Passes.{usesBy, reliedAll, hopsAll, faultsAll}
 use Rattle.uses.specs.PassesLaws.{passes-natural}
 use Rattle.uses.specs.declared.Uses.{Uses}
 use Rattle.uses.specs.declared.UsesJudged.{UsesJudged}
-use Rattle.gate.specs.Judged.{Lent, machineBy, ownerBy, ownedBy, sightBy, lentJudged}
+use Rattle.soundness.specs.declared.Findings.{Findings}
+use Rattle.gate.specs.Judged.{Lent, lentOf, ownerAsked, reliedBy, machineBy, ownerBy, ownedBy, sightBy, lentJudged}
+use Rattle.gate.specs.declared.Counts.{Counts}
+use Rattle.gate.specs.declared.Holder.{Holder}
 
-module _ (l : Lent) (a : Action) (few : length (l .reports) ≤ resourceLimit) (long : length (a .uses) ≡ useLimit) {machine : Bool} {owner asked : ℕ}
-    {vs violations : Violations} {holders rights relied covering hops : List ℕ} {own theirs : Gathered} {uses : Uses} where
-  -- the uses judged by what was gathered, behind the other violations
-  pub judged-lent : machine ≡ machineBy l (a .actor) → owner ≡ ownerBy l (a .actor) → vs ≡ pushedAll (listed []) (besides machine owner a)
-      → holders ≡ l .holders → rights ≡ l .rights
-      → own ≡ gatheredBy holders (l .ends) (l .claims) (a .actor) (a .now)
-      → asked ≡ cond (machine && not (eqb owner 0)) (l .claims) 0
-      → theirs ≡ gatheredBy holders (l .ends) asked owner (a .now)
-      → uses ≡ usesBy (l .reports) (l .resources) a
-      → relied ≡ reliedAll (take (own .count) (own .places)) rights (l .spots) (l .bytes) (l .lens) uses
-      → covering ≡ reliedAll (take (theirs .count) (theirs .places)) rights (l .spots) (l .bytes) (l .lens) uses
-      → hops ≡ hopsAll (l .ups) relied (uses .count)
-      → violations ≡ pushedAll vs (faultsAll relied covering (machine && not (eqb owner 0)) (l .publics) uses)
-      → _≡_ {A = UsesJudged} (record { violations = violations; hops = hops }) (lentJudged l a)
-  unfolding lentJudged
-  judged-lent of-machine of-owner of-first of-holders of-rights of-own of-asked of-theirs of-uses of-relied of-covering of-hops of-violations =
-      rw (
-        of-violations,
-        of-hops,
-        of-relied,
-        of-covering,
-        of-uses,
-        of-own,
-        of-theirs,
-        of-asked,
-        of-first,
-        of-holders,
-        of-rights,
-        of-machine,
-        of-owner,
-        gathered-first (l .holders) (l .ends) (l .claims) (a .actor) (a .now),
-        gathered-first (l .holders) (l .ends) (cond (ownedBy l (a .actor)) (l .claims) 0) (ownerBy l (a .actor)) (a .now),
-      )
-      (passes-natural (sightBy l (a .now) (a .actor)) (l .reports) (l .resources) a few long (held-below (l .holders) (l .ends) (l .claims) (a .actor) (a .now))
-      (held-below (l .holders) (l .ends) (cond (ownedBy l (a .actor)) (l .claims) 0) (ownerBy l (a .actor)) (a .now))
-      (pushedAll (listed []) (besides (machineBy l (a .actor)) (ownerBy l (a .actor)) a)))
+-- what is relied on by what was gathered is relied on by the places of those that can cover
+pub relied-held : (who : Holder) (s ends spots bytes lens : List ℕ) (uses : Uses) {holders rights relied : List ℕ} {held : Gathered}
+    → holders ≡ columnOf holderColumn s → rights ≡ columnOf rightsColumn s
+    → held ≡ gatheredBy holders ends (who .claims) (who .number) (who .moment)
+    → relied ≡ reliedAll (take (held .count) (held .places)) rights spots bytes lens uses
+    → relied ≡ reliedBy who s ends spots bytes lens uses
+relied-held who s ends spots bytes lens uses of-holders of-rights of-held of-relied =
+    rw (of-relied, of-held, of-holders, of-rights, gathered-first (columnOf holderColumn s) ends (who .claims) (who .number) (who .moment))
+
+module _ (counts : Counts) (found : Findings) (lens ends s bytes : List ℕ) (a : Action) where
+  abbrev l : Lent
+  l = lentOf counts found lens ends s bytes
+
+  module _ (few : length (l .reports) ≤ resourceLimit) (long : length (a .uses) ≡ useLimit) {machine : Bool} {owner : ℕ} {vs violations : Violations}
+      {relied covering hops : List ℕ} {asked : Holder} {uses : Uses} where
+    -- the uses judged by what the actor and the owner rely on, behind the other violations
+    pub judged-lent : machine ≡ machineBy l (a .actor) → owner ≡ ownerBy l (a .actor) → vs ≡ pushedAll (listed []) (besides machine owner a)
+        → uses ≡ usesBy (l .reports) (l .resources) a
+        → relied ≡ reliedBy (record { number = a .actor; claims = counts .claims; moment = a .now }) s ends (l .spots) bytes lens uses
+        → asked ≡ ownerAsked (machine && not (eqb owner 0)) owner (counts .claims) (a .now)
+        → covering ≡ reliedBy asked s ends (l .spots) bytes lens uses
+        → hops ≡ hopsAll (l .ups) relied (uses .count)
+        → violations ≡ pushedAll vs (faultsAll relied covering (machine && not (eqb owner 0)) (l .publics) uses)
+        → _≡_ {A = UsesJudged} (record { violations = violations; hops = hops }) (lentJudged l a)
+    unfolding lentJudged
+    judged-lent of-machine of-owner of-first of-uses of-relied of-asked of-covering of-hops of-violations =
+        rw (of-violations, of-hops, of-relied, of-covering, of-asked, of-uses, of-first, of-machine, of-owner)
+        (passes-natural (sightBy l (a .now) (a .actor)) (l .reports) (l .resources) a few long
+        (held-below (l .holders) (l .ends) (l .claims) (a .actor) (a .now))
+        (held-below (l .holders) (l .ends) (cond (ownedBy l (a .actor)) (l .claims) 0) (ownerBy l (a .actor)) (a .now))
+        (pushedAll (listed []) (besides (machineBy l (a .actor)) (ownerBy l (a .actor)) a)))

@@ -27,9 +27,12 @@ use Rattle.soundness.specs.declared.Findings.{Findings}
 use Rattle.coverage.specs.Laid.{laid}
 use Rattle.coverage.specs.Gathering.{heldPlaces, endsOf}
 use Rattle.uses.specs.Uses.{Sight, usesJudged}
+use Rattle.uses.specs.Passes.{reliedAll}
+use Rattle.uses.specs.declared.Uses.{Uses}
 use Rattle.uses.specs.declared.UsesJudged.{UsesJudged}
 use Rattle.uses.specs.Sights.{ownerAt, ownerNumber, sightOf}
 use Rattle.gate.specs.declared.Counts.{Counts}
+use Rattle.gate.specs.declared.Holder.{Holder}
 
 -- the violations and the hop counts of an action
 abbrev pub actionJudged : Register → Action → UsesJudged
@@ -91,6 +94,15 @@ lentBy r s found =
 -- those of a register
 abbrev pub lentIn : Register → Lent
 lentIn r = lentBy r (sheetOf (r .claims)) (findingsBy (r .version) (r .actors) (r .resources) (sheetOf (r .claims)) (r .claims .count))
+
+-- the owner of a machine as a holder: for an owner that is not asked no claims are looked through
+abbrev pub ownerAsked : Bool → ℕ → ℕ → ℕ → Holder
+ownerAsked owned owner n moment = record { number = owner; claims = cond owned n 0; moment = moment }
+
+-- the claim that a holder relies on for each use, by a sheet of claims and their ends
+abbrev pub reliedBy : Holder → List ℕ → List ℕ → List ℕ → List ℕ → List ℕ → Uses → List ℕ
+reliedBy who s ends spots bytes lens uses =
+    reliedAll (heldPlaces (columnOf holderColumn s) ends (who .claims) (who .number) (who .moment)) (columnOf rightsColumn s) spots bytes lens uses
 
 -- tests 2 and 3, over the ids of the first n actors
 abbrev pub lentTests : List ℕ → ℕ → Action → List Test

@@ -6,12 +6,11 @@
 // claims that can cover are gathered once for an action, for the actor and for the owner of a
 // machine.
 ghost use mathlib.Core.Path.{_≡_};
-ghost use mathlib.Core.Bool.{cond};
 ghost use Rattle.columns.specs.Columns.{latestPlace};
 ghost use Rattle.refusals.specs.Refusals.{outcomeOf};
 ghost use Rattle.gate_rules.specs.Gate.{gated};
 ghost use Rattle.uses.specs.Sights.{ownerAt};
-ghost use Rattle.gate.specs.Judged.{sheetEnds, lentOf, lentTests, lentJudged, verdictBy, AsGated};
+ghost use Rattle.gate.specs.Judged.{sheetEnds, lentOf, ownerAsked, reliedBy, lentTests, lentJudged, verdictBy, AsGated};
 use actions::Action;
 use actions::Verdict;
 use columns::Place;
@@ -20,6 +19,7 @@ use refusals::Refusal;
 use register::Actor;
 use register::Register;
 use soundness::Findings;
+use uses::Uses;
 use uses::UsesJudged;
 
 // How many actors, resources and claims a register has.
@@ -50,11 +50,41 @@ pub fn owner_of<'a>(names: &'a [u32], owners: &'a [u32], n: usize, x: u32) -> u3
     }
 }
 
-// How many claims are looked through for the owner: none where there is no owner to ask.
-fn asked_for(owned: bool, n: usize) -> usize
-    ensures { λ r. ⌜ r ≡ cond owned n 0 ⌝ }
+// A holder whose claims are asked for: the number, how many claims are looked through, and the moment.
+struct Holder {
+    number: u32,
+    claims: usize,
+    moment: u64,
+}
+
+// The owner of a machine as a holder. No claims are looked through where there is no owner to ask.
+fn owner_asked(owned: bool, owner: u32, n: usize, moment: u64) -> Holder
+    ensures { λ r. ⌜ r ≡ ownerAsked owned owner n moment ⌝ }
 {
-    if owned { n } else { 0 }
+    let claims = if owned { n } else { 0 };
+    Holder {
+        number: owner,
+        claims,
+        moment,
+    }
+}
+
+// The claim that a holder relies on for each use, by the sheet of the claims and their ends: those that can cover are gathered once.
+fn relied_by<'a>(
+    who: Holder,
+    sheet: &'a [u32],
+    ends: &'a [u64],
+    spots: &'a [u16],
+    bytes: &'a [u8],
+    lens: &'a [usize],
+    uses: Uses,
+) -> [u16; Action::USES]
+    ensures { λ r. ⌜ r ≡ reliedBy who (now (sheet .entry)) (now (ends .entry)) (now (spots .entry)) (now (bytes .entry)) (now (lens .entry)) uses ⌝ }
+{
+    let holders = columns::column(sheet, columns::HOLDERS);
+    let rights = columns::column(sheet, columns::RIGHTS);
+    let held = coverage::gather(holders, ends, who.claims, who.number, who.moment);
+    uses::relied_on(&held.places, held.count, rights, spots, bytes, lens, uses)
 }
 
 // An action judged by the counts of a register and what was found of it, the lengths of the paths, the ends of the claims, the sheet of the claims
@@ -86,30 +116,15 @@ pub fn judge_by<'a>(
     );
     let owned = machine & (owner != 0);
     let vs = violations::first_violations(a, machine, owner);
-    let holders = columns::column(sheet, columns::HOLDERS);
-    let rights = columns::column(sheet, columns::RIGHTS);
-    let own = coverage::gather(holders, ends, counts.claims, a.actor, a.now);
-    let asked = asked_for(owned, counts.claims);
-    let theirs = coverage::gather(holders, ends, asked, owner, a.now);
     let uses = uses::uses_of(&found.resources.reports, counts.resources, a);
-    let relied = uses::relied_on(
-        &own.places,
-        own.count,
-        rights,
-        &found.spots,
-        bytes,
-        lens,
-        uses,
-    );
-    let covered = uses::relied_on(
-        &theirs.places,
-        theirs.count,
-        rights,
-        &found.spots,
-        bytes,
-        lens,
-        uses,
-    );
+    let actor = Holder {
+        number: a.actor,
+        claims: counts.claims,
+        moment: a.now,
+    };
+    let relied = relied_by(actor, sheet, ends, &found.spots, bytes, lens, uses);
+    let asked = owner_asked(owned, owner, counts.claims, a.now);
+    let covered = relied_by(asked, sheet, ends, &found.spots, bytes, lens, uses);
     let hops = uses::hop_counts(&found.ups, &relied, uses.count);
     let violations = uses::put_faults(vs, &relied, &covered, owned, &found.resources.publics, uses);
     UsesJudged { violations, hops }

@@ -12,11 +12,12 @@ use Rattle.lists.specs.Lists.{any}
 use Rattle.lists.specs.Distinct.{distinct-again}
 use Rattle.json_tokens.specs.Tokens.{Token, mark, text, noToken, colon, closesObject, tokens}
 use Rattle.json_rules.specs.Names.{keyNames, placeOf}
-use Rattle.json_rules.specs.Members.{Member, Value, Taken, missed, past, named, takeText, ledBy, further, items, takeValue, takeHeld, takeMember, taking}
-use Rattle.json_rules.specs.Items.{taken-cases, missed-took, items-step, member-shrinks, prefixed, prefixed-nil, prefixed-led, keyCount}
-use Rattle.json_reading.specs.Answers.{Separation, more, noMore, broken, separation, keyOf, listRoom, Apart, keysOf, DraftSays, admitted, Behind, HeldSays, HoldsValue, KeptMembers}
+use Rattle.json_rules.specs.Members.{Member, Value, Taken, missed, past, named, takeText, ledBy, further, items, takeValue, takeHeld, takeMember, taking, made}
+use Rattle.json_rules.specs.Items.{missed-took, items-step, member-shrinks, prefixed, prefixed-nil, prefixed-led, keyCount}
+use Rattle.json_reading.specs.Answers.{Separation, more, noMore, broken, separation, keyOf, listRoom, Apart, keysOf, DraftSays, admitted, Behind, HeldSays, HoldsValue, KeyedSays, KeptMembers}
 use Rattle.json_reading.specs.declared.held.Held.{Held}
 use Rattle.json_reading.specs.declared.members.Draft.{Draft}
+use Rattle.json_reading.specs.declared.members.Keyed.{Keyed}
 use Rattle.json_reading.proofs.Laws.{continued, separated-natural}
 use Rattle.json_reading.proofs.Drafts.{Placed, kept-none, kept-next, placed-next}
 
@@ -151,21 +152,43 @@ prefixed-done : (ms : List Member) (m : Member) (ts : List Token) → prefixed m
 unfolding prefixed
 prefixed-done ms m ts = refl
 
--- what the value's answer says of the value
-pub held-missed : (s : List ℕ) (at key : ℕ) (numbers : List ℕ) (h : Held) (p : Taken Value) → HeldSays s at key numbers h p → h .ok ≡ false → p ≡ missed
-held-missed s at key numbers h (taking v rest) says failed = clash (h .ok) (says .0) failed
-held-missed s at key numbers h missed says failed = refl
+-- what is read of a key and its value says of the member
+module _ (s : List ℕ) (at : ℕ) (numbers : List ℕ) where
+  pub member-unkeyed : (k : Keyed) → keyOf (tokens (drop at s)) ≡ missed → k .held .ok ≡ false → KeyedSays s at numbers k (takeMember (tokens (drop at s)))
+  member-unkeyed k e failed = rw (unkeyed (tokens (drop at s)) e) failed
 
-pub record ValueHeld (s : List ℕ) (at key : ℕ) (numbers : List ℕ) (h : Held) (p : Taken Value) : Type 0 where
+  module _ (key next : ℕ) (named : keyOf (tokens (drop at s)) ≡ taking key (tokens (drop next s))) where
+    pub member-beyond : (k : Keyed) → keyCount ≤ key → k .held .ok ≡ false → KeyedSays s at numbers k (takeMember (tokens (drop at s)))
+    member-beyond k beyond failed =
+        rw (keyed (tokens (drop at s)) key (tokens (drop next s)) named, value-beyond key (tokens (drop next s)) beyond) failed
+
+    pub member-held : (h : Held) → key < keyCount → Behind s at next → HeldSays s next key numbers h (takeValue key (tokens (drop next s)))
+        → KeyedSays s at numbers (record { key = key; held = h }) (takeMember (tokens (drop at s)))
+    member-held h known behind says =
+        rw (keyed (tokens (drop at s)) key (tokens (drop next s)) named) (told (takeValue key (tokens (drop next s))) says)
+      where
+        told : (p : Taken Value) → HeldSays s next key numbers h p
+            → KeyedSays s at numbers (record { key = key; held = h }) (made (λ v. true) (λ v. record { key = key; value = v }) p)
+        told (taking v rest) says = (says .0, refl, known, says .1, (omega (arith, behind .0, says .2 .0), says .2 .1), says .3)
+        told missed says = says
+
+-- what a member's answer says of the member
+pub keyed-missed : (s : List ℕ) (at : ℕ) (numbers : List ℕ) (k : Keyed) (p : Taken Member) → KeyedSays s at numbers k p → k .held .ok ≡ false → p ≡ missed
+keyed-missed s at numbers k (taking m rest) says failed = clash (k .held .ok) (says .0) failed
+keyed-missed s at numbers k missed says failed = refl
+
+pub record MemberHeld (s : List ℕ) (at : ℕ) (numbers : List ℕ) (k : Keyed) (p : Taken Member) : Type 0 where
   pub value : Value
-  pub taken : p ≡ taking value (tokens (drop (h .next) s))
-  pub behind : Behind s at (h .next)
-  pub holds : HoldsValue s numbers key (h .figure) (h .from) (h .len) value
+  pub taken : p ≡ taking (record { key = k .key; value = value }) (tokens (drop (k .held .next) s))
+  pub known : k .key < keyCount
+  pub behind : Behind s at (k .held .next)
+  pub holds : HoldsValue s numbers (k .key) (k .held .figure) (k .held .from) (k .held .len) value
 
-pub held-took : (s : List ℕ) (at key : ℕ) (numbers : List ℕ) (h : Held) (p : Taken Value) → HeldSays s at key numbers h p → h .ok ≡ true
-    → ValueHeld s at key numbers h p
-held-took s at key numbers h (taking v rest) says whole = record { value = v; taken = rw (says .1); behind = says .2; holds = says .3 }
-held-took s at key numbers h missed says whole = clash (h .ok) whole says
+pub keyed-took : (s : List ℕ) (at : ℕ) (numbers : List ℕ) (k : Keyed) (p : Taken Member) → KeyedSays s at numbers k p → k .held .ok ≡ true
+    → MemberHeld s at numbers k p
+keyed-took s at numbers k (taking m rest) says whole =
+    record { value = m .value; taken = rw (says .1, says .3); known = says .2; behind = says .4; holds = says .5 }
+keyed-took s at numbers k missed says whole = clash (k .held .ok) whole says
 
 module _ {s : List ℕ} {begun : ℕ} {numbers : List ℕ} {seen : List Bool} {figures froms lens : List ℕ} {at : ℕ}
     (r : Read s begun numbers seen figures froms lens at) where
@@ -179,63 +202,50 @@ module _ {s : List ℕ} {begun : ℕ} {numbers : List ℕ} {seen : List Bool} {f
   missing : takeMember here ≡ missed → admitted all ≡ false
   missing e = rw (r .follow) (admitted-missed (r .members) (membersIn here) (members-missed here e))
 
-  -- no key is there
-  pub read-unkeyed : (new : List ℕ) (d : Draft) → keyOf here ≡ missed → d .ok ≡ false → Answered s new d all
-  read-unkeyed new d e failed = unanswered failed (missing (unkeyed here e))
+  pub read-missing : (new : List ℕ) (d : Draft) → takeMember here ≡ missed → d .ok ≡ false → Answered s new d all
+  read-missing new d e failed = unanswered failed (missing e)
 
-  module _ (key : ℕ) (behind : List Token) (named : keyOf here ≡ taking key behind) where
-    -- the key has no value
-    pub read-unheld : (new : List ℕ) (d : Draft) → takeValue key behind ≡ missed → d .ok ≡ false → Answered s new d all
-    read-unheld new d e failed = unanswered failed (missing (keyed here key behind named ∙ rw e))
-
-    -- the name is no key's
-    pub read-beyond : (new : List ℕ) (d : Draft) → keyCount ≤ key → d .ok ≡ false → Answered s new d all
-    read-beyond new d beyond = read-unheld new d (value-beyond key behind beyond)
+  module _ (key : ℕ) (v : Value) (rest : List Token) (taken : takeMember here ≡ taking (record { key = key; value = v }) rest) where
+    abbrev member : Member
+    member = record { key = key; value = v }
 
     -- the key was there before
     pub read-again : (new : List ℕ) (d : Draft) → key < keyCount → getD seen key false ≡ true → d .ok ≡ false → Answered s new d all
     read-again new d known again failed =
         let there : any (eqb key) (keysOf (r .members)) ≡ true = sym (r .kept .marked key known) ∙ again in
-        taken-cases (takeValue key behind)
-        (λ v rest e. let m : Member = record { key = key; value = v } in
-        let led = members-led here m rest (keyed here key behind named ∙ rw e) in
-        unanswered failed (rw (r .follow, led .1) (admitted-again (r .members) m (led .0) there)))
-        (λ e. read-unheld new d e failed)
+        let led = members-led here member rest taken in
+        unanswered failed (rw (r .follow, led .1) (admitted-again (r .members) member (led .0) there))
 
-    module _ (v : Value) (rest : List Token) (held : takeValue key behind ≡ taking v rest) where
-      abbrev member : Member
-      member = record { key = key; value = v }
+    follows : all ≡ prefixed (r .members) (continued membersIn member (separation closesObject rest))
+    follows = r .follow ∙ ap (prefixed (r .members)) (members-took here member rest taken)
 
-      follows : all ≡ prefixed (r .members) (continued membersIn member (separation closesObject rest))
-      follows = r .follow ∙ ap (prefixed (r .members)) (members-took here member rest (keyed here key behind named ∙ rw held))
+    -- neither a comma nor the closing brace follows
+    pub read-broken : (new : List ℕ) (d : Draft) → separation closesObject rest ≡ broken → d .ok ≡ false → Answered s new d all
+    read-broken new d e failed = unanswered failed (rw (follows, e) (admitted-missed (r .members) missed refl))
 
-      -- neither a comma nor the closing brace follows
-      pub read-broken : (new : List ℕ) (d : Draft) → separation closesObject rest ≡ broken → d .ok ≡ false → Answered s new d all
-      read-broken new d e failed = unanswered failed (rw (follows, e) (admitted-missed (r .members) missed refl))
+    module _ (new : List ℕ) (figure from len : ℕ) (room : length new ≡ length numbers) (known : key < keyCount) (fresh : getD seen key false ≡ false)
+        (apart : Apart key numbers new) (holds : HoldsValue s new key figure from len v) where
+      -- a comma follows
+      pub read-next : (next : ℕ) → separation closesObject rest ≡ more (tokens (drop next s))
+          → Read s begun new (set seen key true) (set figures key figure) (set froms key from) (set lens key len) next
+      read-next next e = record {
+        members = r .members ++ (member ∷ []);
+        follow = follows ∙ rw e (prefixed-led (r .members) member (membersIn (tokens (drop next s))));
+        kept = kept-next (r .kept) (r .placed) key figure from len v known fresh apart holds;
+        placed = placed-next (r .kept) (r .placed) key figure from len v known fresh apart holds;
+        room = room ∙ r .room;
+      }
 
-      module _ (new : List ℕ) (figure from len : ℕ) (room : length new ≡ length numbers) (known : key < keyCount) (fresh : getD seen key false ≡ false)
-          (apart : Apart key numbers new) (holds : HoldsValue s new key figure from len v) where
-        -- a comma follows
-        pub read-next : (next : ℕ) → separation closesObject rest ≡ more (tokens (drop next s))
-            → Read s begun new (set seen key true) (set figures key figure) (set froms key from) (set lens key len) next
-        read-next next e = record {
-          members = r .members ++ (member ∷ []);
-          follow = follows ∙ rw e (prefixed-led (r .members) member (membersIn (tokens (drop next s))));
-          kept = kept-next (r .kept) (r .placed) key figure from len v known fresh apart holds;
-          placed = placed-next (r .kept) (r .placed) key figure from len v known fresh apart holds;
-          room = room ∙ r .room;
-        }
-
-        -- the closing brace follows
-        pub read-done : (next : ℕ) → separation closesObject rest ≡ noMore (tokens (drop next s))
-            → Answered s new (record {
-              ok = true;
-              next = next;
-              seen = set seen key true;
-              figures = set figures key figure;
-              froms = set froms key from;
-              lens = set lens key len;
-            }) all
-        read-done next e =
-            answered (r .members ++ (member ∷ [])) refl (follows ∙ rw e (prefixed-done (r .members) member (tokens (drop next s))))
-            (kept-next (r .kept) (r .placed) key figure from len v known fresh apart holds)
+      -- the closing brace follows
+      pub read-done : (next : ℕ) → separation closesObject rest ≡ noMore (tokens (drop next s))
+          → Answered s new (record {
+            ok = true;
+            next = next;
+            seen = set seen key true;
+            figures = set figures key figure;
+            froms = set froms key from;
+            lens = set lens key len;
+          }) all
+      read-done next e =
+          answered (r .members ++ (member ∷ [])) refl (follows ∙ rw e (prefixed-done (r .members) member (tokens (drop next s))))
+          (kept-next (r .kept) (r .placed) key figure from len v known fresh apart holds)

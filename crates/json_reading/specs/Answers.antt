@@ -32,6 +32,7 @@ use Rattle.json_reading.specs.declared.settings.Settings.the-variants.{A
 use Rattle.json_reading.specs.declared.members.Named.{Named}
 use Rattle.json_reading.specs.declared.members.Named.the-variants.{At as NamedAt, Not as NotNamed}
 use Rattle.json_reading.specs.declared.held.Held.{Held}
+use Rattle.json_reading.specs.declared.members.Keyed.{Keyed}
 use Rattle.json_reading.specs.declared.members.Draft.{Draft}
 
 -- a text is one of our decimals and nothing else
@@ -156,6 +157,13 @@ Apart key old new =
 abbrev pub KeptApart : Held → ℕ → List ℕ → List ℕ → Type 0
 KeptApart h key old new = h .ok ≡ true → Apart key old new
 
+-- a member: its key by its place, and what that holds
+abbrev pub KeyedSays : List ℕ → ℕ → List ℕ → Keyed → Taken Member → Type 0
+KeyedSays s at numbers k (taking m rest) =
+    (k .held .ok ≡ true) × (k .key ≡ m .key) × (k .key < keyCount) × (rest ≡ tokens (drop (k .held .next) s)) × Behind s at (k .held .next)
+    × HoldsValue s numbers (k .key) (k .held .figure) (k .held .from) (k .held .len) (m .value)
+KeyedSays s at numbers k missed = k .held .ok ≡ false
+
 -- members are admitted where each key is there once
 abbrev pub keysOf : List Member → List ℕ
 keysOf ms = map (λ m. m .key) ms
@@ -176,6 +184,17 @@ pub record KeptMembers (s numbers : List ℕ) (ms : List Member) (seen : List Bo
   pub known : All (λ m. m .key < keyCount) ms
   pub once : distinct (keysOf ms) ≡ true
   pub short : (k : ℕ) → readPlace ≤ k → k ≤ executePlace → getD lens k 0 ≤ useLimit
+
+-- nothing was read
+abbrev pub noDraft : Draft
+noDraft = record {
+  ok = false;
+  next = 0;
+  seen = replicate keyCount false;
+  figures = replicate keyCount 0;
+  froms = replicate keyCount 0;
+  lens = replicate keyCount 0;
+}
 
 pub record Drafted (s numbers : List ℕ) (ms : List Member) (rest : List Token) (d : Draft) : Type 0 where
   pub next : rest ≡ tokens (drop (d .next) s)

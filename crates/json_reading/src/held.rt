@@ -37,7 +37,7 @@ pub(crate) struct Held {
 }
 
 // Nothing that a key may hold.
-fn not_held() -> Held
+pub(crate) fn not_held() -> Held
     ensures { λ r. ⌜ r .ok ≡ false ⌝ }
 {
     Held {

@@ -13,6 +13,7 @@ ghost use Prim.Native.Nat.{_+_, _≤_};
 ghost use lib.Dec.{leb};
 ghost use lib.ListN.{length, take, drop};
 ghost use Rattle.actions.specs.Actions.{useLimit};
+ghost use Rattle.json_rules.specs.Members.{idLength};
 ghost use Rattle.json_rules.specs.Actions.{heldId, unread, jsonRead};
 ghost use Rattle.json_reading.specs.Answers.{listRoom, draftFull, usesFrom};
 use actions::Action;
@@ -34,7 +35,7 @@ use refusals::Refusal;
 use register::MOMENT_END;
 
 // How many numbers the three lists have room for, 32 each.
-const NUMBERS: usize = 96;
+const NUMBERS: usize = 3 * Action::USES;
 
 // Whether the keys that must be there were seen, and the lists have at most 32 numbers together.
 fn is_full(seen: [bool; KEYS], reads: usize, writes: usize, executes: usize) -> bool
@@ -87,7 +88,7 @@ fn uses_of(numbers: &[u32], reads: usize, writes: usize, executes: usize) -> [Us
 
 // The bytes of an id, with zeros behind them.
 fn id_of(s: &[u8], from: usize, len: usize) -> [u8; ID_BYTES]
-    requires { ⌜ (from + len ≤ length (now s)) × (len ≤ 64) ⌝ }
+    requires { ⌜ (from + len ≤ length (now s)) × (len ≤ idLength) ⌝ }
     ensures { λ r. ⌜ r ≡ heldId (take len (drop from (now (s .entry)))) ⌝ }
 {
     let mut id = [0u8; ID_BYTES];

@@ -5,7 +5,9 @@ ghost use mathlib.Core.Bool.{false};
 ghost use lib.ListN.{length, drop};
 ghost use Rattle.json_tokens.specs.Tokens.{closesObject, tokens};
 ghost use Rattle.json_rules.specs.Members.{takeMember, items, membersOf};
-ghost use Rattle.json_reading.specs.Answers.{keyOf, NamedSays, listRoom, admitted, admittedWhole, DraftSays};
+ghost use Rattle.json_reading.specs.Answers.{keyOf, NamedSays, KeyedSays, KeptApart, listRoom, admitted, admittedWhole, noDraft, DraftSays};
+use crate::held::Held;
+use crate::held::not_held;
 use crate::held::read_value;
 use crate::marks::Passed;
 use crate::marks::Separator;
@@ -22,6 +24,12 @@ use json_tokens::TokenAt;
 enum Named {
     At(usize, usize),
     Not,
+}
+
+// A member: the place of its key, and what that holds.
+struct Keyed {
+    key: usize,
+    held: Held,
 }
 
 // What was read of an object's members, by the places of their keys, and the position behind it.
@@ -52,9 +60,37 @@ fn read_key(s: &[u8], at: usize) -> Named
     }
 }
 
-// No object of the form.
+// No member of the form.
+fn no_member() -> Keyed
+    ensures { λ r. ⌜ r .held .ok ≡ false ⌝ }
+{
+    Keyed {
+        key: 0,
+        held: not_held(),
+    }
+}
+
+// Reads the member at `at`: a key, its colon, and what that key may hold.
+fn read_member(s: &[u8], at: usize, numbers: &mut [u32]) -> Keyed
+    requires { ⌜ length (now numbers) ≡ listRoom ⌝ }
+    ensures member { λ r. ⌜ KeyedSays (now (s .entry)) at (now (numbers .exit)) r (takeMember (tokens (drop at (now (s .entry))))) ⌝ }
+    ensures kept { λ r. ⌜ KeptApart (r .held) (r .key) (now (numbers .entry)) (now (numbers .exit)) ⌝ }
+{
+    match read_key(s, at) {
+        Named::At(key, value_at) => {
+            if KEYS <= key {
+                return no_member();
+            }
+            let held = read_value(s, value_at, key, numbers);
+            Keyed { key, held }
+        }
+        Named::Not => no_member(),
+    }
+}
+
+// No object of the form, or none of its members yet.
 fn no_draft() -> Draft
-    ensures { λ r. ⌜ r .ok ≡ false ⌝ }
+    ensures { λ r. ⌜ r ≡ noDraft ⌝ }
 {
     Draft {
         ok: false,
@@ -72,48 +108,31 @@ fn read_members(s: &[u8], begun: usize, numbers: &mut [u32]) -> Draft
     ensures answer { λ r. ⌜ r .ok ≡ admitted (items takeMember closesObject (tokens (drop begun (now (s .entry))))) ⌝ }
     ensures drafted { λ r. ⌜ DraftSays (now (s .entry)) (now (numbers .exit)) r (items takeMember closesObject (tokens (drop begun (now (s .entry))))) ⌝ }
 {
-    let mut seen = [false; KEYS];
-    let mut figures = [0u32; KEYS];
-    let mut froms = [0usize; KEYS];
-    let mut lens = [0usize; KEYS];
+    let mut draft = no_draft();
     let mut at = begun;
     loop {
-        match read_key(s, at) {
-            Named::At(key, value_at) => {
-                if KEYS <= key {
-                    return no_draft();
-                }
-                if seen[key] {
-                    return no_draft();
-                }
-                let held = read_value(s, value_at, key, numbers);
-                if !held.ok {
-                    return no_draft();
-                }
-                seen[key] = true;
-                figures[key] = held.figure;
-                froms[key] = held.from;
-                lens[key] = held.len;
-                match read_separator(s, held.next, CLOSES_OBJECT) {
-                    Separator::More(next) => {
-                        at = next;
-                    }
-                    Separator::Done(next) => {
-                        return Draft {
-                            ok: true,
-                            next,
-                            seen,
-                            figures,
-                            froms,
-                            lens,
-                        };
-                    }
-                    Separator::Broken => {
-                        return no_draft();
-                    }
-                }
+        let member = read_member(s, at, numbers);
+        if !member.held.ok {
+            return no_draft();
+        }
+        let key = member.key;
+        if draft.seen[key] {
+            return no_draft();
+        }
+        draft.seen[key] = true;
+        draft.figures[key] = member.held.figure;
+        draft.froms[key] = member.held.from;
+        draft.lens[key] = member.held.len;
+        match read_separator(s, member.held.next, CLOSES_OBJECT) {
+            Separator::More(next) => {
+                at = next;
             }
-            Named::Not => {
+            Separator::Done(next) => {
+                draft.ok = true;
+                draft.next = next;
+                return draft;
+            }
+            Separator::Broken => {
                 return no_draft();
             }
         }

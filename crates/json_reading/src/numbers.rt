@@ -40,12 +40,12 @@ pub(crate) enum Numbers {
 fn number_in(x: &[u8]) -> Exact
     ensures { λ r. ⌜ ExactSays r (parse idLimit (now (x .entry))) ⌝ }
 {
-    match decimals::read_number(x, 0, ID_LIMIT as u64) {
+    match decimals::read_number(x, 0, ID_LIMIT) {
         Number::Value(n, next) => {
             if next < x.len() {
                 return Exact::Not;
             }
-            Exact::Is(n as u32)
+            Exact::Is(n)
         }
         Number::Large(_) => Exact::Not,
         Number::Bad => Exact::Not,

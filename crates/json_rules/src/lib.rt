@@ -4,11 +4,10 @@
 ghost use mathlib.Core.Path.{_≡_};
 ghost use Rattle.json_rules.specs.Members.{isIdText};
 use actions::Action;
+use json_tokens::QUOTE;
 use refusals::Outcome;
 
-// The byte around a text, and the one that no text may have.
-const QUOTE: u8 = 34;
-
+// The byte that no text may have.
 const BACKSLASH: u8 = 92;
 
 // How many bytes an id has at most.

@@ -28,7 +28,7 @@ pub const TRUE: u8 = 116;
 pub const FALSE: u8 = 102;
 
 // The byte around a text.
-const QUOTE: u8 = 34;
+pub const QUOTE: u8 = 34;
 
 // A token, where the next one begins or where its bytes stand: a mark, by its byte, with the position behind it; a text, from its first
 // byte up to, not including, its closing quote; the end of the input; or what is no token.

@@ -18,12 +18,12 @@ use register::PATH_BYTE_LEAST;
 use register::Register;
 
 // What a step's line opens: an action, or a whole plan.
-pub const ACTION_STEP: u64 = 1;
+pub const ACTION_STEP: u32 = 1;
 
-pub const PLAN_STEP: u64 = 2;
+pub const PLAN_STEP: u32 = 2;
 
 // The byte that ends a line.
-const LINE_FEED: u8 = 10;
+pub const LINE_FEED: u8 = 10;
 
 // Where a reading stands: the position of the next line, and how many lines are behind it. Failed: not on, with the refusal, and the line.
 pub struct Cursor {
@@ -35,7 +35,7 @@ pub struct Cursor {
 
 // A number that was read, 0 where the reading failed, and where it then stands.
 pub struct Field {
-    pub value: u64,
+    pub value: u32,
     pub cursor: Cursor,
 }
 
@@ -48,7 +48,7 @@ pub struct Scope {
 
 // A line's number with the position behind its LF; a number above the limit; or no such line.
 pub enum LineRead {
-    Value(u64, usize),
+    Value(u32, usize),
     Over,
     Fault,
 }
@@ -124,7 +124,7 @@ fn has_key(s: &[u8], at: usize, key: &[u8]) -> bool
 }
 
 // The line of `key`, which ends with '=', with a number up to `greatest`.
-fn read_limited(s: &[u8], at: usize, key: &[u8], greatest: u64) -> LineRead
+fn read_limited(s: &[u8], at: usize, key: &[u8], greatest: u32) -> LineRead
     requires { ⌜ at ≤ length (now s) ⌝ }
     ensures { λ r. ⌜ LineSays (now (s .entry)) at r (parseLimited (now (key .entry)) greatest (drop at (now (s .entry)))) ⌝ }
 {
@@ -153,7 +153,7 @@ fn read_limited(s: &[u8], at: usize, key: &[u8], greatest: u64) -> LineRead
 }
 
 // The same with a lower end: a number below `least` is no such line.
-fn read_ranged(s: &[u8], at: usize, key: &[u8], least: u64, greatest: u64) -> LineRead
+fn read_ranged(s: &[u8], at: usize, key: &[u8], least: u32, greatest: u32) -> LineRead
     requires { ⌜ at ≤ length (now s) ⌝ }
     ensures { λ r. ⌜ LineSays (now (s .entry)) at r (parseDecimal (now (key .entry)) least greatest (drop at (now (s .entry)))) ⌝ }
 {
@@ -187,8 +187,8 @@ pub fn read_decimal(
     s: &[u8],
     c: Cursor,
     key: &[u8],
-    least: u64,
-    greatest: u64,
+    least: u32,
+    greatest: u32,
     above: Refusal,
 ) -> Field
     ensures { λ r. ⌜ FieldSays (now (s .entry)) r (readForm (decimal (now (key .entry)) least greatest above) (stateOf (now (s .entry)) c)) ⌝ }
@@ -216,14 +216,14 @@ pub fn read_decimal(
 }
 
 // The next line of `key`, with a number from the least to the greatest.
-pub fn read_number(s: &[u8], c: Cursor, key: &[u8], least: u64, greatest: u64) -> Field
+pub fn read_number(s: &[u8], c: Cursor, key: &[u8], least: u32, greatest: u32) -> Field
     ensures { λ r. ⌜ FieldSays (now (s .entry)) r (readForm (number (now (key .entry)) least greatest) (stateOf (now (s .entry)) c)) ⌝ }
 {
     read_decimal(s, c, key, least, greatest, Refusal::Form)
 }
 
 // The next line of `key`, with a count up to its limit.
-pub fn read_count(s: &[u8], c: Cursor, key: &[u8], limit: u64) -> Field
+pub fn read_count(s: &[u8], c: Cursor, key: &[u8], limit: u32) -> Field
     ensures { λ r. ⌜ FieldSays (now (s .entry)) r (readForm (count (now (key .entry)) limit) (stateOf (now (s .entry)) c)) ⌝ }
 {
     read_decimal(s, c, key, 0, limit, Refusal::Count)
@@ -234,9 +234,9 @@ fn read_word<'a>(
     s: &[u8],
     c: Cursor,
     first: &'a [u8],
-    one: u64,
+    one: u32,
     second: &'a [u8],
-    other: u64,
+    other: u32,
 ) -> Field
     requires { ⌜ (0 < length (now first)) × (0 < length (now second)) ⌝ }
     ensures { λ r. ⌜ FieldSays (now (s .entry)) r (readWord (now (first .entry)) one (now (second .entry)) other (stateOf (now (s .entry)) c)) ⌝ }
@@ -270,9 +270,9 @@ pub fn read_kind(s: &[u8], c: Cursor) -> Field
         s,
         c,
         b"kind=human\n",
-        Actor::HUMAN as u64,
+        Actor::HUMAN,
         b"kind=machine\n",
-        Actor::MACHINE as u64,
+        Actor::MACHINE,
     )
 }
 

@@ -85,16 +85,16 @@ abbrev pub answerBy : Lent → List ℕ → ℕ → List Action → PlanTextVerd
 answerBy l names n actions = textVerdict (haltBy names n 0 actions) (judgementsBy l false actions)
 
 module _ {l : Lent} {names : List ℕ} {n : ℕ} {s : List ℕ} {p : Places} where
-  pub judging-start : p .count ≤ textActionLimit → length (p .list) ≡ textActionLimit
-      → Judging l names n s p (replicate textActionLimit (wrapped Permitted)) false 0
-  judging-start few sized = record {
+  pub judging-start : p .count ≤ textActionLimit → length (p .list) ≡ textActionLimit → {list : List Judged}
+      → list ≡ replicate textActionLimit (wrapped Permitted) → Judging l names n s p list false 0
+  judging-start few sized none = record {
     within = omega arith;
     few = few;
     sized = sized;
     going-on = refl;
     passed = [];
     long = refl;
-    put = refl;
+    put = none;
     ahead = refl;
   }
 

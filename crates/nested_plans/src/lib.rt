@@ -8,12 +8,14 @@
 ghost use mathlib.Core.Path.{_≡_};
 ghost use mathlib.Core.Bool.{false};
 ghost use Prim.Native.Nat.{_≤_};
+ghost use lib.ListN.{replicate};
 ghost use Rattle.gate.specs.Judged.{lentOf};
 ghost use Rattle.plans.specs.Stops.{haltBy};
 ghost use Rattle.plans.specs.Judgements.{judgementsBy};
 ghost use Rattle.steps.specs.Steps.{textActionLimit};
 ghost use Rattle.steps.specs.Judging.{stoppedPlan, textVerdict, planTextJudged};
-ghost use Rattle.step_reading.specs.Finding.{actionsAt};
+ghost use Rattle.step_reading.specs.Finding.{actionAt, actionsAt};
+use actions::Action;
 use actions::Judged;
 use actions::Judgement;
 use gate::Counts;
@@ -25,14 +27,21 @@ use step_reading::Places;
 use steps::PlanTextVerdict;
 use steps::TEXT_ACTIONS;
 
-// A stopped plan: no verdicts.
-fn stopped(why: Refusal, line: usize, position: usize) -> PlanTextVerdict
-    ensures { λ v. ⌜ v ≡ stoppedPlan why line position ⌝ }
+// The places of the verdicts with none in them yet: each holds the permission, which is not counted.
+fn no_verdicts() -> [Judged; TEXT_ACTIONS]
+    ensures { λ r. ⌜ r ≡ replicate textActionLimit (record { what = Judgement.Permitted }) ⌝ }
 {
     let none = Judged {
         what: Judgement::Permitted,
     };
-    let list = [none; TEXT_ACTIONS];
+    [none; TEXT_ACTIONS]
+}
+
+// A stopped plan: no verdicts.
+fn stopped(why: Refusal, line: usize, position: usize) -> PlanTextVerdict
+    ensures { λ v. ⌜ v ≡ stoppedPlan why line position ⌝ }
+{
+    let list = no_verdicts();
     PlanTextVerdict {
         outcome: Outcome::Refused(why),
         line,
@@ -40,6 +49,14 @@ fn stopped(why: Refusal, line: usize, position: usize) -> PlanTextVerdict
         list,
         count: 0,
     }
+}
+
+// The action that begins at a place of the text.
+fn action_at(text: &[u8], at: usize) -> Action
+    ensures { λ a. ⌜ a ≡ actionAt (now (text .entry)) at ⌝ }
+{
+    let form = action_reading::read_lines(text, lines::behind(at, 0));
+    form.action
 }
 
 // The verdicts on the actions that begin at these places of the text, by what is lent.
@@ -56,15 +73,11 @@ fn judge_places<'a>(
     requires { ⌜ p .count ≤ textActionLimit ⌝ }
     ensures { λ y. ⌜ y ≡ textVerdict (haltBy (found .actors .names) (counts .actors) 0 (actionsAt (now (text .entry)) p)) (judgementsBy (lentOf counts found (now (lens .entry)) (now (ends .entry)) (now (sheet .entry)) (now (bytes .entry))) false (actionsAt (now (text .entry)) p)) ⌝ }
 {
-    let none = Judged {
-        what: Judgement::Permitted,
-    };
-    let mut list = [none; TEXT_ACTIONS];
+    let mut list = no_verdicts();
     let mut flagged = false;
     let mut i: usize = 0;
     while i < p.count {
-        let form = action_reading::read_lines(text, lines::behind(p.list[i], 0));
-        let a = form.action;
+        let a = action_at(text, p.list[i]);
         let outcome = gate::action_outcome(&found.actors.names, counts.actors, a);
         match outcome {
             Outcome::Refused(why) => {

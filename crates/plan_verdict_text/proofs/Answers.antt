@@ -81,7 +81,7 @@ module _ (register plan : List ℕ) where
   answered = planTextJudged (registerRead register .register) plan
 
   pub register-stops-plan : (why : Refusal) → registerRead register .outcome ≡ RefusedFor why → planPrinted register plan ≡ planStoppedText why
-  register-stops-plan = composing.refused-printed register plan refl
+  register-stops-plan = composing.refused-printed register plan
 
   pub every-verdict-printed : registerRead register .outcome ≡ Accepted → answered .outcome ≡ Accepted
       → planPrinted register plan
@@ -91,7 +91,7 @@ module _ (register plan : List ℕ) where
       let r = registerRead register .register in
       let actions = planTextRead plan .actions in
       let vs = judgements r false actions in
-      composing.accepted-printed register plan refl heard
+      composing.accepted-printed register plan heard refl
       ∙ ap planAnswerText (judged-held r plan e)
       ∙ answer-lines (heldText vs) Accepted refl
       ∙ ap (λ (t : List ℕ). planJudgedLine ++ t) (held-text vs)
@@ -99,7 +99,7 @@ module _ (register plan : List ℕ) where
 
   stopped-printed : (why : Refusal) → registerRead register .outcome ≡ Accepted → answered .outcome ≡ RefusedFor why
       → planPrinted register plan ≡ planStoppedText why ++ placeText why (answered .line) (answered .position)
-  stopped-printed why heard e = composing.accepted-printed register plan refl heard ∙ answer-lines answered (RefusedFor why) e
+  stopped-printed why heard e = composing.accepted-printed register plan heard refl ∙ answer-lines answered (RefusedFor why) e
 
   pub line-printed : (why : Refusal) → registerRead register .outcome ≡ Accepted → answered .outcome ≡ RefusedFor why → OfText why
       → planPrinted register plan ≡ planStoppedText why ++ decimalLine lineKey (answered .line)

@@ -2,23 +2,20 @@
 use Prim.Native.Nat.{ℕ}
 use mathlib.Core.Path.{_≡_, sym, ap, _∙_}
 use mathlib.Core.List.{List}
-use Rattle.refusals.specs.declared.Outcome.{Outcome}
+use Rattle.register.specs.declared.Register.{Register}
 use Rattle.refusals.specs.declared.Outcome.the-variants.{Accepted, Refused}
 use Rattle.refusals.specs.declared.Refusal.{Refusal}
 use Rattle.text_rules.specs.Registers.{registerRead}
-use Rattle.text_rules.specs.declared.RegisterRead.{RegisterRead}
 use Rattle.steps.specs.Judging.{planTextJudged}
-use Rattle.plan_verdict_text.specs.PlanPrinted.{planStoppedText, planAnswerText, registerPlanLines, planPrinted}
+use Rattle.verdict_printing.proofs.Composing.{lines-accepted, lines-refused}
+use Rattle.plan_verdict_text.specs.PlanPrinted.{planStoppedText, planAnswerText, planPrinted}
 
-module _ (t plan : List ℕ) {read : RegisterRead} (same : read ≡ registerRead t) where
-  pub accepted-printed : read .outcome ≡ Accepted → planPrinted t plan ≡ planAnswerText (planTextJudged (read .register) plan)
+module _ (t plan : List ℕ) where
+  pub accepted-printed : {r : Register} → registerRead t .outcome ≡ Accepted → r ≡ registerRead t .register
+      → planPrinted t plan ≡ planAnswerText (planTextJudged r plan)
   unfolding planPrinted
-  accepted-printed e =
-      ap (λ (o : RegisterRead). registerPlanLines (o .outcome) o plan) (sym same)
-      ∙ ap (λ (o : Outcome). registerPlanLines o read plan) e
+  accepted-printed e same = lines-accepted planStoppedText _ e ∙ ap (λ r. planAnswerText (planTextJudged r plan)) (sym same)
 
-  pub refused-printed : (why : Refusal) → read .outcome ≡ Refused why → planPrinted t plan ≡ planStoppedText why
+  pub refused-printed : (why : Refusal) → registerRead t .outcome ≡ Refused why → planPrinted t plan ≡ planStoppedText why
   unfolding planPrinted
-  refused-printed why e =
-      ap (λ (o : RegisterRead). registerPlanLines (o .outcome) o plan) (sym same)
-      ∙ ap (λ (o : Outcome). registerPlanLines o read plan) e
+  refused-printed why e = lines-refused planStoppedText _ why e

@@ -15,10 +15,9 @@ use Rattle.actions.specs.declared.Judgement.the-variants.{Permitted, Refused, C
 use Rattle.lines.specs.Lines.{decimalLine}
 use Rattle.text_rules.specs.Records.{texts}
 use Rattle.text_rules.specs.Registers.{registerRead}
-use Rattle.text_rules.specs.declared.RegisterRead.{RegisterRead}
 use Rattle.steps.specs.Judging.{verdictsIn, planTextJudged}
 use Rattle.steps.specs.declared.PlanTextVerdict.{PlanTextVerdict}
-use Rattle.verdict_printing.specs.Printed.{permittedLine, refusedLine, violationsKey, refusalKey}
+use Rattle.verdict_printing.specs.Printed.{permittedLine, refusedLine, violationsKey, refusalKey, unlessRefused}
 
 -- the fixed lines, and the keys of the others, beside those of an action's verdict
 abbrev pub planJudgedLine : List ℕ
@@ -69,11 +68,7 @@ planAnswerLines (RefusedFor why) v = planStoppedText why ++ placeText why (v .li
 unfoldable pub planAnswerText : PlanTextVerdict → List ℕ
 planAnswerText v = planAnswerLines (v .outcome) v
 
--- a register's text, then a plan's; a register that is refused stops
-abbrev pub registerPlanLines : Outcome → RegisterRead → List ℕ → List ℕ
-registerPlanLines Accepted r plan = planAnswerText (planTextJudged (r .register) plan)
-registerPlanLines (RefusedFor why) r plan = planStoppedText why
-
--- what the program prints of the two texts
+-- what the program prints of a register's text, then a plan's; a register that is refused stops
 unfoldable pub planPrinted : List ℕ → List ℕ → List ℕ
-planPrinted register plan = registerPlanLines (registerRead register .outcome) (registerRead register) plan
+planPrinted register plan =
+    unlessRefused planStoppedText (registerRead register .outcome) (planAnswerText (planTextJudged (registerRead register .register) plan))

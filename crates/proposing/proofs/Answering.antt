@@ -163,7 +163,8 @@ four true true false d = refl
 four true true true true = refl
 four true true true false = refl
 
-module _ (r : Register) (x : ℕ) (u : Usage) (moment : ℕ) (s : Signers) where
+-- ---- whether anything may be signed at all
+module _ (r : Register) (x : ℕ) (u : Usage) (moment : ℕ) where
   abbrev owns : Bool
   owns = not (isOwnerless r x) && not (ownerLacks r moment x u)
 
@@ -171,6 +172,20 @@ module _ (r : Register) (x : ℕ) (u : Usage) (moment : ℕ) (s : Signers) where
   unfolding clear
   clear-joined = four (not (isOwnerless r x)) (not (ownerLacks r moment x u)) (ltb (r .claims .count) claimLimit) (contains r (u .resource) (u .resource))
 
+  pub clear-full : claimLimit ≤ r .claims .count → false ≡ clear r x u moment
+  clear-full h = sym (clear-joined ∙ rw (le-ltb (r .claims .count) claimLimit h, and-false owns))
+
+  pub clear-dotted : contains r (u .resource) (u .resource) ≡ false → false ≡ clear r x u moment
+  clear-dotted e = sym (clear-joined ∙ rw e (and-false (owns && ltb (r .claims .count) claimLimit)))
+
+  pub clear-owned : r .claims .count < claimLimit → contains r (u .resource) (u .resource) ≡ true → owns ≡ clear r x u moment
+  clear-owned room clean = sym (clear-joined ∙ rw (lt-ltb (r .claims .count) claimLimit room, clean) (whole owns))
+    where
+      whole : (b : Bool) → (b && true) && true ≡ b
+      whole true = refl
+      whole false = refl
+
+module _ (r : Register) (x : ℕ) (u : Usage) (moment : ℕ) (s : Signers) where
   pub marks-stopped : (why : Refusal) → outcomeOf (askTests r x u moment s) ≡ Refused why → unproposed why ≡ byMarks r x u moment s
   unfolding byMarks
   marks-stopped why e = sym (ap (λ o. byMarksOn o r x u moment s) e)
@@ -181,25 +196,13 @@ module _ (r : Register) (x : ℕ) (u : Usage) (moment : ℕ) (s : Signers) where
     marks-permitted k = sym (ap (λ o. byMarksOn o r x u moment s) passed ∙ rw k)
 
     module _ (k : permits r (oneUse x u moment) ≡ false) where
-      barred : clear r x u moment ≡ false → unproposed NoProposal ≡ byMarks r x u moment s
+      pub marks-barred : clear r x u moment ≡ false → unproposed NoProposal ≡ byMarks r x u moment s
       unfolding byMarks
-      barred e = sym (ap (λ o. byMarksOn o r x u moment s) passed ∙ rw (k, e))
+      marks-barred e = sym (ap (λ o. byMarksOn o r x u moment s) passed ∙ rw (k, e))
 
-      pub marks-full : claimLimit ≤ r .claims .count → unproposed NoProposal ≡ byMarks r x u moment s
-      marks-full h = barred (clear-joined ∙ rw (le-ltb (r .claims .count) claimLimit h, and-false owns))
-
-      pub marks-dotted : contains r (u .resource) (u .resource) ≡ false → unproposed NoProposal ≡ byMarks r x u moment s
-      marks-dotted e = barred (clear-joined ∙ rw e (and-false (owns && ltb (r .claims .count) claimLimit)))
-
-      pub marks-unowned : owns ≡ false → unproposed NoProposal ≡ byMarks r x u moment s
-      marks-unowned e = barred (clear-joined ∙ rw e)
-
-      pub marks-drawn : owns ≡ true → r .claims .count < claimLimit → contains r (u .resource) (u .resource) ≡ true
-          → proposedFirst (firstSigned r x u moment (signersOf s)) ≡ byMarks r x u moment s
+      pub marks-drawn : clear r x u moment ≡ true → proposedFirst (firstSigned r x u moment (signersOf s)) ≡ byMarks r x u moment s
       unfolding byMarks
-      marks-drawn e room clean =
-          let fair : clear r x u moment ≡ true = clear-joined ∙ rw (e, lt-ltb (r .claims .count) claimLimit room, clean) in
-          sym (ap (λ o. byMarksOn o r x u moment s) passed ∙ rw (k, fair))
+      marks-drawn e = sym (ap (λ o. byMarksOn o r x u moment s) passed ∙ rw (k, e))
 
   -- what is drawn by the sheet and the findings is drawn by the register
   pub drawn-read : {sheet : List ℕ} {found : Findings} → Ready r sheet found x u moment

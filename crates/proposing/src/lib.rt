@@ -13,10 +13,11 @@ ghost use Rattle.register.specs.Register.{pathOf};
 ghost use Rattle.paths.specs.Containment.{contained};
 ghost use Rattle.columns.specs.Sheet.{sheetLimit, claimsIn};
 ghost use Rattle.refusals.specs.Refusals.{outcomeOf};
-ghost use Rattle.actions.specs.Actions.{isPermitted};
+ghost use Rattle.actions.specs.Actions.{oneUse, isPermitted};
 ghost use Rattle.refusals.specs.declared.Outcome.the-variants.{Accepted};
-ghost use Rattle.proposals.specs.Proposals.{signersOf, askTests, leastFree, aGrant, unproposed, proposedFirst, proposed};
-ghost use Rattle.proposals.specs.Marks.{byMarks};
+ghost use Rattle.soundness.specs.Opened.{Opened};
+ghost use Rattle.proposals.specs.Proposals.{signersOf, askTests, permits, leastFree, noGrant, aGrant, proposes, unproposed, proposedFirst, proposed};
+ghost use Rattle.proposals.specs.Marks.{clear, byMarks};
 ghost use Rattle.proposing.specs.Planned.{testsOn, Ready, cleanAt, ownerAllows, handsTaken, roomOfRoot, roomUnder, roomsOf, markedBy, marksBy, placeFirst, firstMarked, idsUsed, signedAs, maySignBy, signingBy, signedThrough, grantFirst, drawnBy};
 use actions::Decision;
 use actions::Usage;
@@ -65,6 +66,19 @@ fn refused(why: Refusal) -> Proposed
         outcome: Outcome::Refused(why),
         proposal: Proposal {
             kind: 0,
+            claim: Claim::none(),
+        },
+    }
+}
+
+// No grant is needed.
+fn no_grant() -> Proposed
+    ensures { λ y. ⌜ y ≡ proposes noGrant ⌝ }
+{
+    Proposed {
+        outcome: Outcome::Accepted,
+        proposal: Proposal {
+            kind: Proposal::NO_GRANT,
             claim: Claim::none(),
         },
     }
@@ -119,6 +133,49 @@ fn owner_allows(actors: ActorColumns, n: usize, x: u32, owner: u32, permitted: b
         return false;
     }
     permitted
+}
+
+// Whether the gate permits the one use of an actor.
+fn gate_permits(
+    r: Register,
+    sheet: &[u32],
+    found: Findings,
+    x: u32,
+    usage: Usage,
+    moment: u64,
+) -> bool
+    requires { ⌜ Opened r (now sheet) found ⌝ }
+    ensures { λ y. ⌜ y ≡ permits r (oneUse x usage moment) ⌝ }
+{
+    let verdict = gate::gate_by(r, sheet, found, actions::one_use(x, usage, moment));
+    let decided = verdict.decision;
+    is_permitted(decided)
+}
+
+// Whether anything may be signed at all: there is room for a claim, the used path has no `..`, and the owner of a machine is permitted the use.
+fn is_clear(
+    r: Register,
+    sheet: &[u32],
+    found: Findings,
+    actor: u32,
+    usage: Usage,
+    moment: u64,
+) -> bool
+    requires { ⌜ Ready r (now sheet) found actor usage moment ⌝ }
+    ensures { λ y. ⌜ y ≡ clear r actor usage moment ⌝ }
+{
+    if Register::CLAIMS <= r.claims.count {
+        return false;
+    }
+    let k = r.resources;
+    let spot = coverage::spot(&found.resources.reports, k.count, usage.resource);
+    if !is_clean(k, spot) {
+        return false;
+    }
+    let n = r.actors.count;
+    let owner = gate::owner_of(&found.actors.names, &found.actors.owners, n, actor);
+    let permitted = gate_permits(r, sheet, found, owner, usage, moment);
+    owner_allows(found.actors, n, actor, owner, permitted)
 }
 
 // ---- the marks
@@ -439,42 +496,17 @@ fn propose_by(
     requires { ⌜ (Ready r (now sheet) found actor usage moment) × (outcomeOf (askTests r actor usage moment signers) ≡ Accepted) ⌝ }
     ensures { λ y. ⌜ y ≡ byMarks r actor usage moment signers ⌝ }
 {
-    let verdict = gate::gate_by(r, sheet, found, actions::one_use(actor, usage, moment));
-    let decided = verdict.decision;
-    if is_permitted(decided) {
-        return Proposed {
-            outcome: Outcome::Accepted,
-            proposal: Proposal {
-                kind: Proposal::NO_GRANT,
-                claim: Claim::none(),
-            },
-        };
+    if gate_permits(r, sheet, found, actor, usage, moment) {
+        return no_grant();
+    }
+    if !is_clear(r, sheet, found, actor, usage, moment) {
+        return refused(Refusal::NoProposal);
     }
     let counts = Counts {
         actors: r.actors.count,
         resources: r.resources.count,
         claims: r.claims.count,
     };
-    if Register::CLAIMS <= counts.claims {
-        return refused(Refusal::NoProposal);
-    }
-    let k = r.resources;
-    let spot = coverage::spot(&found.resources.reports, k.count, usage.resource);
-    if !is_clean(k, spot) {
-        return refused(Refusal::NoProposal);
-    }
-    let owner = gate::owner_of(
-        &found.actors.names,
-        &found.actors.owners,
-        counts.actors,
-        actor,
-    );
-    let second = gate::gate_by(r, sheet, found, actions::one_use(owner, usage, moment));
-    let told = second.decision;
-    let permitted = is_permitted(told);
-    if !owner_allows(found.actors, counts.actors, actor, owner, permitted) {
-        return refused(Refusal::NoProposal);
-    }
     draw(
         r.version,
         counts,

@@ -20,6 +20,9 @@ pub const LEFT_LIMIT: u32 = 16;
 // Moments and expiries are below this.
 pub const MOMENT_END: u64 = 4294967296;
 
+// The last moment, and the last expiry.
+pub const LAST_MOMENT: u64 = MOMENT_END - 1;
+
 // The least and the greatest byte of a path.
 pub const PATH_BYTE_LEAST: u8 = 33;
 

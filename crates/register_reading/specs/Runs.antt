@@ -8,17 +8,15 @@ use borrow.Author.Tests.{le-leb}
 use lib.Dec.{leb}
 use lib.ListN.{length, drop, replicate, length-append, length-replicate}
 use Rattle.lists.specs.Tests.{cases}
-use Rattle.register.specs.Limits.{pathLimit, humanKind, machineKind, leftLimit, tellsLeft}
+use Rattle.register.specs.Limits.{pathLimit, tellsLeft}
 use Rattle.refusals.specs.declared.Refusal.{Refusal}
 use Rattle.refusals.specs.declared.Refusal.the-variants.{Form}
-use Rattle.lines.specs.Lines.{line, fault, begins, humanLine, machineLine, parseWord}
-use Rattle.lines.specs.Reading.{State, going, failed, Read, LineForm, decimal, kind, readForm, taken}
+use Rattle.lines.specs.Reading.{State, going, failed, Read, LineForm, decimal, readForm}
 use Rattle.lines.specs.Laws.{form-bound}
 use Rattle.lines.specs.Answers.{FieldSays, ScopeSays, stateOf}
 use Rattle.lines.specs.declared.Cursor.{Cursor}
 use Rattle.lines.specs.declared.Field.{Field}
 use Rattle.lines.specs.declared.Scope.{Scope}
-use Rattle.text_rules.specs.Keys.{leftKey}
 use Rattle.text_rules.specs.Records.{values, passed}
 use Rattle.text_rules.specs.Registers.{expiryForm, claimFrom}
 use Rattle.register_reading.specs.Lefts.{leftForm, readLeft}
@@ -62,10 +60,6 @@ module _ (version : ℕ) (s : List ℕ) (st : State) (l : Field) (says : FieldSa
     says .state ∙ ap (λ b. cond b (readForm leftForm st) (record { value = 0; state = st }) .state) f,
   )
 
-  pub left-bound : l .value ≤ leftLimit
-  left-bound =
-      cases (tellsLeft version) (λ t. field-bound s leftKey 0 leftLimit Form st l (left-told t)) (λ f. omega (arith, left-untold f .0))
-
   -- it stands before that of the expiry
   module _ (e : Field) (last : FieldSays s e (readForm expiryForm (stateOf s (l .cursor)))) where
     last-run : Run s (expiryForm ∷ []) (stateOf s (l .cursor)) (e .value ∷ []) (stateOf s (e .cursor))
@@ -94,21 +88,6 @@ module _ (version : ℕ) (s : List ℕ) (st : State) (l : Field) (says : FieldSa
       }
   claim-told id parent grantor holder resource rights weight expiry =
       cases (tellsLeft version) (λ t. rw t) (λ f. rw (f, left-untold f .0))
-
--- a kind that was read is at most the last of the kinds
-kind-bound : (st : State) → readForm kind st .value ≤ machineKind
-unfolding parseWord
-kind-bound (going t l) = go (begins humanLine t) (begins machineLine t)
-  where
-    go : (human machine : Bool) →
-        taken 0 Form l (cond human (line humanKind (drop (length humanLine) t)) (cond machine (line machineKind (drop (length machineLine) t)) fault)) .value ≤ machineKind
-    go true machine = omega arith
-    go false true = omega arith
-    go false false = omega arith
-kind-bound (failed why l) = omega arith
-
-pub kind-field-bound : (s : List ℕ) (st : State) (r : Field) → FieldSays s r (readForm kind st) → r .value ≤ machineKind
-kind-field-bound s st r says = rw (says .value) (kind-bound st)
 
 -- a path that was read is no longer than its places
 pub scope-bound : (s : List ℕ) (read : Read (List ℕ)) (r : Scope) → ScopeSays s r read → length (r .path) ≡ pathLimit → r .len ≤ pathLimit

@@ -24,15 +24,13 @@ use register::Claim;
 use register::Claims;
 use register::ID_LIMIT;
 use register::LEFT_LIMIT;
-use register::MOMENT_END;
 use register::Register;
 use register::Resource;
 use register::Resources;
 use register::WEIGHT_LIMIT;
+use rights::RIGHTS_LIMIT;
+use text_rules::LAST_MOMENT;
 use text_rules::RegisterRead;
-
-// The greatest rights number: all seventeen rights.
-const RIGHTS_LIMIT: u64 = 131071;
 
 // What was read of a kind, and where the reading then stands.
 struct ActorRead {
@@ -81,13 +79,13 @@ pub struct RegisterForm {
 fn read_actor(s: &[u8], c: Cursor) -> ActorRead
     ensures { λ r. ⌜ Reads (now (s .entry)) (r .actor) (r .cursor) (readActor (stateOf (now (s .entry)) c)) ⌝ }
 {
-    let id = lines::read_number(s, c, b"actor=", 1, ID_LIMIT as u64);
+    let id = lines::read_number(s, c, b"actor=", 1, ID_LIMIT);
     let kind = lines::read_kind(s, id.cursor);
-    let owner = lines::read_number(s, kind.cursor, b"owner=", 0, ID_LIMIT as u64);
+    let owner = lines::read_number(s, kind.cursor, b"owner=", 0, ID_LIMIT);
     let actor = Actor {
-        id: id.value as u32,
-        kind: kind.value as u32,
-        owner: owner.value as u32,
+        id: id.value,
+        kind: kind.value,
+        owner: owner.value,
     };
     let cursor = owner.cursor;
     ActorRead { actor, cursor }
@@ -97,15 +95,15 @@ fn read_actor(s: &[u8], c: Cursor) -> ActorRead
 fn read_resource(s: &[u8], c: Cursor) -> ResourceRead
     ensures { λ r. ⌜ Reads (now (s .entry)) (r .resource) (r .cursor) (readResource (stateOf (now (s .entry)) c)) ⌝ }
 {
-    let id = lines::read_number(s, c, b"resource=", 1, ID_LIMIT as u64);
+    let id = lines::read_number(s, c, b"resource=", 1, ID_LIMIT);
     let public = lines::read_number(s, id.cursor, b"public=", 0, 1);
-    let keeper = lines::read_number(s, public.cursor, b"keeper=", 1, ID_LIMIT as u64);
+    let keeper = lines::read_number(s, public.cursor, b"keeper=", 1, ID_LIMIT);
     let scope = lines::read_scope(s, keeper.cursor);
     let path = scope.path;
     let resource = Resource {
-        id: id.value as u32,
-        public: public.value as u32,
-        keeper: keeper.value as u32,
+        id: id.value,
+        public: public.value,
+        keeper: keeper.value,
         len: scope.len as u32,
         path,
     };
@@ -118,7 +116,7 @@ fn read_left(version: u64, s: &[u8], c: Cursor) -> Field
     ensures { λ r. ⌜ FieldSays (now (s .entry)) r (readLeft version (stateOf (now (s .entry)) c)) ⌝ }
 {
     if version == Register::VERSION_TWO {
-        return lines::read_number(s, c, b"left=", 0, LEFT_LIMIT as u64);
+        return lines::read_number(s, c, b"left=", 0, LEFT_LIMIT);
     }
     Field {
         value: 0,
@@ -130,25 +128,25 @@ fn read_left(version: u64, s: &[u8], c: Cursor) -> Field
 fn read_claim(version: u64, s: &[u8], c: Cursor) -> ClaimRead
     ensures { λ r. ⌜ Reads (now (s .entry)) (r .claim) (r .cursor) (readClaim version (stateOf (now (s .entry)) c)) ⌝ }
 {
-    let id = lines::read_number(s, c, b"claim=", 1, ID_LIMIT as u64);
-    let parent = lines::read_number(s, id.cursor, b"parent=", 0, ID_LIMIT as u64);
-    let grantor = lines::read_number(s, parent.cursor, b"grantor=", 1, ID_LIMIT as u64);
-    let holder = lines::read_number(s, grantor.cursor, b"holder=", 1, ID_LIMIT as u64);
-    let resource = lines::read_number(s, holder.cursor, b"resource=", 1, ID_LIMIT as u64);
+    let id = lines::read_number(s, c, b"claim=", 1, ID_LIMIT);
+    let parent = lines::read_number(s, id.cursor, b"parent=", 0, ID_LIMIT);
+    let grantor = lines::read_number(s, parent.cursor, b"grantor=", 1, ID_LIMIT);
+    let holder = lines::read_number(s, grantor.cursor, b"holder=", 1, ID_LIMIT);
+    let resource = lines::read_number(s, holder.cursor, b"resource=", 1, ID_LIMIT);
     let rights = lines::read_number(s, resource.cursor, b"rights=", 1, RIGHTS_LIMIT);
-    let weight = lines::read_number(s, rights.cursor, b"weight=", 0, WEIGHT_LIMIT as u64);
+    let weight = lines::read_number(s, rights.cursor, b"weight=", 0, WEIGHT_LIMIT);
     let left = read_left(version, s, weight.cursor);
-    let expiry = lines::read_number(s, left.cursor, b"expiry=", 0, MOMENT_END - 1);
+    let expiry = lines::read_number(s, left.cursor, b"expiry=", 0, LAST_MOMENT);
     let claim = Claim {
-        id: id.value as u32,
-        parent: parent.value as u32,
-        grantor: grantor.value as u32,
-        holder: holder.value as u32,
-        resource: resource.value as u32,
-        rights: rights.value as u32,
-        weight: weight.value as u32,
-        left: left.value as u32,
-        expiry: expiry.value,
+        id: id.value,
+        parent: parent.value,
+        grantor: grantor.value,
+        holder: holder.value,
+        resource: resource.value,
+        rights: rights.value,
+        weight: weight.value,
+        left: left.value,
+        expiry: expiry.value as u64,
     };
     let cursor = expiry.cursor;
     ClaimRead { claim, cursor }
@@ -159,7 +157,7 @@ fn read_actors(s: &[u8], c: Cursor) -> ActorsRead
     ensures actors { λ r. ⌜ r .actors ≡ heldActors (readActors (stateOf (now (s .entry)) c) .value) ⌝ }
     ensures state { λ r. ⌜ stateOf (now (s .entry)) (r .cursor) ≡ readActors (stateOf (now (s .entry)) c) .state ⌝ }
 {
-    let counted = lines::read_count(s, c, b"actors=", Register::ACTORS as u64);
+    let counted = lines::read_count(s, c, b"actors=", Register::ACTORS as u32);
     let count = counted.value as usize;
     let none = Actor {
         id: 0,
@@ -186,7 +184,7 @@ fn read_resources(s: &[u8], c: Cursor) -> ResourcesRead
     ensures resources { λ r. ⌜ r .resources ≡ heldResources (readResources (stateOf (now (s .entry)) c) .value) ⌝ }
     ensures state { λ r. ⌜ stateOf (now (s .entry)) (r .cursor) ≡ readResources (stateOf (now (s .entry)) c) .state ⌝ }
 {
-    let counted = lines::read_count(s, c, b"resources=", Register::RESOURCES as u64);
+    let counted = lines::read_count(s, c, b"resources=", Register::RESOURCES as u32);
     let count = counted.value as usize;
     let none = Resource {
         id: 0,
@@ -216,7 +214,7 @@ fn read_listed(version: u64, s: &[u8], c: Cursor) -> ClaimsRead
     ensures claims { λ r. ⌜ r .claims ≡ heldClaims (section claimsKey claimLimit (readClaim version) (stateOf (now (s .entry)) c) .value) ⌝ }
     ensures state { λ r. ⌜ stateOf (now (s .entry)) (r .cursor) ≡ section claimsKey claimLimit (readClaim version) (stateOf (now (s .entry)) c) .state ⌝ }
 {
-    let counted = lines::read_count(s, c, b"claims=", Register::CLAIMS as u64);
+    let counted = lines::read_count(s, c, b"claims=", Register::CLAIMS as u32);
     let count = counted.value as usize;
     let none = Claim::none();
     let mut list = [none; Register::CLAIMS];
@@ -334,16 +332,17 @@ pub fn read_form(text: &[u8]) -> RegisterForm
     ensures register { λ r. ⌜ r .register ≡ registerFrom (now (text .entry)) .value ⌝ }
     ensures state { λ r. ⌜ stateOf (now (text .entry)) (r .cursor) ≡ registerFrom (now (text .entry)) .state ⌝ }
 {
-    let version = lines::read_number(
+    let told = lines::read_number(
         text,
         lines::start(),
         b"register=",
-        Register::VERSION_ONE,
-        Register::VERSION_TWO,
+        Register::VERSION_ONE as u32,
+        Register::VERSION_TWO as u32,
     );
-    let first = read_actors(text, version.cursor);
+    let version = told.value as u64;
+    let first = read_actors(text, told.cursor);
     let second = read_resources(text, first.cursor);
-    let third = read_claims(version.value, text, second.cursor);
+    let third = read_claims(version, text, second.cursor);
     let cursor = lines::finish(text, third.cursor);
     let actors = first.actors;
     let resources = second.resources;
@@ -352,7 +351,7 @@ pub fn read_form(text: &[u8]) -> RegisterForm
         actors,
         resources,
         claims,
-        version: version.value,
+        version,
     };
     RegisterForm { register, cursor }
 }

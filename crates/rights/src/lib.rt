@@ -47,6 +47,9 @@ pub struct Right {
 // How many rights there are.
 pub const COUNT: usize = 17;
 
+// The greatest rights number: all seventeen rights.
+pub const RIGHTS_LIMIT: u32 = 131071;
+
 // The rights in 002's order: the place of a right is its number.
 pub const RIGHTS: [Right; COUNT] = [
     Right {

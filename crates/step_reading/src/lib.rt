@@ -74,12 +74,12 @@ fn take_action(s: &[u8], p: Places, c: Cursor) -> Places
 }
 
 // `k` steps, with so many levels left below them.
-fn read_steps(s: &[u8], k: u64, levels: usize, p: Places) -> Places
+fn read_steps(s: &[u8], k: u32, levels: usize, p: Places) -> Places
     requires { ⌜ p .count ≤ textActionLimit ⌝ }
     ensures { λ r. ⌜ Finds (now (s .entry)) p r (readSteps (readPlan levels) levels k (textActionLimit - p .count) (stateOf (now (s .entry)) (p .cursor))) ⌝ }
 {
     let mut found = p;
-    let mut i: u64 = 0;
+    let mut i: u32 = 0;
     while i < k {
         let next = open_step(s, found.cursor, levels, found.count);
         if next.value == lines::ACTION_STEP {

@@ -8,7 +8,7 @@ use refusals::Outcome;
 pub const LEVELS: usize = 8;
 
 // The steps of one plan.
-pub const STEPS: u64 = 64;
+pub const STEPS: u32 = 64;
 
 // The actions of a plan text, in all its plans.
 pub const TEXT_ACTIONS: usize = 64;

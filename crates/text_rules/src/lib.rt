@@ -8,6 +8,9 @@ use register::Register;
 // No text of a sound register is longer.
 pub const REGISTER_TEXT: usize = 39789;
 
+// The last moment, as a number of a text.
+pub const LAST_MOMENT: u32 = register::LAST_MOMENT as u32;
+
 // A register that was read. Refused: the empty register, and the failing line from 1, or 0 where the register is not sound. Accepted:
 // line 0.
 pub struct RegisterRead {

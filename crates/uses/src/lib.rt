@@ -17,6 +17,9 @@ use columns::Hops;
 use columns::Place;
 use register::Register;
 
+// The place of a resource that does not stand.
+const NO_SPOT: u16 = Register::RESOURCES as u16;
+
 // The uses of an action as columns: the right of each, and the place of its resource, 64 for none; 0 and 64 past the count.
 pub struct Uses {
     pub rights: [u32; Action::USES],
@@ -37,7 +40,7 @@ pub fn uses_of(reports: &[u32], m: usize, a: Action) -> Uses
     let top = lists::least(a.used, Action::USES);
     let mut uses = Uses {
         rights: [0; Action::USES],
-        spots: [64; Action::USES],
+        spots: [NO_SPOT; Action::USES],
         count: top,
     };
     let mut i: usize = 0;
@@ -57,7 +60,7 @@ fn claim_number(place: Place) -> u16
 {
     match place {
         Place::At(j) => lists::least(j, Register::CLAIMS) as u16,
-        Place::Nowhere => 256,
+        Place::Nowhere => lookup::NOWHERE,
     }
 }
 
@@ -74,7 +77,7 @@ pub fn relied_on<'a>(
     ensures { λ r. ⌜ r ≡ reliedAll (take owns (now (own .entry))) (now (rights .entry)) (now (spots .entry)) (now (bytes .entry)) (now (lens .entry)) uses ⌝ }
 {
     let top = lists::least(uses.count, Action::USES);
-    let mut relied = [256u16; Action::USES];
+    let mut relied = [lookup::NOWHERE; Action::USES];
     let mut i: usize = 0;
     while i < top {
         let spot = uses.spots[i] as usize;

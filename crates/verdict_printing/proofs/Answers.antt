@@ -58,16 +58,15 @@ module _ (register action : List ℕ) where
   asked = gated (registerRead register .register) (actionRead action .action)
 
   pub register-stops : (why : Refusal) → registerRead register .outcome ≡ RefusedFor why → printed register action ≡ stoppedText why
-  register-stops = composing.refused-printed register action refl
+  register-stops = composing.refused-printed register action
 
   pub action-stops : (why : Refusal) → registerRead register .outcome ≡ Accepted → actionRead action .outcome ≡ RefusedFor why
       → printed register action ≡ stoppedText why
-  action-stops why e f = composing.accepted-printed register action refl e ∙ composing.refused-lines (registerRead register .register) action refl why f
+  action-stops why e f = composing.accepted-printed register action e refl ∙ composing.lines-refused stoppedText _ why f
 
   pub printed-heard : Heard register action → printed register action ≡ verdictText asked
   printed-heard h =
-      composing.accepted-printed register action refl (h .registered)
-      ∙ composing.judged-lines (registerRead register .register) action refl (h .posed) refl
+      composing.accepted-printed register action (h .registered) refl ∙ composing.lines-accepted stoppedText _ (h .posed)
 
   pub gate-stops : (why : Refusal) → Heard register action → outcomeOf (gateTests (registerRead register .register) (actionRead action .action)) ≡ RefusedFor why
       → printed register action ≡ stoppedText why

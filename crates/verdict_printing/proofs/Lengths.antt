@@ -42,9 +42,7 @@ use Rattle.text_rules.specs.Records.{texts}
 use Rattle.text_rules.specs.Registers.{registerRead}
 use Rattle.text_rules.specs.Actions.{actionRead}
 use Rattle.text_rules.specs.Lengths.{texts-length}
-use Rattle.text_rules.specs.declared.RegisterRead.{RegisterRead}
-use Rattle.text_rules.specs.declared.ActionRead.{ActionRead}
-use Rattle.verdict_printing.specs.Printed.{permittedLine, refusedLine, stoppedLine, violationsKey, violationKey, atKey, refusalKey, violationsIn, pairText, listText, stoppedText, verdictLines, verdictText, actionLines, registerLines, printed, printedLimit, jsonLines, clockRead, clockLines, registerJson, jsonPrinted}
+use Rattle.verdict_printing.specs.Printed.{permittedLine, refusedLine, stoppedLine, violationsKey, violationKey, atKey, refusalKey, violationsIn, pairText, listText, stoppedText, verdictLines, verdictText, unlessRefused, printed, printedLimit, clockRead, clockLines, jsonPrinted}
 
 -- a violation names a number of 16 bits
 abbrev pub Small : Violation → Type 0
@@ -169,32 +167,26 @@ gated-fitting r a =
       few = rw (gated-stopped r a why e) (omega arith);
     })
 
-pub action-length : (r : Register) (o : Outcome) (a : ActionRead) → length (actionLines r o a) ≤ printedLimit
-action-length r Accepted a = gated-fitting r (a .action) .text
-action-length r (RefusedFor why) a = stopped-length why
+unless-length : (o : Outcome) (lines : List ℕ) → length lines ≤ printedLimit → length (unlessRefused stoppedText o lines) ≤ printedLimit
+unless-length Accepted lines short = short
+unless-length (RefusedFor why) lines short = stopped-length why
 
-register-length : (o : Outcome) (r : RegisterRead) (action : List ℕ) → length (registerLines o r action) ≤ printedLimit
-register-length Accepted r action = action-length (r .register) (actionRead action .outcome) (actionRead action)
-register-length (RefusedFor why) r action = stopped-length why
+posed-length : (r : Register) (o : Outcome) (a : Action) → length (unlessRefused stoppedText o (verdictText (gated r a))) ≤ printedLimit
+posed-length r o a = unless-length o (verdictText (gated r a)) (gated-fitting r a .text)
 
 -- no printed text is longer than 1,103 bytes
 pub printed-length : (register action : List ℕ) → length (printed register action) ≤ printedLimit
 unfolding printed
-printed-length register action = register-length (registerRead register .outcome) (registerRead register) action
+printed-length register action =
+    let read = actionRead action in
+    unless-length (registerRead register .outcome) _ (posed-length (registerRead register .register) (read .outcome) (read .action))
 
 -- so with the three texts of a JSON action
-json-lines-length : (r : Register) (o : Outcome) (a : Action) → length (jsonLines r o a) ≤ printedLimit
-json-lines-length r Accepted a = gated-fitting r a .text
-json-lines-length r (RefusedFor why) a = stopped-length why
-
 clock-length : (r : Register) (st : State) (moment : ℕ) (action : List ℕ) → length (clockLines r st moment action) ≤ printedLimit
-clock-length r (going t l) moment action = json-lines-length r (jsonRead action moment .outcome) (jsonRead action moment .action)
+clock-length r (going t l) moment action = posed-length r (jsonRead action moment .outcome) (jsonRead action moment .action)
 clock-length r (failed why l) moment action = stopped-length why
-
-register-json-length : (o : Outcome) (r : RegisterRead) (clock action : List ℕ) → length (registerJson o r clock action) ≤ printedLimit
-register-json-length Accepted r clock action = clock-length (r .register) (closed (clockRead clock .state)) (clockRead clock .value) action
-register-json-length (RefusedFor why) r clock action = stopped-length why
 
 pub json-printed-length : (register clock action : List ℕ) → length (jsonPrinted register clock action) ≤ printedLimit
 unfolding jsonPrinted
-json-printed-length register clock action = register-json-length (registerRead register .outcome) (registerRead register) clock action
+json-printed-length register clock action =
+    unless-length (registerRead register .outcome) _ (clock-length (registerRead register .register) (closed (clockRead clock .state)) (clockRead clock .value) action)

@@ -12,7 +12,6 @@ use Rattle.refusals.specs.declared.Outcome.the-variants.{Accepted, Refused as R
 use Rattle.refusals.specs.declared.Refusal.{Refusal}
 use Rattle.refusals.specs.declared.Refusal.the-variants.{Range}
 use Rattle.actions.specs.Actions.{kindOf, valueOf}
-use Rattle.actions.specs.declared.Action.{Action}
 use Rattle.actions.specs.declared.Violation.{Violation}
 use Rattle.actions.specs.declared.Violations.{Violations}
 use Rattle.actions.specs.declared.Decision.{Decision}
@@ -25,8 +24,6 @@ use Rattle.text_rules.specs.Keys.{nowKey}
 use Rattle.text_rules.specs.Records.{texts}
 use Rattle.text_rules.specs.Registers.{registerRead}
 use Rattle.text_rules.specs.Actions.{actionRead}
-use Rattle.text_rules.specs.declared.RegisterRead.{RegisterRead}
-use Rattle.text_rules.specs.declared.ActionRead.{ActionRead}
 use Rattle.json_rules.specs.Actions.{jsonRead}
 
 -- the fixed lines, and the keys of the others
@@ -76,24 +73,16 @@ verdictLines (Stopped why) vs = stoppedText why
 unfoldable pub verdictText : Verdict → List ℕ
 verdictText v = verdictLines (v .decision) (v .violations)
 
--- an action's text, judged by a register that was read
-abbrev pub actionLines : Register → Outcome → ActionRead → List ℕ
-actionLines r Accepted a = verdictText (gated r (a .action))
-actionLines r (RefusedFor why) a = stoppedText why
+-- the lines that are said of a text, or those of its refusal
+abbrev pub unlessRefused : (Refusal → List ℕ) → Outcome → List ℕ → List ℕ
+unlessRefused stopped Accepted lines = lines
+unlessRefused stopped (RefusedFor why) lines = stopped why
 
--- a register's text, then an action's; the first refusal stops
-abbrev pub registerLines : Outcome → RegisterRead → List ℕ → List ℕ
-registerLines Accepted r action = actionLines (r .register) (actionRead action .outcome) (actionRead action)
-registerLines (RefusedFor why) r action = stoppedText why
-
--- what the program prints of the two texts
+-- what the program prints of a register's text, then an action's; the first refusal stops
 unfoldable pub printed : List ℕ → List ℕ → List ℕ
-printed register action = registerLines (registerRead register .outcome) (registerRead register) action
-
--- a JSON action that was read, or refused, judged by a register that was read
-abbrev pub jsonLines : Register → Outcome → Action → List ℕ
-jsonLines r Accepted a = verdictText (gated r a)
-jsonLines r (RefusedFor why) a = stoppedText why
+printed register action =
+    unlessRefused stoppedText (registerRead register .outcome)
+    (unlessRefused stoppedText (actionRead action .outcome) (verdictText (gated (registerRead register .register) (actionRead action .action))))
 
 -- a clock that is no line `now=`, or not that line alone, is 19; a moment above its limit is the 2 of reading at it
 abbrev pub clockRead : List ℕ → Read ℕ
@@ -101,17 +90,14 @@ clockRead clock = readForm (decimal nowKey 0 (momentEnd - 1) Range) (going clock
 
 -- the clock's text, then the JSON action's, judged by a register that was read
 abbrev pub clockLines : Register → State → ℕ → List ℕ → List ℕ
-clockLines r (going t l) moment action = jsonLines r (jsonRead action moment .outcome) (jsonRead action moment .action)
+clockLines r (going t l) moment action = unlessRefused stoppedText (jsonRead action moment .outcome) (verdictText (gated r (jsonRead action moment .action)))
 clockLines r (failed why l) moment action = stoppedText why
 
--- a register's text, then a clock's, then a JSON action's; the first refusal stops
-abbrev pub registerJson : Outcome → RegisterRead → List ℕ → List ℕ → List ℕ
-registerJson Accepted r clock action = clockLines (r .register) (closed (clockRead clock .state)) (clockRead clock .value) action
-registerJson (RefusedFor why) r clock action = stoppedText why
-
--- what the JSON program prints of the three texts
+-- what the JSON program prints of a register's text, then a clock's, then a JSON action's; the first refusal stops
 unfoldable pub jsonPrinted : List ℕ → List ℕ → List ℕ → List ℕ
-jsonPrinted register clock action = registerJson (registerRead register .outcome) (registerRead register) clock action
+jsonPrinted register clock action =
+    unlessRefused stoppedText (registerRead register .outcome)
+    (clockLines (registerRead register .register) (closed (clockRead clock .state)) (clockRead clock .value) action)
 
 -- no verdict's text is longer: the verdict, the number of violations, and 51 pairs that each name a number of 16 bits
 abbrev pub printedLimit : ℕ

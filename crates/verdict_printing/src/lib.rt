@@ -6,14 +6,15 @@ ghost use Prim.Native.Nat.{_+_, _≤_};
 ghost use lib.ListN.{length};
 ghost use Rattle.lists.specs.Lists.{splice};
 ghost use Rattle.actions.specs.Actions.{violationLimit};
-ghost use Rattle.text_rules.specs.Actions.{actionRead};
+ghost use Rattle.gate_rules.specs.Gate.{gated};
 ghost use Rattle.buffers.specs.Buffers.{put};
 ghost use Rattle.buffers.specs.Delivery.{delivered};
 ghost use Rattle.lines.specs.Reading.{closed};
-ghost use Rattle.json_rules.specs.Actions.{jsonRead};
-ghost use Rattle.verdict_printing.specs.Printed.{pairText, listText, stoppedText, verdictText, actionLines, printed, printedLimit};
+ghost use Rattle.verdict_printing.specs.Printed.{pairText, listText, stoppedText, verdictText, unlessRefused, printed, printedLimit};
+ghost use Rattle.verdict_printing.specs.Shared.{linesBy, printedBy};
 ghost use Rattle.soundness.specs.Opened.{Opened};
-ghost use Rattle.verdict_printing.specs.Printed.{jsonLines, clockRead, clockLines, jsonPrinted};
+ghost use Rattle.verdict_printing.specs.Printed.{clockRead, clockLines, jsonPrinted};
+use actions::Action;
 use actions::Decision;
 use actions::Verdict;
 use actions::Violation;
@@ -23,12 +24,10 @@ use refusals::Outcome;
 use refusals::Refusal;
 use register::Register;
 use soundness::Findings;
+use text_rules::LAST_MOMENT;
 
 // No verdict's text is longer.
 pub const PRINTED: usize = 1103;
-
-// The last moment.
-const LAST_MOMENT: u64 = 4294967295;
 
 // Puts the pair of a violation into the buffer at `at`, and answers the position behind it.
 fn put_pair(buf: &mut [u8], at: usize, v: Violation) -> usize
@@ -92,87 +91,22 @@ fn put_verdict(buf: &mut [u8], v: Verdict) -> usize
     }
 }
 
-// Puts what is printed of a register, by a sheet of its claims and what was found of it, and an action's text into the buffer, and answers the
-// position behind it.
-fn compose_action(
+// Puts what is printed of an action that was read, or refused, by a register, a sheet of its claims and what was found of it, into the buffer, and
+// answers the position behind it.
+fn put_posed(
     buf: &mut [u8],
     register: Register,
     sheet: &[u32],
     known: Findings,
-    action: &[u8],
+    outcome: Outcome,
+    asked: Action,
 ) -> usize
     requires { ⌜ (printedLimit ≤ length (now buf)) × Opened register (now sheet) known ⌝ }
-    ensures behind { λ r. ⌜ r ≡ length (actionLines register (actionRead (now (action .entry)) .outcome) (actionRead (now (action .entry)))) ⌝ }
-    ensures written { λ _. ⌜ now (buf .exit) ≡ splice 0 (actionLines register (actionRead (now (action .entry)) .outcome) (actionRead (now (action .entry)))) (now (buf .entry)) ⌝ }
+    ensures behind { λ r. ⌜ r ≡ length (unlessRefused stoppedText outcome (verdictText (gated register asked))) ⌝ }
+    ensures written { λ _. ⌜ now (buf .exit) ≡ splice 0 (unlessRefused stoppedText outcome (verdictText (gated register asked))) (now (buf .entry)) ⌝ }
 {
-    let read = action_reading::read_action(action);
-    let outcome = read.outcome;
     match outcome {
-        Outcome::Accepted => {
-            let asked = read.action;
-            put_verdict(buf, gate::gate_by(register, sheet, known, asked))
-        }
-        Outcome::Refused(why) => put_stopped(buf, why),
-    }
-}
-
-// Puts what is printed of the two texts into the buffer, and answers the position behind it.
-fn compose(buf: &mut [u8], register: &[u8], action: &[u8]) -> usize
-    requires { ⌜ printedLimit ≤ length (now buf) ⌝ }
-    ensures behind { λ r. ⌜ r ≡ length (printed (now (register .entry)) (now (action .entry))) ⌝ }
-    ensures written { λ _. ⌜ now (buf .exit) ≡ splice 0 (printed (now (register .entry)) (now (action .entry))) (now (buf .entry)) ⌝ }
-{
-    let form = register_reading::read_form(register);
-    let cursor = form.cursor;
-    if !lines::goes_on(register, cursor) {
-        let why = cursor.refusal;
-        return put_stopped(buf, why);
-    }
-    let state = form.register;
-    let actors = state.actors;
-    let resources = state.resources;
-    let claims = state.claims;
-    let mut sheet = [0u32; columns::SHEET];
-    columns::put_claims(&mut sheet, claims);
-    let known = soundness::examine_sheet(state.version, actors, resources, &sheet, claims.count);
-    if !known.sound {
-        return put_stopped(buf, Refusal::Unsound);
-    }
-    compose_action(buf, state, &sheet, known, action)
-}
-
-// The lines that the program prints of the two texts.
-pub fn verdict_text(register: &[u8], action: &[u8], buf: &mut [u8]) -> Written
-    ensures answer { λ r. ⌜ r ≡ delivered (printed (now (register .entry)) (now (action .entry))) (now (buf .entry)) ⌝ }
-    ensures buffer { λ _. ⌜ now (buf .exit) ≡ put 0 (printed (now (register .entry)) (now (action .entry))) (now (buf .entry)) ⌝ }
-{
-    let mut sheet = [0u8; PRINTED];
-    let length = compose(&mut sheet, register, action);
-    let text: &[u8] = &sheet;
-    buffers::deliver(buf, &text[..length])
-}
-
-// Puts what is printed of a register, by a sheet of its claims and what was found of it, and a JSON action's text, read at a moment, into the
-// buffer, and answers the position behind it.
-fn compose_json(
-    buf: &mut [u8],
-    register: Register,
-    sheet: &[u32],
-    known: Findings,
-    moment: u64,
-    action: &[u8],
-) -> usize
-    requires { ⌜ (printedLimit ≤ length (now buf)) × Opened register (now sheet) known ⌝ }
-    ensures behind { λ r. ⌜ r ≡ length (jsonLines register (jsonRead (now (action .entry)) moment .outcome) (jsonRead (now (action .entry)) moment .action)) ⌝ }
-    ensures written { λ _. ⌜ now (buf .exit) ≡ splice 0 (jsonLines register (jsonRead (now (action .entry)) moment .outcome) (jsonRead (now (action .entry)) moment .action)) (now (buf .entry)) ⌝ }
-{
-    let posed = json_reading::read_json(action, moment);
-    let outcome = posed.outcome;
-    match outcome {
-        Outcome::Accepted => {
-            let asked = posed.action;
-            put_verdict(buf, gate::gate_by(register, sheet, known, asked))
-        }
+        Outcome::Accepted => put_verdict(buf, gate::gate_by(register, sheet, known, asked)),
         Outcome::Refused(why) => put_stopped(buf, why),
     }
 }
@@ -201,17 +135,44 @@ fn compose_clock(
     );
     let end = lines::finish(clock, field.cursor);
     if lines::goes_on(clock, end) {
-        return compose_json(buf, register, sheet, known, field.value, action);
+        let posed = json_reading::read_json(action, field.value as u64);
+        let heard = posed.outcome;
+        let asked = posed.action;
+        return put_posed(buf, register, sheet, known, heard, asked);
     }
     let why = end.refusal;
     put_stopped(buf, why)
 }
 
-// Puts what is printed of the three texts into the buffer, and answers the position behind it.
-fn compose_texts(buf: &mut [u8], register: &[u8], clock: &[u8], action: &[u8]) -> usize
+// Puts what is printed of a register, by a sheet of its claims and what was found of it, and an action's text, or a clock's and a JSON action's, into
+// the buffer, and answers the position behind it.
+fn compose_asked(
+    buf: &mut [u8],
+    register: Register,
+    sheet: &[u32],
+    known: Findings,
+    clock: &[u8],
+    action: &[u8],
+    json: bool,
+) -> usize
+    requires { ⌜ (printedLimit ≤ length (now buf)) × Opened register (now sheet) known ⌝ }
+    ensures behind { λ r. ⌜ r ≡ length (linesBy json register (now (clock .entry)) (now (action .entry))) ⌝ }
+    ensures written { λ _. ⌜ now (buf .exit) ≡ splice 0 (linesBy json register (now (clock .entry)) (now (action .entry))) (now (buf .entry)) ⌝ }
+{
+    if json {
+        return compose_clock(buf, register, sheet, known, clock, action);
+    }
+    let read = action_reading::read_action(action);
+    let heard = read.outcome;
+    let asked = read.action;
+    put_posed(buf, register, sheet, known, heard, asked)
+}
+
+// Puts what is printed of a register's text and an action's, or a clock's and a JSON action's, into the buffer, and answers the position behind it.
+fn compose(buf: &mut [u8], register: &[u8], clock: &[u8], action: &[u8], json: bool) -> usize
     requires { ⌜ printedLimit ≤ length (now buf) ⌝ }
-    ensures behind { λ r. ⌜ r ≡ length (jsonPrinted (now (register .entry)) (now (clock .entry)) (now (action .entry))) ⌝ }
-    ensures written { λ _. ⌜ now (buf .exit) ≡ splice 0 (jsonPrinted (now (register .entry)) (now (clock .entry)) (now (action .entry))) (now (buf .entry)) ⌝ }
+    ensures behind { λ r. ⌜ r ≡ length (printedBy json (now (register .entry)) (now (clock .entry)) (now (action .entry))) ⌝ }
+    ensures written { λ _. ⌜ now (buf .exit) ≡ splice 0 (printedBy json (now (register .entry)) (now (clock .entry)) (now (action .entry))) (now (buf .entry)) ⌝ }
 {
     let form = register_reading::read_form(register);
     let cursor = form.cursor;
@@ -229,7 +190,18 @@ fn compose_texts(buf: &mut [u8], register: &[u8], clock: &[u8], action: &[u8]) -
     if !known.sound {
         return put_stopped(buf, Refusal::Unsound);
     }
-    compose_clock(buf, state, &sheet, known, clock, action)
+    compose_asked(buf, state, &sheet, known, clock, action, json)
+}
+
+// The lines that the program prints of the two texts.
+pub fn verdict_text(register: &[u8], action: &[u8], buf: &mut [u8]) -> Written
+    ensures answer { λ r. ⌜ r ≡ delivered (printed (now (register .entry)) (now (action .entry))) (now (buf .entry)) ⌝ }
+    ensures buffer { λ _. ⌜ now (buf .exit) ≡ put 0 (printed (now (register .entry)) (now (action .entry))) (now (buf .entry)) ⌝ }
+{
+    let mut sheet = [0u8; PRINTED];
+    let length = compose(&mut sheet, register, b"", action, false);
+    let text: &[u8] = &sheet;
+    buffers::deliver(buf, &text[..length])
 }
 
 // The lines that the program for JSON actions prints of the three texts.
@@ -238,7 +210,7 @@ pub fn json_verdict_text(register: &[u8], clock: &[u8], action: &[u8], buf: &mut
     ensures buffer { λ _. ⌜ now (buf .exit) ≡ put 0 (jsonPrinted (now (register .entry)) (now (clock .entry)) (now (action .entry))) (now (buf .entry)) ⌝ }
 {
     let mut sheet = [0u8; PRINTED];
-    let length = compose_texts(&mut sheet, register, clock, action);
+    let length = compose(&mut sheet, register, clock, action, true);
     let text: &[u8] = &sheet;
     buffers::deliver(buf, &text[..length])
 }

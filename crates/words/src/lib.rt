@@ -8,10 +8,9 @@ ghost use Rattle.buffers.specs.Buffers.{put};
 ghost use Rattle.buffers.specs.Delivery.{delivered};
 ghost use Rattle.words.specs.Tables.{textAt};
 ghost use Rattle.words.specs.Words.{refusalText, violationText, rightName, flagName};
+use actions::Action;
 use buffers::Written;
-
-// The byte that ends each text of a table.
-const LINE_FEED: u8 = 10;
+use lines::LINE_FEED;
 
 // How many numbers each table has a text for, from 0 on. Behind those stands the text of every other number.
 const REFUSALS: usize = 34;
@@ -20,7 +19,7 @@ const VIOLATIONS: usize = 6;
 
 const RIGHTS: usize = 17;
 
-const FLAGS: usize = 10;
+const FLAGS: usize = Action::FLAGS as usize;
 
 // The text at a place of a table, in which a line feed ends each text. Past the last text it is empty.
 fn text_at(table: &[u8], place: usize) -> &[u8]

@@ -3,11 +3,10 @@ use Prim.Native.Nat.{_-_, _≤_}
 use borrow.Author.Needs.{needs}
 use native.Mathlib.Omega.{arith}
 use mathlib.Core.Path.{refl}
-use Rattle.register.specs.Limits.{idLimit}
 use Rattle.actions.specs.Actions.{governLimit}
-use Rattle.refusals.specs.declared.Refusal.the-variants.{Form, Count}
+use Rattle.refusals.specs.declared.Refusal.the-variants.{Count}
 use Rattle.lines.specs.Answers.{stateOf}
-use Rattle.text_rules.specs.Keys.{governsKey, governKey}
+use Rattle.text_rules.specs.Keys.{governsKey}
 use Rattle.text_rules.specs.Actions.{readGovern, readGoverns}
 use Rattle.register_reading.specs.Runs.{field-bound}
 use Rattle.register_reading.specs.Filling.{Listing, listing-start, listing-next, listing-done}
@@ -29,38 +28,31 @@ count-bound c =
 loop-holds : tie.Need-loop-holds Inv-loop μ-loop
 loop-holds c = listing-start _ _ refl refl
 
-cast-governs : tie.Need-cast-governs Inv-loop μ-loop
-cast-governs c =
-    let s = c .before .before .before .before .before .before .before .before .before .before .args .s .now in
-    let before = c .before .before .before .before .before .loop in
-    let one = c .before .before .read-number in
-    omega (arith, field-bound s governKey 0 idLimit Form (stateOf s (before .cursor)) (one .result) (one .ensures))
-
 mul-governs : tie.Need-mul-governs Inv-loop μ-loop
-mul-governs c = omega (arith, count-bound (c .before .before .before .before .before .before .before), c .before .before .before .before .loop-test .taken)
+mul-governs c = omega (arith, count-bound (c .before .before .before .before .before .before .before), c .before .before .before .loop-test .taken)
 
 array-write-governs : tie.Need-array-write-governs Inv-loop μ-loop
-array-write-governs c = omega (arith, count-bound (c .before .before .before .before .before .before .before), c .before .before .before .before .loop-test .taken)
+array-write-governs c = omega (arith, count-bound (c .before .before .before .before .before .before .before), c .before .before .before .loop-test .taken)
 
 add-i : tie.Need-add-i Inv-loop μ-loop
-add-i c = omega (arith, count-bound (c .before .before .before .before .before .before .before), c .before .before .before .before .loop-test .taken)
+add-i c = omega (arith, count-bound (c .before .before .before .before .before .before .before), c .before .before .before .loop-test .taken)
 
 loop-less : tie.Need-loop-less Inv-loop μ-loop
-loop-less c = omega (arith, c .before .before .before .before .loop-test .taken)
+loop-less c = omega (arith, c .before .before .before .loop-test .taken)
 
 loop-again : tie.Need-loop-again Inv-loop μ-loop
 loop-again c =
-    let before = c .before .before .before .before .before .loop in
-    let one = c .before .before .read-number in
+    let before = c .before .before .before .before .loop in
+    let one = c .before .read-number in
     listing-next (before .governs) (before .cursor) (before .i) (one .result .value) (one .result .cursor) (before .inv)
-    (c .before .before .before .before .loop-test .taken) (count-bound (c .before .before .before .before .before .before .before))
+    (c .before .before .before .loop-test .taken) (count-bound (c .before .before .before .before .before .before .before))
     (record { got = one .ensures .value; stands = one .ensures .state })
 
 returns : tie.Need-returns Inv-loop μ-loop
 unfolding readGoverns
 returns c =
     let end = c .before .loop in
-    let counted = c .before .before .before .read-count in
+    let counted = c .before .before .before .before .read-count in
     let all = listing-done (end .governs) (end .cursor) (end .i) (end .inv) (c .loop-test .left) in
     rw (← counted .ensures .value, ← counted .ensures .state) (all .0, (all .1, all .2))
 
@@ -71,12 +63,12 @@ read-governs-spec =
     Inv-loop
     μ-loop
     (λ c. search needs)
+    (λ c. search needs)
     (λ c κs. search needs)
+    (λ c. search needs)
     loop-holds
     (λ c. search needs)
-    (λ c. search needs)
     (λ c κs. search needs)
-    cast-governs
     mul-governs
     array-write-governs
     add-i

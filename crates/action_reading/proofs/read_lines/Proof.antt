@@ -1,38 +1,22 @@
 -- `action_reading::read_lines` meets its contract: the parts one behind the other, each from where the one before it ended. Assumes
 -- nothing.
 use Prim.Native.Nat.{ℕ, _-_, _^_}
-use mathlib.Core.Path.{_≡_, refl}
+use mathlib.Core.Path.{_≡_}
 use mathlib.Core.List.{List, [], _∷_, _++_}
-use native.Mathlib.Omega.{arith}
 use lib.ListN.{length, replicate}
 use Rattle.register.specs.Limits.{idLimit, momentEnd}
 use Rattle.actions.specs.Actions.{noUse, useLimit, governLimit, flagCount}
 use Rattle.actions.specs.declared.Usage.{Usage}
-use Rattle.refusals.specs.declared.Refusal.the-variants.{Form}
 use Rattle.lines.specs.Reading.{State, number}
 use Rattle.lines.specs.Answers.{stateOf}
 use Rattle.lines.specs.declared.Cursor.{Cursor}
 use Rattle.text_rules.specs.Keys.{nowKey, actorKey, flagsKey}
 use Rattle.text_rules.specs.Actions.{headForms, readUses, readGoverns, readAction}
 use Rattle.register_reading.specs.Reads.{Reads}
-use Rattle.register_reading.specs.Runs.{Run, run-none, run-next, field-bound}
+use Rattle.register_reading.specs.Runs.{Run, run-none, run-next}
 use borrow.Author.Needs.{needs}
 use Rattle.action_reading.proofs.read_lines.Statement.{statement}
 use Rattle.action_reading.proofs.read_lines.Tie as tie
-
-cast-t22 : tie.Need-cast-t22
-cast-t22 c =
-    let s = c .before .before .before .before .before .before .before .before .before .before .before .before .args .s .now in
-    let moment = c .before .before .before .before .before .before .before .before .before .read-number in
-    let actor = c .before .before .before .before .before .before .before .read-number2 in
-    omega (arith, field-bound s actorKey 0 idLimit Form (stateOf s (moment .result .cursor)) (actor .result) (actor .ensures))
-
-cast-t23 : tie.Need-cast-t23
-cast-t23 c =
-    let s = c .before .before .before .before .before .before .before .before .before .before .before .before .before .args .s .now in
-    let actor = c .before .before .before .before .before .before .before .before .read-number2 in
-    let flags = c .before .before .before .before .before .before .read-number3 in
-    omega (arith, field-bound s flagsKey 0 (2 ^ flagCount - 1) Form (stateOf s (actor .result .cursor)) (flags .result) (flags .ensures))
 
 -- the parts, each from where the one before it ended
 joined : (s : List ℕ) (st : State) (moment actor flags used governed : ℕ) (head usesEnd : State) (cursor : Cursor) (uses : List Usage) (governs : List ℕ) →
@@ -49,13 +33,18 @@ joined s st moment actor flags used governed head usesEnd cursor uses governs ru
 
 returns : tie.Need-returns
 returns c =
-    let args = c .before .before .before .before .before .before .before .before .before .before .before .before .before .before .args in
+    let fifth = c .before .before .before .before in
+    let fourth = fifth .before in
+    let third = fourth .before in
+    let second = third .before .before in
+    let first = second .before .before in
+    let args = first .before .before .before .args in
     let s = args .s .now in
-    let moment = c .before .before .before .before .before .before .before .before .before .before .before .read-number in
-    let actor = c .before .before .before .before .before .before .before .before .before .read-number2 in
-    let flags = c .before .before .before .before .before .before .before .read-number3 in
-    let uses = c .before .before .before .before .before .before .read-uses in
-    let governs = c .before .before .before .before .before .read-governs in
+    let moment = first .read-number in
+    let actor = second .read-number2 in
+    let flags = third .read-number3 in
+    let uses = fourth .read-uses in
+    let governs = fifth .read-governs in
     let end = stateOf s (flags .result .cursor) in
     let run =
     run-next s (number nowKey 0 (momentEnd - 1)) _ (stateOf s (args .c)) (moment .result) _ end (moment .ensures)
@@ -70,15 +59,12 @@ read-lines-spec =
     tie.close
     (tie.spec
     (λ c. search needs)
-    (λ c. search needs)
-    (λ c κs. search needs)
-    (λ c. search needs)
-    (λ c. search needs)
     (λ c κs. search needs)
     (λ c. search needs)
     (λ c κs. search needs)
+    (λ c. search needs)
     (λ c κs. search needs)
     (λ c κs. search needs)
-    cast-t22
-    cast-t23
+    (λ c κs. search needs)
+    (λ c. search needs)
     returns)

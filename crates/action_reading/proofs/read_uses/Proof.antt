@@ -29,13 +29,13 @@ loop-holds : tie.Need-loop-holds Inv-loop μ-loop
 loop-holds c = listing-start _ _ refl refl
 
 mul-uses : tie.Need-mul-uses Inv-loop μ-loop
-mul-uses c = omega (arith, count-bound (c .before .before .before .before .before .before), c .before .before .before .loop-test .taken)
+mul-uses c = omega (arith, count-bound (c .before .before .before .before .before .before .before), c .before .before .before .loop-test .taken)
 
 array-set-from-uses : tie.Need-array-set-from-uses Inv-loop μ-loop
-array-set-from-uses c = omega (arith, count-bound (c .before .before .before .before .before .before), c .before .before .before .loop-test .taken)
+array-set-from-uses c = omega (arith, count-bound (c .before .before .before .before .before .before .before), c .before .before .before .loop-test .taken)
 
 add-i : tie.Need-add-i Inv-loop μ-loop
-add-i c = omega (arith, count-bound (c .before .before .before .before .before .before), c .before .before .before .loop-test .taken)
+add-i c = omega (arith, count-bound (c .before .before .before .before .before .before .before), c .before .before .before .loop-test .taken)
 
 loop-less : tie.Need-loop-less Inv-loop μ-loop
 loop-less c = omega (arith, c .before .before .before .loop-test .taken)
@@ -45,13 +45,13 @@ loop-again c =
     let before = c .before .before .before .before .loop in
     let one = c .before .before .read-use in
     listing-next (before .uses) (before .cursor) (before .i) (one .result .usage) (one .result .cursor) (before .inv)
-    (c .before .before .before .loop-test .taken) (count-bound (c .before .before .before .before .before .before)) (one .ensures)
+    (c .before .before .before .loop-test .taken) (count-bound (c .before .before .before .before .before .before .before)) (one .ensures)
 
 returns : tie.Need-returns Inv-loop μ-loop
 unfolding readUses
 returns c =
     let end = c .before .loop in
-    let counted = c .before .before .before .read-count in
+    let counted = c .before .before .before .before .read-count in
     let all = listing-done (end .uses) (end .cursor) (end .i) (end .inv) (c .loop-test .left) in
     rw (← counted .ensures .value, ← counted .ensures .state) (all .0, (all .1, all .2))
 
@@ -62,7 +62,9 @@ read-uses-spec =
     Inv-loop
     μ-loop
     (λ c. search needs)
+    (λ c. search needs)
     (λ c κs. search needs)
+    (λ c. search needs)
     loop-holds
     (λ c κs. search needs)
     mul-uses

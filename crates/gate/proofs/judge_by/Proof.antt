@@ -6,7 +6,6 @@ use lib.ListN.{length}
 use Rattle.lists.specs.Loops.{length-mapped}
 use Rattle.register.specs.Limits.{resourceLimit}
 use Rattle.actions.specs.Actions.{useLimit}
-use Rattle.gate.specs.Judged.{lentOf}
 use Rattle.gate.proofs.Seeing.{judged-lent}
 use borrow.Author.Needs.{needs}
 use Rattle.gate.proofs.judge_by.Statement.{statement}
@@ -23,28 +22,21 @@ returns : tie.Need-returns
 returns c =
     let counting = c .before .before .before .before .before .before in
     let covering = counting .before .before .before .before .before in
-    let relying = covering .before .before .before .before .before .before .before in
-    let used = relying .before .before .before .before .before .before .before in
-    let asked = used .before .before .before .before in
-    let gathered = asked .before .before in
-    let lent = gathered .before in
-    let owning = lent .before .before .before in
+    let asking = covering .before .before .before .before in
+    let relying = asking .before in
+    let used = relying .before .before .before .before in
+    let listed = used .before .before .before .before in
+    let owning = listed .before in
     let begun = owning .before .before .before .before .before .before in
     let s = begun .before .before .before .before .before .before .before .before .before .before in
-    judged-lent (lentOf (s .args .counts) (s .args .t2) (s .args .lens .now) (s .args .ends .now) (s .args .sheet .now) (s .args .bytes .now)) (s .args .a) (reports-few s) (uses-long s)
-    (begun .is-beside .ensures) (owning .owner-of .ensures) (lent .before .before .first-violations .ensures)
-    (lent .before .column .ensures) (lent .column2 .ensures) (gathered .gather .ensures) (asked .before .asked-for .ensures)
-    (asked .gather2 .ensures) (used .uses-of .ensures) (relying .relied-on .ensures) (covering .relied-on2 .ensures)
-    (counting .hop-counts .ensures) (c .put-faults .ensures)
+    judged-lent (s .args .counts) (s .args .t2) (s .args .lens .now) (s .args .ends .now) (s .args .sheet .now) (s .args .bytes .now) (s .args .a) (reports-few s) (uses-long s)
+    (begun .is-beside .ensures) (owning .owner-of .ensures) (listed .first-violations .ensures) (used .uses-of .ensures) (relying .relied-by .ensures)
+    (asking .owner-asked .ensures) (covering .relied-by2 .ensures) (counting .hop-counts .ensures) (c .put-faults .ensures)
 
 pub judge-by-spec : {M : Type 1} → statement M
 judge-by-spec =
     tie.close
     (tie.spec
-    (λ c κs. search needs)
-    (λ c κs. search needs)
-    (λ c κs. search needs)
-    (λ c κs. search needs)
     (λ c κs. search needs)
     (λ c κs. search needs)
     (λ c κs. search needs)

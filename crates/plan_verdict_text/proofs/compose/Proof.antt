@@ -1,11 +1,12 @@
 -- `plan_verdict_text::compose` meets its contract: the answer for the plan's text by the register that its text says is put, where it is sound, and
 -- its text fits (`judged-fitting`); else the lines of the refusal are. Assumes nothing.
 use Prim.Native.Nat.{_<_}
-use mathlib.Core.Path.{refl, sym, ap, _∙_}
+use mathlib.Core.Path.{sym, ap, _∙_}
 use native.Mathlib.Omega.{arith}
 use borrow.Author.Needs.{needs}
 use borrow.Author.Tests.{not-true, not-false}
 use Rattle.refusals.specs.declared.Refusal.the-variants.{Unsound}
+use Rattle.text_rules.specs.declared.RegisterRead.{RegisterRead}
 use Rattle.register_reading.specs.Runs.{stands-going, stands-failed}
 use Rattle.verdict_printing.proofs.Joining.{same-written}
 use Rattle.verdict_printing.proofs.Composing.{failed-answer, unsound-answer, sound-answer}
@@ -41,7 +42,7 @@ returns c =
     let halted = stands-failed text (form .result .cursor) (sym (test .before .goes-on .ensures) ∙ not-true _ (test .if1 .taken)) in
     let done =
     same-written (planStoppedText why) (planPrinted text (a .plan .now)) (a .buf .now)
-    (refused-printed text (a .plan .now) refl why (failed-answer text (form .ensures .0) (form .ensures .1) halted))
+    (refused-printed text (a .plan .now) why (failed-answer text (form .ensures .0) (form .ensures .1) halted))
     (call .ensures .0) (call .ensures .1) in
     (done .0, (done .1, omega (arith, call .ensures .0, stopped-length why)))
 
@@ -61,7 +62,7 @@ returns-2 c =
     let goes = stands-going text (form .result .cursor) (sym (test .before .goes-on .ensures) ∙ not-false _ (test .if1 .left)) in
     let done =
     same-written (planStoppedText Unsound) (planPrinted text (a .plan .now)) (a .buf .now)
-    (refused-printed text (a .plan .now) refl Unsound
+    (refused-printed text (a .plan .now) Unsound
     (unsound-answer text (form .ensures .0) (form .ensures .1) goes (sym (unsound .before .is-sound .ensures) ∙ not-true _ (unsound .if2 .taken))))
     (call .ensures .0) (call .ensures .1) in
     (done .0, (done .1, omega (arith, call .ensures .0, stopped-length Unsound)))
@@ -82,10 +83,10 @@ returns-3 c =
     let a = read .before .before .before .before .args in
     let text = a .register .now in
     let goes = stands-going text (form .result .cursor) (sym (test .before .goes-on .ensures) ∙ not-false _ (test .if1 .left)) in
+    let same = sound-answer text (form .ensures .0) (form .ensures .1) goes (sym (whole .before .is-sound .ensures) ∙ not-false _ (whole .if2 .left)) in
     let done =
     same-written (planAnswerText (judged .plan-text .result)) (planPrinted text (a .plan .now)) (a .buf .now)
-    (accepted-printed text (a .plan .now)
-    (sound-answer text (form .ensures .0) (form .ensures .1) goes (sym (whole .before .is-sound .ensures) ∙ not-false _ (whole .if2 .left))) refl
+    (accepted-printed text (a .plan .now) (ap (λ (o : RegisterRead). o .outcome) (sym same)) (ap (λ (o : RegisterRead). o .register) same)
     ∙ ap planAnswerText (sym (judged .plan-text .ensures)))
     (call .ensures .0) (call .ensures .1) in
     (done .0, (done .1, omega (arith, call .ensures .0, fitting judged .text)))

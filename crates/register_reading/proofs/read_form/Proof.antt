@@ -32,9 +32,9 @@ returns c =
     let claims = c .before .before .before .before .read-claims in
     let resources = c .before .before .before .before .before .read-resources in
     let actors = c .before .before .before .before .before .before .read-actors in
-    let version = c .before .before .before .before .before .before .before .read-number in
-    let begun = c .before .before .before .before .before .before .before .before .before .start in
-    let s = c .before .before .before .before .before .before .before .before .before .before .before .args .text .now in
+    let version = c .before .before .before .before .before .before .before .before .read-number in
+    let begun = c .before .before .before .before .before .before .before .before .before .before .start in
+    let s = c .before .before .before .before .before .before .before .before .before .before .before .before .args .text .now in
     let first = run-start s (begun .result) (begun .ensures) in
     joined s (version .result .value) (stateOf s (version .result .cursor)) (stateOf s (actors .result .cursor)) (stateOf s (resources .result .cursor))
     (stateOf s (claims .result .cursor)) (stateOf s (end .result)) (actors .result .actors) (resources .result .resources) (claims .result .claims)
@@ -48,7 +48,10 @@ read-form-spec =
     (tie.spec
     (λ c κs. search needs)
     (λ c. search needs)
+    (λ c. search needs)
+    (λ c. search needs)
     (λ c κs. search needs)
+    (λ c. search needs)
     (λ c κs. search needs)
     (λ c κs. search needs)
     (λ c κs. search needs)

@@ -15,4 +15,4 @@ unfolding readLeft
 returns-2 c = rw (ne-eqb (c .before .before .args .version) 2 (c .if1 .left)) (record { value = refl; state = refl })
 
 pub read-left-spec : {M : Type 1} → statement M
-read-left-spec = tie.close (tie.spec (λ c. search needs) (λ c. search needs) (λ c κs. search needs) returns returns-2)
+read-left-spec = tie.close (tie.spec (λ c. search needs) (λ c κs. search needs) returns returns-2)

@@ -10,11 +10,11 @@ use Rattle.lines.specs.Reading.{State, decimal, readForm, closed}
 use Rattle.lines.specs.Answers.{stateOf}
 use Rattle.text_rules.specs.Keys.{nowKey}
 use Rattle.register_reading.specs.Runs.{run-start, stands-failed, stands-going}
-use Rattle.json_rules.specs.Actions.{jsonRead}
-use Rattle.verdict_printing.specs.Printed.{stoppedText, jsonLines, clockRead, clockLines}
+use Rattle.json_rules.specs.declared.JsonRead.{JsonRead}
+use Rattle.verdict_printing.specs.Printed.{stoppedText, clockRead, clockLines}
 use Rattle.verdict_printing.proofs.Lengths.{stopped-length}
 use Rattle.verdict_printing.proofs.Joining.{same-written}
-use Rattle.verdict_printing.proofs.Composing.{clock-going, clock-failed}
+use Rattle.verdict_printing.proofs.Composing.{posedText, clock-going, clock-failed}
 use Rattle.verdict_printing.proofs.compose_clock.Statement.{statement}
 use Rattle.verdict_printing.proofs.compose_clock.Tie as tie
 
@@ -35,18 +35,22 @@ ended : (c : tie.After-finish) →
     stateOf clock (c .finish .result) ≡ closed (clockRead clock .state)
 ended c = c .finish .ensures ∙ ap closed (begun (c .before) .1)
 
+put-posed-requires : tie.Need-put-posed-requires
+put-posed-requires c κs = c .before .before .before .before .before .before .before .before .before .before .before .before .before .before .pre
+
 returns : tie.Need-returns
 returns c =
-    let call = c .before .before .compose-json in
-    let test = c .before .before .before .before in
+    let call = c .before .before .put-posed in
+    let posed = c .before .before .before .before .before in
+    let test = posed .before .before in
     let end = test .before .before in
     let read = end .before in
     let a = read .before .before .before .before .before .before .before .args in
-    let moment = read .read-decimal .result .value in
     let going = stands-going (a .clock .now) (end .finish .result) (sym (test .before .goes-on .ensures) ∙ test .if1 .taken) in
-    same-written (jsonLines (a .register) (jsonRead (a .action .now) moment .outcome) (jsonRead (a .action .now) moment .action))
+    same-written (posedText (a .register) (posed .read-json .result .outcome) (posed .read-json .result .action))
     (clockLines (a .register) (closed (clockRead (a .clock .now) .state)) (clockRead (a .clock .now) .value) (a .action .now)) (a .buf .now)
-    (clock-going (a .register) (a .clock .now) (a .action .now) (begun read .0) (sym (ended end) ∙ going))
+    (clock-going (a .register) (a .clock .now) (a .action .now) (begun read .0) (sym (ended end) ∙ going)
+    ∙ ap (λ (x : JsonRead). posedText (a .register) (x .outcome) (x .action)) (sym (posed .read-json .ensures)))
     (call .ensures .0) (call .ensures .1)
 
 put-stopped-requires : tie.Need-put-stopped-requires
@@ -75,7 +79,9 @@ compose-clock-spec =
     (λ c κs. search needs)
     (λ c κs. search needs)
     (λ c κs. search needs)
+    (λ c. search needs)
     (λ c κs. search needs)
+    put-posed-requires
     (λ c. search needs)
     returns
     put-stopped-requires

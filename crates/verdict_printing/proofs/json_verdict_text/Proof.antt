@@ -19,21 +19,21 @@ use Rattle.verdict_printing.proofs.json_verdict_text.Tie as tie
 blank-room : (n : ℕ) → n ≤ length {A = ℕ} (replicate n 0)
 blank-room n = omega (arith, length-replicate {A = ℕ} n 0)
 
-compose-texts-requires : tie.Need-compose-texts-requires
-compose-texts-requires c κs = blank-room 1103
+compose-requires : tie.Need-compose-requires
+compose-requires c κs = blank-room 1103
 
 -- the sheet's front is the text
-front : (c : tie.After-compose-texts) →
+front : (c : tie.After-compose) →
     let a = c .before .before .before .before .before .before .args in
-    take (c .compose-texts .result) (c .compose-texts .last .0) ≡ jsonPrinted (a .register .now) (a .clock .now) (a .action .now)
-front c = rw (c .compose-texts .ensures .0, c .compose-texts .ensures .1) (splice-front _ _)
+    take (c .compose .result) (c .compose .last .0) ≡ jsonPrinted (a .register .now) (a .clock .now) (a .action .now)
+front c = rw (c .compose .ensures .0, c .compose .ensures .1) (splice-front _ _)
 
 slice-aggregate-deliver : tie.Need-slice-aggregate-deliver
 slice-aggregate-deliver c =
     let composed = c .before .before .before .before in
     let a = composed .before .before .before .before .before .before .args in
-    let full : length (composed .compose-texts .last .0) ≡ printedLimit = composed .compose-texts .kept .0 ∙ length-replicate {A = ℕ} 1103 0 in
-    sym (length-take-le _ (composed .compose-texts .last .0) (omega (arith, full, composed .compose-texts .ensures .0, json-printed-length (a .register .now) (a .clock .now) (a .action .now))))
+    let full : length (composed .compose .last .0) ≡ printedLimit = composed .compose .kept .0 ∙ length-replicate {A = ℕ} 1103 0 in
+    sym (length-take-le _ (composed .compose .last .0) (omega (arith, full, composed .compose .ensures .0, json-printed-length (a .register .now) (a .clock .now) (a .action .now))))
 
 returns : tie.Need-returns
 returns c =
@@ -50,7 +50,7 @@ json-verdict-text-spec =
     tie.close
     (tie.spec
     (λ c. search needs)
-    compose-texts-requires
+    compose-requires
     (λ c. search needs)
     slice-aggregate-deliver
     (λ c κs. search needs)

@@ -24,14 +24,14 @@ compose-requires c κs = blank-room 1103
 
 -- the sheet's front is the text
 front : (c : tie.After-compose) →
-    let a = c .before .before .before .before .before .args in
+    let a = c .before .before .before .before .before .before .args in
     take (c .compose .result) (c .compose .last .0) ≡ printed (a .register .now) (a .action .now)
 front c = rw (c .compose .ensures .0, c .compose .ensures .1) (splice-front _ _)
 
 slice-aggregate-deliver : tie.Need-slice-aggregate-deliver
 slice-aggregate-deliver c =
     let composed = c .before .before .before .before in
-    let a = composed .before .before .before .before .before .args in
+    let a = composed .before .before .before .before .before .before .args in
     let full : length (composed .compose .last .0) ≡ printedLimit = composed .compose .kept .0 ∙ length-replicate {A = ℕ} 1103 0 in
     sym (length-take-le _ (composed .compose .last .0) (omega (arith, full, composed .compose .ensures .0, printed-length (a .register .now) (a .action .now))))
 
@@ -39,7 +39,7 @@ returns : tie.Need-returns
 returns c =
     let call = c .before .before .deliver in
     let composed = c .before .before .before .before .before .before .before in
-    let a = composed .before .before .before .before .before .args in
+    let a = composed .before .before .before .before .before .before .args in
     let text = front composed in (
       call .ensures .0 ∙ ap (λ (t : List ℕ). delivered t (a .buf .now)) text,
       call .ensures .1 ∙ ap (λ (t : List ℕ). put 0 t (a .buf .now)) text,
@@ -49,6 +49,7 @@ pub verdict-text-spec : {M : Type 1} → statement M
 verdict-text-spec =
     tie.close
     (tie.spec
+    (λ c. search needs)
     (λ c. search needs)
     compose-requires
     (λ c. search needs)

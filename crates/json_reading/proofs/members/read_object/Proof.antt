@@ -1,6 +1,6 @@
 -- `json_reading::members::read_object` meets its contract: what is answered of the members up to the closing brace, where an object begins and nothing
 -- follows it. Assumes nothing.
-use mathlib.Core.Path.{_≡_, subst}
+use mathlib.Core.Path.{_≡_, ap, subst}
 use lib.ListN.{drop}
 use borrow.Author.Needs.{needs}
 use Rattle.json_tokens.specs.Tokens.{tokens, opensObject}
@@ -8,6 +8,7 @@ use Rattle.json_tokens.specs.Answers.{TokenSays}
 use Rattle.json_tokens.specs.declared.TokenAt.{TokenAt}
 use Rattle.json_reading.specs.Answers.{PassedSays}
 use Rattle.json_reading.specs.declared.marks.Passed.{Passed}
+use Rattle.json_reading.specs.declared.members.Draft.{Draft}
 use Rattle.json_reading.proofs.Wholes.{object-unopened, object-ended, object-followed}
 use Rattle.json_reading.proofs.members.read_object.Statement.{statement}
 use Rattle.json_reading.proofs.members.read_object.Tie as tie
@@ -43,7 +44,7 @@ returns-2 c =
     let m = p .before .before .before in
     let b = m .before .before .before in
     object-followed _ _ (mark-told (b .before .before) _ (b .begun .given .1) .0) _ (m .read-members .ensures) _ _ _
-    (token-told p _ (c .before .enum-told2 .given .1) .0) (c .no-draft .ensures)
+    (token-told p _ (c .before .enum-told2 .given .1) .0) (ap (λ (d : Draft). d .ok) (c .no-draft .ensures))
 
 returns-3 : tie.Need-returns-3
 returns-3 c =
@@ -51,7 +52,7 @@ returns-3 c =
     let m = p .before .before .before in
     let b = m .before .before .before in
     object-followed _ _ (mark-told (b .before .before) _ (b .begun .given .1) .0) _ (m .read-members .ensures) _ _ _
-    (token-told p _ (c .before .enum-told3 .given .1) .0) (c .no-draft2 .ensures)
+    (token-told p _ (c .before .enum-told3 .given .1) .0) (ap (λ (d : Draft). d .ok) (c .no-draft2 .ensures))
 
 returns-4 : tie.Need-returns-4
 returns-4 c =
@@ -59,10 +60,10 @@ returns-4 c =
     let m = p .before .before .before in
     let b = m .before .before .before in
     object-followed _ _ (mark-told (b .before .before) _ (b .begun .given .1) .0) _ (m .read-members .ensures) _ _ _
-    (token-told p _ (c .before .enum-told4 .given .1)) (c .no-draft3 .ensures)
+    (token-told p _ (c .before .enum-told4 .given .1)) (ap (λ (d : Draft). d .ok) (c .no-draft3 .ensures))
 
 returns-5 : tie.Need-returns-5
-returns-5 c = object-unopened _ _ (mark-told (c .before .before .before) _ (c .before .enum-told5 .given .1)) (c .no-draft4 .ensures)
+returns-5 c = object-unopened _ _ (mark-told (c .before .before .before) _ (c .before .enum-told5 .given .1)) (ap (λ (d : Draft). d .ok) (c .no-draft4 .ensures))
 
 pub read-object-spec : {M : Type 1} → statement M
 read-object-spec =

@@ -1,10 +1,8 @@
 -- `json_reading::numbers::number_in` meets its contract: the number there, where nothing stands behind it. Assumes nothing.
 use mathlib.Core.Path.{_≡_, ap, subst}
-use native.Mathlib.Omega.{arith}
 use borrow.Author.Needs.{needs}
 use Rattle.register.specs.Limits.{idLimit}
 use Rattle.decimals.specs.Decimals.{parse}
-use Rattle.decimals.specs.Laws.{digits-parse}
 use Rattle.decimals.specs.declared.Number.{Number}
 use Rattle.decimals.specs.Answers.{Says}
 use Rattle.json_rules.specs.Members.{isExact}
@@ -22,13 +20,6 @@ returns c =
     let r = k .before .before in
     exact-behind (r .before .before .args .x .now) _ _ _ (told r _ (k .n .given .1) .0) (c .if1 .taken)
 
-cast-t9 : tie.Need-cast-t9
-cast-t9 c =
-    let k = c .before .before in
-    let r = k .before .before in
-    let x = r .before .before .args .x .now in
-    omega (arith, digits-parse idLimit _ _ x (told r _ (k .n .given .1) .0) .within)
-
 returns-2 : tie.Need-returns-2
 returns-2 c =
     let k = c .before .before in
@@ -45,11 +36,9 @@ pub number-in-spec : {M : Type 1} → statement M
 number-in-spec =
     tie.close
     (tie.spec
-    (λ c. search needs)
     (λ c κs. search needs)
     (λ c. search needs)
     returns
-    cast-t9
     (λ c. search needs)
     (λ c. search needs)
     returns-2
