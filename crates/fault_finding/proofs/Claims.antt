@@ -10,7 +10,7 @@ use lib.ListN.{length, take, getD, length-map}
 use Rattle.lists.specs.Lists.{any}
 use Rattle.lists.specs.Each.{any-reverse}
 use Rattle.register.specs.Limits.{claimLimit}
-use Rattle.register.specs.Register.{actorsOf, resourcesOf, noClaim}
+use Rattle.register.specs.Register.{actorsOf, resourcesOf}
 use Rattle.register.specs.Chain.{latest, above}
 use Rattle.register.specs.Laws.{circling-map}
 use Rattle.register.specs.declared.Actors.{Actors}
@@ -23,7 +23,7 @@ use Rattle.columns.specs.SheetLaws.{claims-in-length, claims-in-at, column-natu
 use Rattle.columns.specs.declared.Place.{Place}
 use Rattle.columns.specs.declared.Place.the-variants.{At, Nowhere}
 use Rattle.lookup.specs.Finding.{earlierPlaces}
-use Rattle.lookup.specs.Walks.{upFrom, up-from-natural}
+use Rattle.lookup.specs.Walks.{up-from-natural}
 use Rattle.soundness_rules.specs.Sound.{World, worldOf, sound, claimFits, fewerLeft}
 use Rattle.soundness_rules.specs.Registers.{sound-out}
 use Rattle.soundness_rules.specs.Places.{claim-numbered}

@@ -1,11 +1,11 @@
 -- The first fault of a register in the parts that the code decides one after the other: the version and the counts, the actors, the resources, the
 -- claims. Assumes nothing.
 use mathlib.Core.Path.{_≡_, refl, ap, sym, _∙_}
-use mathlib.Core.Bool.{Bool, true, false, _&&_, cond, and-true}
+use mathlib.Core.Bool.{Bool, true, false, _&&_, and-true}
 use mathlib.Core.List.{List, [], _∷_}
 use Prim.Native.Nat.{ℕ, zero, suc, _≤_, _<_}
 use native.Mathlib.Omega.{arith}
-use borrow.Author.Tests.{le-leb, lt-leb, leb-true}
+use borrow.Author.Tests.{le-leb, leb-true}
 use lib.Dec.{eqb, leb}
 use lib.ListN.{length, take}
 use Rattle.lists.specs.Tests.{cases, clash}
@@ -21,7 +21,7 @@ use Rattle.register.specs.declared.Register.{Register}
 use Rattle.columns.specs.Columns.{beside, actorId, resourceId, actorsTo, resourcesTo, actorColumns, resourceColumns}
 use Rattle.columns.specs.declared.ActorColumns.{ActorColumns}
 use Rattle.columns.specs.declared.ResourceColumns.{ResourceColumns}
-use Rattle.columns.specs.Sheet.{sheetOf, sheetLimit}
+use Rattle.columns.specs.Sheet.{sheetOf}
 use Rattle.columns.specs.SheetLaws.{sheet-long, sheet-claims}
 use Rattle.soundness_rules.specs.Sound.{sound, human}
 use Rattle.soundness_rules.specs.Registers.{Within, sound-out}
@@ -34,8 +34,7 @@ use Rattle.refusals.specs.declared.Outcome.{Outcome}
 use Rattle.lines.specs.Reading.{going, failed}
 use Rattle.text_rules.specs.Registers.{registerFrom}
 use Rattle.change_rules.specs.Changes.{worldIn}
-use Rattle.faults.specs.Faults.{Broken, brokenIn, idTaken, actorTests, resourceTests, claimTests, FirstFault, noFault, badVersion, manyActors, manyResources, manyClaims, ofActor, ofResource, ofClaim, faultFrom, brokenActors, brokenResources, brokenClaims, recordFault, firstFault, faultNumbers, faultOf}
-use Rattle.faults.specs.declared.Fault.{Fault}
+use Rattle.faults.specs.Faults.{Broken, idTaken, actorTests, resourceTests, claimTests, FirstFault, noFault, ofActor, ofResource, ofClaim, faultFrom, brokenActors, brokenResources, brokenClaims, recordFault, firstFault, faultNumbers, faultOf}
 use Rattle.faults.specs.Unread.{whyUnread}
 use Rattle.faults.specs.Faulting.{in-none}
 use Rattle.faults.specs.Telling.{people, none-passing, actors-in, actors-out, resources-in, resources-out, claims-out, first-claims-in}

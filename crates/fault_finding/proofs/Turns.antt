@@ -5,9 +5,9 @@ use mathlib.Core.List.{List}
 use Prim.Native.Nat.{ℕ, suc, _≤_, _<_}
 use native.Mathlib.Omega.{arith}
 use borrow.Author.Tests.{eq-eqb}
-use lib.ListN.{length, take, getD}
+use lib.ListN.{length, take}
 use Rattle.register.specs.Limits.{claimLimit}
-use Rattle.register.specs.Register.{actorsOf, resourcesOf, noClaim}
+use Rattle.register.specs.Register.{actorsOf, resourcesOf}
 use Rattle.register.specs.Chain.{latest}
 use Rattle.register.specs.declared.Actors.{Actors}
 use Rattle.register.specs.declared.Resources.{Resources}

@@ -1,7 +1,7 @@
 -- A walk along a list for its first broken record; what the columns tell of an actor's owner, a keeper and an id. Assumes nothing.
 use mathlib.Core.Path.{_≡_, refl, sym, ap, _∙_}
 use mathlib.Core.Bool.{Bool, true, false, not}
-use mathlib.Core.List.{List, [], _∷_, _++_, map, reverse-append}
+use mathlib.Core.List.{List, [], _∷_, map, reverse-append}
 use Prim.Native.Nat.{ℕ, suc, _+_, _≤_, _<_, min}
 use native.Mathlib.Numerals.{add-one}
 use native.Mathlib.Omega.{arith}
@@ -14,7 +14,6 @@ use Rattle.lists.specs.Loops.{Loop, start, turn, next, done}
 use Rattle.register.specs.Limits.{humanKind}
 use Rattle.register.specs.Register.{actorsOf, noActor}
 use Rattle.register.specs.Chain.{latest}
-use Rattle.register.specs.declared.Actor.{Actor}
 use Rattle.register.specs.declared.Actors.{Actors}
 use Rattle.columns.specs.Columns.{upTo, beside, actorId, actorKind, actorsTo, actorColumns}
 use Rattle.columns.specs.Laws.{among-natural, beside-natural, up-to-first}
@@ -25,7 +24,7 @@ use Rattle.refusals.specs.Laws.{outcome-nil, outcome-pass, outcome-fail}
 use Rattle.refusals.specs.declared.Refusal.{Refusal}
 use Rattle.refusals.specs.declared.Refusal.the-variants.{Range, Doubled}
 use Rattle.refusals.specs.declared.Outcome.the-variants.{Accepted, Refused}
-use Rattle.faults.specs.Faults.{Broken, brokenIn, idTaken}
+use Rattle.faults.specs.Faults.{brokenIn, idTaken}
 use Rattle.faults.specs.Faulting.{in-nil, in-pass, in-fail}
 use Rattle.fault_finding.specs.Asked.{threeTests}
 

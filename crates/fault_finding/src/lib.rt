@@ -261,27 +261,24 @@ fn claims_fault(version: u64, a: Actors, o: Resources, sheet: &[u32], n: usize) 
 pub fn why_unsound(r: Register) -> Fault
     ensures { λ y. ⌜ y ≡ faultOf r ⌝ }
 {
-    let a = r.actors;
-    let o = r.resources;
-    let k = r.claims;
     let mut sheet = [0u32; columns::SHEET];
-    let found = soundness::examine(&mut sheet, r.version, a, o, k);
+    let found = soundness::examine(&mut sheet, r.version, r.actors, r.resources, r.claims);
     if found.sound {
         return no_fault();
     }
-    let limits = limits_fault(r.version, a.count, o.count, k.count);
+    let limits = limits_fault(r.version, r.actors.count, r.resources.count, r.claims.count);
     if limits.sound == 0 {
         return limits;
     }
-    let actors = actors_fault(a);
+    let actors = actors_fault(r.actors);
     if actors.sound == 0 {
         return actors;
     }
-    let resources = resources_fault(a, o);
+    let resources = resources_fault(r.actors, r.resources);
     if resources.sound == 0 {
         return resources;
     }
-    claims_fault(r.version, a, o, &sheet, k.count)
+    claims_fault(r.version, r.actors, r.resources, &sheet, r.claims.count)
 }
 
 // The fault of a text whose line of that number fails.

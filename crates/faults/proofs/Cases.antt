@@ -116,8 +116,9 @@ faults : (faultOf case-r ≡ none)
     × (faultOf (ladder 16) ≡ none)
     × (faultOf (ladder 17) ≡ fault 15 3 17 18)
     × (faultOf (behind (claim 2 1 1 1 1 600 2000 ∷ [])) ≡ fault 16 3 1 2)
-    -- a dead parent is no fault
+    -- a parent that ends before its child is no fault, and neither is one without weight, which is live at no moment
     × (faultOf (holding pair reports (claim 1 0 1 1 19 1000 1 ∷ claim 2 1 1 2 1 600 2000 ∷ [])) ≡ none)
+    × (faultOf (holding pair reports (claim 1 0 1 1 19 0 0 ∷ claim 2 1 1 2 1 0 2000 ∷ [])) ≡ none)
     -- the first of two
     × (faultOf (behind (claim 2 1 1 2 1 600 2000 ∷ claim 3 1 1 2 4 600 0 ∷ claim 2 1 1 2 4 1001 0 ∷ [])) ≡ fault 13 3 2 3)
     -- actors: 2, 32, 31
@@ -140,4 +141,4 @@ faults : (faultOf case-r ≡ none)
     × (faultOf (second (telling 1 0 1 17 ∷ telling 2 1 2 15 ∷ [])) ≡ fault 2 3 0 1)
     × (faultOf (second (telling 1 0 1 4 ∷ telling 2 1 2 4 ∷ [])) ≡ fault 15 3 1 2)
 unfolding faultOf firstFault recordFault brokenIn outcomeOf actorTests resourceTests higherTests claimTests worldTests parentTests sourceLive dropping claimFits namesStand rootKept fresh hasRight hasRights barsMachine chain circling rootGranted
-faults = (refl, refl, refl, refl, refl, refl, refl, refl, refl, refl, refl, refl, refl, refl, refl, refl, refl, refl, refl, refl, refl, refl, refl, refl, refl, refl, refl, refl, refl, refl, refl, refl)
+faults = (refl, refl, refl, refl, refl, refl, refl, refl, refl, refl, refl, refl, refl, refl, refl, refl, refl, refl, refl, refl, refl, refl, refl, refl, refl, refl, refl, refl, refl, refl, refl, refl, refl)

@@ -15,8 +15,6 @@ use Rattle.lists.specs.Each.{cons-clash}
 use Rattle.register.specs.Limits.{versionOne, versionTwo, ranged}
 use Rattle.register.specs.Register.{actorsOf, resourcesOf, claimsOf}
 use Rattle.register.specs.Chain.{latest}
-use Rattle.register.specs.declared.Actor.{Actor}
-use Rattle.register.specs.declared.Resource.{Resource}
 use Rattle.register.specs.declared.Claim.{Claim}
 use Rattle.register.specs.declared.Register.{Register}
 use Rattle.soundness_rules.specs.Sound.{soundClaims, sound, acceptable}

@@ -1,5 +1,5 @@
 -- Laws: The first broken claim stands behind the greatest number of claims with which the register is sound. Assumes nothing.
-use mathlib.Core.Path.{_≡_, refl, ap, sym, _∙_}
+use mathlib.Core.Path.{_≡_, ap, sym, _∙_}
 use mathlib.Core.Bool.{true, false}
 use mathlib.Core.List.{[], _∷_, List, _++_, append-nil}
 use Prim.Native.Nat.{ℕ, suc, _≤_, _<_}

@@ -1,13 +1,13 @@
 -- The answer to why, where a test stops the call and where none does, by what was found of the register. Assumes nothing.
-use mathlib.Core.Path.{_≡_, refl, sym, ap, _∙_}
-use mathlib.Core.Bool.{true, false, _&&_}
-use mathlib.Core.List.{List, []}
+use mathlib.Core.Path.{_≡_, sym, ap, _∙_}
+use mathlib.Core.Bool.{true, false}
+use mathlib.Core.List.{List}
 use Prim.Native.Nat.{ℕ}
 use lib.Dec.{leb}
 use Rattle.lists.specs.Tests.{and-right}
 use Rattle.rights.specs.Rights.{isRight}
 use Rattle.register.specs.Limits.{idLimit}
-use Rattle.register.specs.Register.{actorsOf, noActor, Shaped}
+use Rattle.register.specs.Register.{noActor, Shaped}
 use Rattle.register.specs.declared.Register.{Register}
 use Rattle.columns.specs.Laws.{up-to-first}
 use Rattle.columns.specs.Sheet.{sheetOf}

@@ -2,10 +2,9 @@
 use mathlib.Core.Path.{_≡_}
 use mathlib.Core.Bool.{false}
 use Prim.Native.Nat.{ℕ, _≤_, _<_}
-use native.Mathlib.Omega.{arith}
 use borrow.Author.Tests.{le-leb, lt-leb, lt-ltb, le-ltb}
 use lib.Dec.{ltb}
-use Rattle.rights.specs.Rights.{rightCount, isRight}
+use Rattle.rights.specs.Rights.{rightCount}
 use Rattle.register.specs.Limits.{idLimit, momentEnd}
 use Rattle.actions.specs.declared.Usage.{Usage}
 use Rattle.reasons.specs.Holders.{askFits}

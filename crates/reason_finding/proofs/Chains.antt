@@ -1,14 +1,14 @@
 -- The claims above the one at a place, by the places of the parents: those of its chain. Assumes nothing.
-use mathlib.Core.Path.{_≡_, refl, sym, ap, _∙_}
+use mathlib.Core.Path.{_≡_, sym, ap, _∙_}
 use mathlib.Core.Bool.{true}
-use mathlib.Core.List.{List, map}
+use mathlib.Core.List.{map}
 use Prim.Native.Nat.{ℕ, _≤_, _<_}
 use native.Mathlib.Omega.{arith}
-use lib.ListN.{length, getD, take, length-map, List·getD-map}
+use lib.ListN.{length, take, length-map, List·getD-map}
 use lib.Seq.{take-all}
 use Rattle.register.specs.Limits.{hopLimit}
 use Rattle.register.specs.Register.{claimsOf, noClaim, Shaped}
-use Rattle.register.specs.Chain.{latest, above, hopsOf, chain}
+use Rattle.register.specs.Chain.{latest, above}
 use Rattle.register.specs.declared.Register.{Register}
 use Rattle.columns.specs.Columns.{claimId, parentOf, placesUp, chainPlaces}
 use Rattle.columns.specs.Laws.{chain-natural}

@@ -1,14 +1,14 @@
 -- The walk up the chain of a claim by the places of the parents: what is put into the array on the way, and the first that is not current. Assumes nothing.
 use mathlib.Core.Path.{_≡_, refl, sym, ap, _∙_}
-use mathlib.Core.Bool.{Bool, true, false, not, _&&_}
+use mathlib.Core.Bool.{true, false, not, _&&_}
 use mathlib.Core.List.{List, [], _∷_, _++_, map, map-append, append-nil}
 use Prim.Native.Nat.{ℕ, zero, suc, _+_, _-_, _≤_, _<_}
 use native.Mathlib.Omega.{arith}
-use borrow.Author.Tests.{ltb-true, ltb-false, lt-ltb}
+use borrow.Author.Tests.{ltb-true, ltb-false}
 use lib.Dec.{ltb}
 use lib.ListN.{length, take, getD, set, replicate, length-append, length-map}
 use lib.Seq.{take-all, take-append-seam, append-snoc}
-use Rattle.lists.specs.Tests.{cases, and-left, and-right, clash}
+use Rattle.lists.specs.Tests.{cases, and-left, and-right}
 use Rattle.lists.specs.Fills.{put-first}
 use Rattle.register.specs.Limits.{hopLimit}
 use Rattle.register.specs.Chain.{current}
@@ -20,9 +20,9 @@ use Rattle.soundness_rules.specs.Roots.{rootOf}
 use Rattle.gate_rules.specs.Gate.{firstOf}
 use Rattle.gate_rules.specs.Places.{first-hit, first-miss}
 use Rattle.reasons.specs.Reasons.{firstId}
-use Rattle.reasons.specs.Uses.{chainLimit, toldOf}
+use Rattle.reasons.specs.Uses.{chainLimit}
 use Rattle.reasons.specs.declared.Told.{Told}
-use Rattle.reason_finding.specs.Finding.{higherBy, chainTelling, chainTold, endedBy}
+use Rattle.reason_finding.specs.Finding.{chainTold, endedBy}
 
 -- the root of a chain with one more behind it
 root-behind : (c : Claim) (higher : List Claim) (d : Claim) → rootOf c (higher ++ (d ∷ [])) ≡ d

@@ -1,15 +1,15 @@
 -- The nearest claim that an actor holds and that contains the used resource, by columns: for any test that its rights column and its containment tell.
 -- Assumes nothing.
 use mathlib.Core.Path.{_≡_, refl, sym, ap, _∙_}
-use mathlib.Core.Bool.{Bool, true, false, not, _&&_, and-true}
-use mathlib.Core.List.{List, [], _∷_, map}
+use mathlib.Core.Bool.{Bool, true, not, _&&_, and-true}
+use mathlib.Core.List.{List, map}
 use Prim.Native.Nat.{ℕ, _≤_, _<_, min}
 use native.Mathlib.Omega.{arith}
-use borrow.Author.Tests.{lt-ltb, ltb-true}
+use borrow.Author.Tests.{lt-ltb}
 use lib.Dec.{eqb, ltb}
-use lib.ListN.{length, getD, replicate, length-map, length-take, length-replicate, List·getD-map, getD-replicate}
-use Rattle.lists.specs.Tests.{cases, and-left, and-right}
-use Rattle.lists.specs.Lists.{All, counted, filter}
+use lib.ListN.{length, getD, length-map, length-take, length-replicate, List·getD-map, getD-replicate}
+use Rattle.lists.specs.Tests.{and-right}
+use Rattle.lists.specs.Lists.{counted, filter}
 use Rattle.lists.specs.Each.{all-imp}
 use Rattle.lists.specs.Counts.{counted-first}
 use Rattle.lists.specs.Filters.{dropping-same}
@@ -72,7 +72,7 @@ module _ (r : Register) (shaped : Shaped r) (j : ℕ) (inside : j < length (clai
       let long : length (spotsOf r) ≡ claimLimit = tabled-length _ (asked (r .claims .count) (map claimedOf (r .claims .list))) most in
       omega (arith, all-asked)
 
-  spot-natural : sound r ≡ true → getD (spotsOf r) j 0 ≡ placeNumber claimLimit (placeBy r (claimStanding r j .resource))
+  pub spot-natural : sound r ≡ true → getD (spotsOf r) j 0 ≡ placeNumber claimLimit (placeBy r (claimStanding r j .resource))
   spot-natural h =
       let few : min (r .resources .count) claimLimit ≡ r .resources .count = omega (arith, sound-out r h .limits .resourceCount) in
       places-at (map resourceId (r .resources .list)) (r .resources .count) (map claimedOf (r .claims .list)) (r .claims .count) j 0 all-asked

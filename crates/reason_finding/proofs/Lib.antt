@@ -1,4 +1,7 @@
+pub mod Owned
 pub mod Keeping
+pub mod Marking
+pub mod Deciding
 pub mod Asking
 pub mod Permitting
 pub mod Climbing

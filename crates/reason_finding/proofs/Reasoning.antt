@@ -1,14 +1,13 @@
 -- The reason by the columns of a register is that of the register, and so is the whole answer. Assumes nothing.
 use mathlib.Core.Path.{_≡_, refl, sym, ap, _∙_, fun-ext}
-use mathlib.Core.Bool.{Bool, true, false, not, _&&_, cond, and-true, and-comm, and-assoc}
-use mathlib.Core.List.{List, [], _∷_, map}
-use Prim.Native.Nat.{ℕ, _≤_, _<_}
+use mathlib.Core.Bool.{Bool, true, false, not, _&&_, cond, and-true}
+use mathlib.Core.List.{List, _∷_, map}
+use Prim.Native.Nat.{ℕ, _<_}
 use native.Mathlib.Omega.{arith}
 use borrow.Author.Tests.{ltb-true, eqb-true, eq-eqb}
 use lib.Dec.{eqb, ltb}
 use lib.ListN.{length, getD, take, List·getD-map, getD-replicate, length-take}
 use Rattle.lists.specs.Tests.{cases, clash, and-left, and-right, and-both}
-use Rattle.lists.specs.Lists.{every, counted}
 use Rattle.lists.specs.Counts.{every-counted-sound}
 use Rattle.rights.specs.Rights.{rightCount, isRight, hasRight}
 use Rattle.register.specs.Limits.{claimLimit, hopLimit, momentEnd, machineKind}
@@ -17,7 +16,7 @@ use Rattle.register.specs.Chain.{current}
 use Rattle.register.specs.declared.Actor.{Actor}
 use Rattle.register.specs.declared.Claim.{Claim}
 use Rattle.register.specs.declared.Register.{Register}
-use Rattle.columns.specs.Columns.{actorId, actorKind, actorOwner, publicOf, claimId, parentOf, claimedOf, holderOf, rightsOf, weightOf, placesUp, latestPlace, actorsTo}
+use Rattle.columns.specs.Columns.{actorId, actorKind, actorOwner, claimId, parentOf, claimedOf, holderOf, rightsOf, weightOf, placesUp, latestPlace, actorsTo}
 use Rattle.columns.specs.Laws.{up-to-first, beside-natural}
 use Rattle.columns.specs.Sheet.{sheetLimit, sheetOf, claimAt, columnOf, idColumn, parentColumn, holderColumn, resourceColumn, rightsColumn, weightColumn}
 use Rattle.columns.specs.SheetLaws.{column-natural, sheet-long, claims-in-at, sheet-claims}
@@ -36,11 +35,11 @@ use Rattle.gate_rules.specs.Gate.{publicRead, contains, covering, reachOf, firs
 use Rattle.gate_rules.specs.Places.{any-place, place-any, first-none}
 use Rattle.gate.specs.Judged.{countsOf, sheetEnds}
 use Rattle.gate.specs.Sheets.{sheeted, sheeted-laid, sheeted-shaped, column-natural-expiries}
-use Rattle.uses.specs.Sights.{ownerAt, ownerNumber, spotsOf, upsOf, endsIn, spotFor, sightOf}
+use Rattle.uses.specs.Sights.{ownerAt, ownerNumber, spotsOf, upsOf, endsIn, spotFor}
 use Rattle.uses.specs.SightsLaws.{asked-actor}
 use Rattle.uses.specs.Resources.{public-natural}
 use Rattle.uses.specs.Ends.{cover-natural}
-use Rattle.uses.specs.Relying.{onlyAt, claimStanding, nearest-natural, relied-natural}
+use Rattle.uses.specs.Relying.{onlyAt, claimStanding, nearest-natural}
 use Rattle.reasons.specs.Reasons.{Reason, relying, publicly, notLive, lacking, unheld, reasonFrom, reasonOf, heldOver, heldWith, usedReach, telling, tellingOf, tellingNone, endedOn, firstId}
 use Rattle.reasons.specs.Uses.{machineOwner, firstOwner, toldOf, useToldOf, whyOn}
 use Rattle.reasons.specs.UsesLaws.{owner-same}
@@ -78,16 +77,16 @@ module _ (r : Register) (shaped : Shaped r) (h : sound (sheeted r) ≡ true) whe
   ups-natural : found .ups ≡ upsOf (sheeted r)
   ups-natural = rw (column-natural sheet sheet-full claimId idColumn (omega arith) (λ g. refl), column-natural sheet sheet-full parentOf parentColumn (omega arith) (λ g. refl))
 
-  spots-natural : found .spots ≡ spotsOf (sheeted r)
+  pub spots-natural : found .spots ≡ spotsOf (sheeted r)
   spots-natural = rw (column-natural sheet sheet-full claimedOf resourceColumn (omega arith) (λ g. refl))
 
-  ends-natural : sheetEnds sheet (found .ups) (r .claims .count) ≡ endsIn (sheeted r)
+  pub ends-natural : sheetEnds sheet (found .ups) (r .claims .count) ≡ endsIn (sheeted r)
   ends-natural = rw (ups-natural, column-natural sheet sheet-full weightOf weightColumn (omega arith) (λ g. refl), column-natural-expiries r shaped h)
 
-  holders-natural : columnOf holderColumn sheet ≡ map holderOf (sheeted r .claims .list)
+  pub holders-natural : columnOf holderColumn sheet ≡ map holderOf (sheeted r .claims .list)
   holders-natural = column-natural sheet sheet-full holderOf holderColumn (omega arith) (λ g. refl)
 
-  rights-natural : columnOf rightsColumn sheet ≡ map rightsOf (sheeted r .claims .list)
+  pub rights-natural : columnOf rightsColumn sheet ≡ map rightsOf (sheeted r .claims .list)
   rights-natural = column-natural sheet sheet-full rightsOf rightsColumn (omega arith) (λ g. refl)
 
   claim-read : _≡_ {A = ℕ → Claim} (claimAt sheet) (claimStanding (sheeted r))
@@ -233,7 +232,7 @@ module _ (r s : Register) (resources : resourcesOf (r .resources) ≡ resourcesO
   reach-same : usedReach r u ≡ usedReach s u
   reach-same = fun-ext (λ c. reached-same (c .resource))
 
-  public-same : publicRead r u ≡ publicRead s u
+  pub public-same : publicRead r u ≡ publicRead s u
   unfolding publicRead
   public-same = rw resources
 
@@ -241,7 +240,7 @@ module _ (r s : Register) (resources : resourcesOf (r .resources) ≡ resourcesO
   unfolding covering
   covered-same y c = rw (contains-same (c .resource) (u .resource), claims)
 
-  covering-same : (y : ℕ) → covering r moment y u ≡ covering s moment y u
+  pub covering-same : (y : ℕ) → covering r moment y u ≡ covering s moment y u
   covering-same y = fun-ext (λ c. covered-same y c)
 
   over-same : (y : ℕ) → heldOver r y u ≡ heldOver s y u

@@ -1,9 +1,9 @@
 -- Working: The reason of an actor for a use by the columns of a register. It is that of the register (`reason-natural`, `use-natural`).
-use mathlib.Core.Bool.{not, _&&_, cond}
-use mathlib.Core.List.{List, [], _∷_, map}
+use mathlib.Core.Bool.{not, cond}
+use mathlib.Core.List.{List, _∷_, map}
 use Prim.Native.Nat.{ℕ}
 use lib.Dec.{eqb}
-use lib.ListN.{length, take, replicate, getD}
+use lib.ListN.{length, take, replicate}
 use Rattle.register.specs.Limits.{claimLimit, hopLimit, momentEnd, machineKind}
 use Rattle.register.specs.Chain.{current}
 use Rattle.register.specs.declared.Claim.{Claim}
@@ -21,7 +21,7 @@ use Rattle.gate.specs.declared.Counts.{Counts}
 use Rattle.uses.specs.Sights.{ownerAt}
 use Rattle.uses.specs.Uses.{openTo}
 use Rattle.reasons.specs.Reasons.{Telling, tellingNone, firstId}
-use Rattle.reasons.specs.Uses.{toldOf, UseTelling}
+use Rattle.reasons.specs.Uses.{toldOf}
 use Rattle.reasons.specs.declared.Told.{Told}
 use Rattle.reasons.specs.declared.UseTold.{UseTold}
 use Rattle.reason_finding.specs.declared.Ask.{Ask}

@@ -1,2 +1,2 @@
-pub mod Permitted
+pub mod Covering
 pub mod Finding

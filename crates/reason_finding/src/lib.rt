@@ -1,27 +1,40 @@
 // Why an actor may make a use or may not, and who may, found by the columns of the register.
 // The register is examined once, and what is looked at of it is lent, as to the actions of a plan.
-// Who may: the gate judges the action of the one use for each actor in turn.
+// Who may: one walk over the claims finds the holders of those that cover the use, and each actor,
+// with the owner of a machine, is looked up among them.
 // Why: of the claims that an actor holds the nearest is looked for, among the live ones, then among all, then for any right.
 ghost use mathlib.Core.Path.{_≡_};
-ghost use mathlib.Core.List.{[]};
-ghost use lib.ListN.{take};
-ghost use Rattle.gate.specs.Judged.{lentOf};
+ghost use mathlib.Core.Bool.{false};
+ghost use mathlib.Core.List.{[], map};
+ghost use lib.ListN.{length, take, getD};
+ghost use Rattle.lists.specs.Lists.{filter};
+ghost use Rattle.paths.specs.Containment.{contained};
+ghost use Rattle.register.specs.Limits.{claimLimit};
+ghost use Rattle.register.specs.Register.{actorsOf, pathOf};
+ghost use Rattle.columns.specs.Sheet.{columnOf, holderColumn, rightsColumn};
 ghost use Rattle.reasons.specs.Holders.{askFits, holdersOf, whoHeld};
 ghost use Rattle.reasons.specs.Reasons.{tellingNone};
 ghost use Rattle.reasons.specs.Uses.{toldOf, useToldOf, refusedFor, whyUse};
-ghost use Rattle.reason_finding.specs.Permitted.{permittedBy};
+ghost use Rattle.reason_finding.specs.Covering.{containersOf, covererOf, coverersOf, mayBy};
 ghost use Rattle.reason_finding.specs.Finding.{heldPlace, chainTold, endedBy, lackingBy, missingBy, reasonBy, ownerFor, useBy};
 use actions::Usage;
 use columns::Place;
 use gate::Counts;
+use paths::Reach;
 use reasons::Holders;
 use reasons::Told;
 use reasons::UseTold;
 use refusals::Outcome;
 use refusals::Refusal;
 use register::Actor;
+use register::Actors;
 use register::Register;
+use register::Resource;
+use register::Resources;
 use soundness::Findings;
+
+// The rights number of every right.
+const EVERY_RIGHT: u32 = rights::RIGHTS_LIMIT;
 
 // Whether the numbers of a use and the moment are in range.
 fn ask_fits(usage: Usage, moment: u64) -> bool
@@ -47,30 +60,115 @@ fn nobody(why: Refusal) -> Holders
     }
 }
 
-// Of the actors, by what is lent, those for whom the action of the one use has no violation.
-fn permitted<'a>(
-    counts: Counts,
-    found: Findings,
-    lens: &'a [usize],
-    ends: &'a [u64],
-    sheet: &'a [u32],
-    bytes: &'a [u8],
-    usage: Usage,
-    moment: u64,
-) -> Holders
-    ensures { λ y. ⌜ y ≡ holdersOf Outcome.Accepted (permittedBy (lentOf counts found (now (lens .entry)) (now (ends .entry)) (now (sheet .entry)) (now (bytes .entry))) usage moment (take (counts .actors) (found .actors .names))) ⌝ }
+// Whether the path of one resource contains that of another.
+fn is_within(outer: Resource, inner: Resource) -> bool
+    ensures { λ y. ⌜ y ≡ contained (pathOf outer) (pathOf inner) ⌝ }
 {
-    let top = lists::least(counts.actors, Register::ACTORS);
-    let mut ids = [0u32; Register::ACTORS];
-    let mut count: usize = 0;
-    let actors = found.actors;
+    let long = lists::least(outer.len as usize, Register::PATH);
+    let wide = lists::least(inner.len as usize, Register::PATH);
+    let p = outer.path;
+    let q = inner.path;
+    let s: &[u8] = &p;
+    let t: &[u8] = &q;
+    match paths::contains(&s[..long], &t[..wide]) {
+        Reach::Inside(_) => true,
+        Reach::Outside => false,
+    }
+}
+
+// Of each resource whether its path contains that of the one at a place: judged once, however many claims are to it. Of none where none stands there.
+fn containers(o: Resources, spot: usize) -> [bool; Register::RESOURCES]
+    ensures { λ y. ⌜ y ≡ containersOf o spot ⌝ }
+{
+    let mut marks = [false; Register::RESOURCES];
+    let top = lists::least(o.count, Register::RESOURCES);
+    if top <= spot {
+        return marks;
+    }
+    let inner = o.list[spot];
     let mut i: usize = 0;
     while i < top {
-        let x = actors.names[i];
-        let a = actions::one_use(x, usage, moment);
-        let judged = gate::judge_by(counts, found, lens, ends, sheet, bytes, a);
-        if judged.violations.count == 0 {
-            ids[count] = x;
+        let outer = o.list[i];
+        marks[i] = is_within(outer, inner);
+        i += 1;
+    }
+    marks
+}
+
+// Whether a place is marked; none is past the end.
+fn is_marked(marks: &[bool], at: usize) -> bool
+    ensures { λ y. ⌜ y ≡ getD (now (marks .entry)) at false ⌝ }
+{
+    if at < marks.len() { marks[at] } else { false }
+}
+
+// The holder of a claim that covers a use: its resource is marked, it has not ended, and it has the right. 0 of any other.
+fn coverer(holder: u32, end: u64, held: u32, marked: bool, right: u32, moment: u64) -> u32
+    ensures { λ y. ⌜ y ≡ covererOf holder end held marked right moment ⌝ }
+{
+    if !marked {
+        return 0;
+    }
+    if end <= moment {
+        return 0;
+    }
+    if rights::has(held, right) { holder } else { 0 }
+}
+
+// The holders of those of the first `n` claims that cover a use, each at the claim's place; 0 at any other.
+fn coverers<'a>(
+    sheet: &'a [u32],
+    ends: &'a [u64],
+    spots: &'a [u16],
+    marks: &'a [bool],
+    n: usize,
+    right: u32,
+    moment: u64,
+) -> [u32; Register::CLAIMS]
+    requires { ⌜ (length (now ends) ≡ claimLimit) × (length (now spots) ≡ claimLimit) ⌝ }
+    ensures { λ y. ⌜ y ≡ coverersOf (columnOf holderColumn (now (sheet .entry))) (columnOf rightsColumn (now (sheet .entry))) (now (ends .entry)) (now (spots .entry)) (now (marks .entry)) n right moment ⌝ }
+{
+    let holders = columns::column(sheet, columns::HOLDERS);
+    let rights = columns::column(sheet, columns::RIGHTS);
+    let top = lists::least(n, Register::CLAIMS);
+    let mut found = [0u32; Register::CLAIMS];
+    let mut i: usize = 0;
+    while i < top {
+        let holder = columns::number_at(holders, i);
+        let held = columns::number_at(rights, i);
+        let marked = is_marked(marks, spots[i] as usize);
+        found[i] = coverer(holder, ends[i], held, marked, right, moment);
+        i += 1;
+    }
+    found
+}
+
+// Whether an actor may make a use that is open to all or that these cover: it covers it and, where it is a machine, has an owner who does too.
+fn may(freely: bool, coverers: &[u32], n: usize, a: Actor) -> bool
+    ensures { λ y. ⌜ y ≡ mayBy freely (take n (now (coverers .entry))) a ⌝ }
+{
+    let covers = freely | columns::is_among(coverers, n, a.id);
+    if a.kind != Actor::MACHINE {
+        return covers;
+    }
+    if a.owner == 0 {
+        return false;
+    }
+    covers & (freely | columns::is_among(coverers, n, a.owner))
+}
+
+// Of the actors those who may.
+fn permitted(actors: Actors, freely: bool, coverers: &[u32], n: usize) -> Holders
+    ensures { λ y. ⌜ y ≡ holdersOf Outcome.Accepted (map (λ a. a .id) (filter (mayBy freely (take n (now (coverers .entry)))) (actorsOf actors))) ⌝ }
+{
+    let top = lists::least(actors.count, Register::ACTORS);
+    let mut ids = [0u32; Register::ACTORS];
+    let mut count: usize = 0;
+    let mut i: usize = 0;
+    while i < top {
+        let a = actors.list[i];
+        if may(freely, coverers, n, a) {
+            ids[count] = a.id;
             count += 1;
             i += 1;
         } else {
@@ -88,26 +186,29 @@ fn permitted<'a>(
 pub fn who(r: Register, usage: Usage, moment: u64) -> Holders
     ensures { λ y. ⌜ y ≡ whoHeld r usage moment ⌝ }
 {
-    let actors = r.actors;
-    let o = r.resources;
-    let k = r.claims;
     let mut sheet = [0u32; columns::SHEET];
-    let found = soundness::examine(&mut sheet, r.version, actors, o, k);
+    let found = soundness::examine(&mut sheet, r.version, r.actors, r.resources, r.claims);
     if !found.sound {
         return nobody(Refusal::Unsound);
     }
     if !ask_fits(usage, moment) {
         return nobody(Refusal::Range);
     }
-    let mut bytes = [0u8; coverage::BYTES];
-    let lens = coverage::lay(&mut bytes, o);
-    let counts = Counts {
-        actors: actors.count,
-        resources: o.count,
-        claims: k.count,
-    };
-    let ends = gate::claim_ends(&sheet, &found.ups, counts.claims);
-    permitted(counts, found, &lens, &ends, &sheet, &bytes, usage, moment)
+    let spot = coverage::spot(&found.resources.reports, r.resources.count, usage.resource);
+    let marks = containers(r.resources, spot);
+    let ends = gate::claim_ends(&sheet, &found.ups, r.claims.count);
+    let holders = coverers(
+        &sheet,
+        &ends,
+        &found.spots,
+        &marks,
+        r.claims.count,
+        usage.right,
+        moment,
+    );
+    let public = columns::number_at(&found.resources.publics, spot);
+    let freely = (usage.right == rights::READ) & (public == 1);
+    permitted(r.actors, freely, &holders, r.claims.count)
 }
 
 // What is asked for a reason: whose, for which right on the resource at which place, 64 for none, and when.
@@ -142,7 +243,7 @@ fn told<'a>(kind: u32, sheet: &'a [u32], ups: &'a [u16], from: usize) -> Told
     let mut at = from;
     let mut up = columns::place_above(ups, from);
     let mut count: u32 = 1;
-    while (up < at) & (count < 17) {
+    while (up < at) & ((count as usize) < Told::CHAIN) {
         let claim = columns::claim_at(sheet, up);
         chain[count as usize] = claim.id;
         keeper = claim.grantor;
@@ -219,11 +320,11 @@ fn lacking<'a>(
 {
     let holders = columns::column(sheet, columns::HOLDERS);
     let always = [register::MOMENT_END; Register::CLAIMS];
-    let whole = [131071u32; Register::CLAIMS];
+    let whole = [EVERY_RIGHT; Register::CLAIMS];
     let place = nearest(holders, &always, &whole, &found.spots, bytes, lens, n, ask);
     match place {
-        Place::At(j) => told(4, sheet, &found.ups, j),
-        Place::Nowhere => no_claim(5),
+        Place::At(j) => told(Told::LACKS, sheet, &found.ups, j),
+        Place::Nowhere => no_claim(Told::UNHELD),
     }
 }
 
@@ -244,7 +345,7 @@ fn missing<'a>(
     let place = nearest(holders, &always, rights, &found.spots, bytes, lens, n, ask);
     match place {
         Place::At(j) => {
-            let mut reason = told(3, sheet, &found.ups, j);
+            let mut reason = told(Told::NOT_LIVE, sheet, &found.ups, j);
             reason.ended = ended(sheet, &found.ups, j, ask.moment);
             reason
         }
@@ -268,11 +369,11 @@ fn reason<'a>(
     let rights = columns::column(sheet, columns::RIGHTS);
     let place = nearest(holders, ends, rights, &found.spots, bytes, lens, n, ask);
     match place {
-        Place::At(j) => told(1, sheet, &found.ups, j),
+        Place::At(j) => told(Told::RELIES, sheet, &found.ups, j),
         Place::Nowhere => {
             let public = columns::number_at(&found.resources.publics, ask.spot);
             if (ask.right == rights::READ) & (public == 1) {
-                return no_claim(2);
+                return no_claim(Told::PUBLIC);
             }
             missing(n, found, lens, sheet, bytes, ask)
         }
@@ -283,7 +384,7 @@ fn reason<'a>(
 fn unasked(why: Refusal) -> UseTold
     ensures { λ y. ⌜ y ≡ useToldOf (refusedFor why) ⌝ }
 {
-    let none = no_claim(0);
+    let none = no_claim(Told::UNASKED);
     UseTold {
         outcome: Outcome::Refused(why),
         actor: none,
@@ -311,7 +412,7 @@ fn both<'a>(
             outcome: Outcome::Accepted,
             actor,
             owner: 0,
-            owners: no_claim(0),
+            owners: no_claim(Told::UNASKED),
         };
     }
     let theirs = Ask {
@@ -350,20 +451,17 @@ fn machine_owner(found: Findings, n: usize, x: u32) -> u32
 pub fn why_use(r: Register, actor: u32, usage: Usage, moment: u64) -> UseTold
     ensures { λ y. ⌜ y ≡ useToldOf (whyUse r actor usage moment) ⌝ }
 {
-    let actors = r.actors;
-    let o = r.resources;
-    let k = r.claims;
     let mut sheet = [0u32; columns::SHEET];
-    let found = soundness::examine(&mut sheet, r.version, actors, o, k);
+    let found = soundness::examine(&mut sheet, r.version, r.actors, r.resources, r.claims);
     if !found.sound {
         return unasked(Refusal::Unsound);
     }
     let mut bytes = [0u8; coverage::BYTES];
-    let lens = coverage::lay(&mut bytes, o);
+    let lens = coverage::lay(&mut bytes, r.resources);
     let counts = Counts {
-        actors: actors.count,
-        resources: o.count,
-        claims: k.count,
+        actors: r.actors.count,
+        resources: r.resources.count,
+        claims: r.claims.count,
     };
     let ends = gate::claim_ends(&sheet, &found.ups, counts.claims);
     let action = actions::one_use(actor, usage, moment);

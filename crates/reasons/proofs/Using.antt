@@ -1,10 +1,10 @@
 -- The answer to why a use may be made tells of permission what the gate decides. Assumes nothing.
-use mathlib.Core.Path.{_≡_, refl, ap, sym, _∙_}
-use mathlib.Core.Bool.{Bool, true, false, _&&_, _||_, not, cond}
+use mathlib.Core.Path.{_≡_, refl, sym, _∙_}
+use mathlib.Core.Bool.{true, false, _&&_, _||_, not, cond}
 use Prim.Native.Nat.{ℕ}
 use borrow.Author.Tests.{eqb-true}
 use lib.Dec.{eqb}
-use Rattle.lists.specs.Tests.{cases, clash, and-left, and-both}
+use Rattle.lists.specs.Tests.{cases, clash, and-both}
 use Rattle.register.specs.Limits.{machineKind}
 use Rattle.register.specs.Register.{actorsOf}
 use Rattle.register.specs.declared.Actor.{Actor}

@@ -4,10 +4,10 @@ use mathlib.Core.Bool.{Bool, true, false, not, _&&_, _||_}
 use mathlib.Core.List.{List, [], _∷_, map}
 use Prim.Native.Nat.{ℕ, _≤_, _^_}
 use native.Mathlib.Omega.{arith}
-use borrow.Author.Tests.{eqb-true, eq-eqb, le-leb, not-true}
+use borrow.Author.Tests.{eqb-true, le-leb, not-true}
 use lib.Dec.{eqb, leb, ltb}
 use lib.ListN.{length, length-map, length-take}
-use Rattle.lists.specs.Tests.{cases, clash, and-left, and-right, and-both, or-other, iff-same}
+use Rattle.lists.specs.Tests.{cases, clash, and-left, and-right, and-both, or-other}
 use Rattle.lists.specs.Lists.{any, filter, dropping}
 use Rattle.lists.specs.Each.{any-map, ands-out, all-imp, all-none, every-all, each-all}
 use Rattle.lists.specs.Filters.{dropping-nil, dropping-hit, dropping-miss, dropping-length, filter-none}
@@ -22,10 +22,9 @@ use Rattle.refusals.specs.Refusals.{Test, outcomeOf, isAccepted}
 use Rattle.refusals.specs.Laws.{outcome-cases, outcome-pass, outcome-fail, accepted-out, accepted-in}
 use Rattle.refusals.specs.declared.Outcome.the-variants.{Accepted, Refused}
 use Rattle.refusals.specs.declared.Refusal.the-variants.{Unsound, Range}
-use Rattle.actions.specs.Actions.{oneUse, flagCount, useLimit, governLimit, actionFits, isPermitted}
+use Rattle.actions.specs.Actions.{oneUse, flagCount, useLimit, governLimit, actionFits}
 use Rattle.actions.specs.declared.Usage.{Usage}
-use Rattle.actions.specs.declared.Decision.{Decision}
-use Rattle.actions.specs.declared.Decision.the-variants.{Permitted, Refused as Denied, Stopped}
+use Rattle.actions.specs.declared.Decision.the-variants.{Permitted}
 use Rattle.gate_rules.specs.Gate.{covers, isOwnerless, ownerLacks, flagsSet, gated}
 use Rattle.gate_rules.specs.Authority.{Passed, IsIn}
 use Rattle.gate_rules.specs.Places.{any-place, place-any, none-place, all-place, each-place}
@@ -265,31 +264,6 @@ module _ (r : Register) (u : Usage) (moment : ℕ) where
       let found = any-place (listedActor x) (actorsOf (r .actors)) (sym (who-listed x (who-asked-in asked)) ∙ permitted-listed x h) in
       let same = only x (passed .soundly) a at named (found .0) (found .1) (and-right (mayUse r moment u (found .0)) (eqb x (found .0 .id)) (found .2)) in
       rw same at (and-left (mayUse r moment u (found .0)) (eqb x (found .0 .id)) (found .2))
-
-  -- where no test stops the call, no test of the gate stops the action of an actor of the register with the one use
-  module _ (soundly : sound r ≡ true) (fits : askFits u moment ≡ true) (a : Actor) (at : IsIn (actorsOf (r .actors)) a) where
-    asked-by : WhoAsked
-    asked-by = record {
-      soundly = soundly;
-      ranged = and-left (leb (u .resource) idLimit && isRight (u .right)) (ltb moment momentEnd) fits;
-      timely = and-right (leb (u .resource) idLimit && isRight (u .right)) (ltb moment momentEnd) fits;
-    }
-
-    pub one-passed : Passed r (oneUse (a .id) u moment)
-    one-passed = who-passing (a .id) soundly a at (eq-eqb (a .id) (a .id) refl) asked-by
-
-    -- and the actor may exactly where the action is permitted
-    pub may-permits : mayUse r moment u a ≡ isPermitted (gated r (oneUse (a .id) u moment) .decision)
-    may-permits =
-        let named = eq-eqb (a .id) (a .id) refl in
-        iff-same (mayUse r moment u a) (isPermitted (gated r (oneUse (a .id) u moment) .decision))
-        (λ h. ap isPermitted (may-permitted (a .id) soundly a at named asked-by (may-out a h)))
-        (λ h. permitted-may (a .id) (is-permitted (gated r (oneUse (a .id) u moment) .decision) h) a at named)
-      where
-        is-permitted : (d : Decision) → isPermitted d ≡ true → d ≡ Permitted
-        is-permitted Permitted h = refl
-        is-permitted Denied h = clash false h refl
-        is-permitted (Stopped why) h = clash false h refl
 
   abbrev rest : List Test
   rest = record { passed = askFits u moment; refusal = Range } ∷ []

@@ -24,6 +24,19 @@ pub struct Told {
 impl Told {
     // The claims of a chain in a sound register, at most: 16 hops and one.
     pub const CHAIN: usize = 17;
+
+    // The kinds of a reason, the first that holds; 0 was not asked.
+    pub const UNASKED: u32 = 0;
+
+    pub const RELIES: u32 = 1;
+
+    pub const PUBLIC: u32 = 2;
+
+    pub const NOT_LIVE: u32 = 3;
+
+    pub const LACKS: u32 = 4;
+
+    pub const UNHELD: u32 = 5;
 }
 
 // Why an actor may make a use or may not: its reason and, of a machine with an owner, his number and his reason. Refused: zeros.

@@ -1,6 +1,6 @@
 -- `fault_finding::claim_outcome` meets its contract: each part of the tests is decided by itself, and a later part counts where the earlier ones pass. What
 -- the sheet and the found columns are asked is what the tests ask of the claims before (Claims). Assumes nothing.
-use mathlib.Core.Path.{_≡_, sym, ap, _∙_}
+use mathlib.Core.Path.{sym, ap, _∙_}
 use lib.Dec.{eqb}
 use lib.ListN.{take}
 use borrow.Author.Needs.{needs}

@@ -1,8 +1,6 @@
 -- `fault_finding::why_unread` meets its contract: the test whether the reading goes on is the one of its state, and where it does the register that was read
 -- is told of. Assumes nothing.
-use mathlib.Core.Path.{_≡_, sym, ap, _∙_}
-use mathlib.Core.List.{List}
-use Prim.Native.Nat.{ℕ}
+use mathlib.Core.Path.{sym, _∙_}
 use borrow.Author.Needs.{needs}
 use borrow.Author.Tests.{not-true, not-false}
 use Rattle.register_reading.specs.Runs.{stands-failed, stands-going}

@@ -19,25 +19,25 @@ places e = search (needs, length-mapped)
 
 returns : tie.Need-returns
 returns c =
-    let r = c .before .before .before .before .before .before .before .before .args .r in
-    c .no-fault .ensures ∙ sound-faultless r (sym (judged-sound r (examined r (c .before .before .before .examine .ensures)) (places (c .before .before .before .before .before .before .before .before))) ∙ c .before .if1 .taken)
+    let r = c .before .before .before .before .before .args .r in
+    c .no-fault .ensures ∙ sound-faultless r (sym (judged-sound r (examined r (c .before .before .before .examine .ensures)) (places (c .before .before .before .before .before))) ∙ c .before .if1 .taken)
 
 returns-2 : tie.Need-returns-2
 returns-2 c =
-    let r = c .before .before .before .before .before .before .before .before .before .before .args .r in
+    let r = c .before .before .before .before .before .before .before .args .r in
     let limits = c .before .before .limits-fault .ensures in
     limits ∙ limits-told r (sym (ap (λ f. f .sound) limits) ∙ c .if2 .taken)
 
 returns-3 : tie.Need-returns-3
 returns-3 c =
-    let r = c .before .before .before .before .before .before .before .before .before .before .before .before .before .args .r in
+    let r = c .before .before .before .before .before .before .before .before .before .before .args .r in
     let actors = c .before .before .actors-fault .ensures in
     let passed = limits-passed r (λ e. c .before .before .before .if2 .left (ap (λ f. f .sound) (c .before .before .before .before .before .limits-fault .ensures) ∙ e)) in
     actors ∙ actors-told r passed (sym (ap (λ f. f .sound) actors) ∙ c .if3 .taken)
 
 returns-4 : tie.Need-returns-4
 returns-4 c =
-    let r = c .before .before .before .before .before .before .before .before .before .before .before .before .before .before .before .before .args .r in
+    let r = c .before .before .before .before .before .before .before .before .before .before .before .before .before .args .r in
     let resources = c .before .before .resources-fault .ensures in
     let passed = limits-passed r (λ e. c .before .before .before .before .before .before .if2 .left (ap (λ f. f .sound) (c .before .before .before .before .before .before .before .before .limits-fault .ensures) ∙ e)) in
     let whole = actors-none r passed (λ e. c .before .before .before .if3 .left (ap (λ f. f .sound) (c .before .before .before .before .before .actors-fault .ensures) ∙ e)) in
@@ -46,7 +46,7 @@ returns-4 c =
 -- where nothing was told before the claims, the halving may begin
 abbrev told-requires : tie.Need-claims-fault-requires
 told-requires c κs =
-    let entry = c .before .before .before .before .before .before .before .before .before .before .before .before .before .before .before .before .before in
+    let entry = c .before .before .before .before .before .before .before .before .before .before .before .before .before .before in
     let r = entry .args .r in
     let opened = examined r (c .before .before .before .before .before .before .before .before .before .before .before .before .examine .ensures) in
     let passed = limits-passed r (λ e. c .before .before .before .before .before .before .before .if2 .left (ap (λ f. f .sound) (c .before .before .before .before .before .before .before .before .before .limits-fault .ensures) ∙ e)) in
@@ -58,7 +58,7 @@ told-requires c κs =
 
 returns-5 : tie.Need-returns-5
 returns-5 c =
-    let entry = c .before .before .before .before .before .before .before .before .before .before .before .before .before .before .before .before .before .before in
+    let entry = c .before .before .before .before .before .before .before .before .before .before .before .before .before .before .before in
     let r = entry .args .r in
     let opened = examined r (c .before .before .before .before .before .before .before .before .before .before .before .before .before .examine .ensures) in
     c .claims-fault .ensures

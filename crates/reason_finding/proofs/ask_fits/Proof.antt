@@ -1,5 +1,5 @@
 -- `reason_finding::ask_fits` meets its contract: a number out of range is enough for no, and with the others in range the moment decides. Assumes nothing.
-use mathlib.Core.Path.{_≡_, sym}
+use mathlib.Core.Path.{sym}
 use native.Mathlib.Omega.{arith}
 use Rattle.reason_finding.proofs.Asking.{resource-out, right-out, moment-decides}
 use Rattle.reason_finding.proofs.ask_fits.Statement.{statement}

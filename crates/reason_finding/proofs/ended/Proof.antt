@@ -1,6 +1,6 @@
 -- `reason_finding::ended` meets its contract. The loop's invariant: the answer is that of the places left (Looking). The measure is the number of
 -- steps left. Assumes nothing.
-use mathlib.Core.Path.{_≡_, refl, sym, ap, _∙_}
+use mathlib.Core.Path.{sym, ap, _∙_}
 use mathlib.Core.Bool.{not}
 use Prim.Native.Nat.{_-_}
 use native.Mathlib.Omega.{arith}

@@ -1,5 +1,5 @@
 -- `reason_finding::machine_owner` meets its contract. Assumes nothing.
-use mathlib.Core.Path.{_≡_, sym, _∙_}
+use mathlib.Core.Path.{sym, _∙_}
 use borrow.Author.Needs.{needs}
 use Rattle.reason_finding.proofs.machine_owner.Statement.{statement}
 use Rattle.reason_finding.proofs.machine_owner.Tie as tie

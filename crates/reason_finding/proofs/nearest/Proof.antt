@@ -1,5 +1,5 @@
 -- `reason_finding::nearest` meets its contract: the first places, as many as are counted, are the gathered ones. Assumes nothing.
-use mathlib.Core.Path.{_≡_, ap, _∙_}
+use mathlib.Core.Path.{ap, _∙_}
 use borrow.Author.Needs.{needs}
 use lib.ListN.{take}
 use Rattle.coverage.specs.Coverage.{nearestCovering}

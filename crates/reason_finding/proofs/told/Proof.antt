@@ -1,12 +1,11 @@
 -- `reason_finding::told` meets its contract. The loop's invariant: the ids of the claims passed stand in the array, and the walk goes on from the place
 -- that it stands at (Climbing). The measure is that place, which goes down. Assumes nothing.
-use mathlib.Core.Path.{_≡_, refl}
 use Prim.Native.Nat.{_-_, _<_}
 use native.Mathlib.Omega.{arith}
 use borrow.Author.Needs.{needs}
 use borrow.Author.Tests.{ltb-true}
 use lib.Dec.{ltb}
-use Rattle.lists.specs.Tests.{and-left, and-right}
+use Rattle.lists.specs.Tests.{and-right}
 use Rattle.reasons.specs.Uses.{chainLimit}
 use Rattle.reason_finding.proofs.Climbing.{Climbing, climbing-start, climbing-next, climbing-done}
 use Rattle.reason_finding.proofs.told.Statement.{statement}
@@ -69,6 +68,7 @@ told-spec =
     (λ c. search needs)
     (λ c κs. search needs)
     loop-holds
+    (λ c. search needs)
     (λ c κs. search needs)
     cast-chain
     mul-chain

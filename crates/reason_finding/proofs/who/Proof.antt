@@ -8,11 +8,10 @@ use Rattle.lists.specs.Loops.{length-mapped}
 use Rattle.lists.specs.Lists.{All}
 use Rattle.register.specs.Limits.{actorLimit, resourceLimit, claimLimit, pathLimit}
 use Rattle.register.specs.Register.{Shaped}
-use Rattle.coverage.specs.LaidLaws.{laid-zeros}
 use Rattle.soundness.specs.Laws.{judged-sound}
-use Rattle.gate.specs.Laws.{lent-told}
 use Rattle.reasons.specs.HoldersLaws.{held-unsound, held-ranged}
-use Rattle.reason_finding.proofs.Permitting.{held-lent}
+use Rattle.reason_finding.proofs.Owned.{each-told}
+use Rattle.reason_finding.proofs.Permitting.{held-found}
 use Rattle.reason_finding.proofs.who.Statement.{statement}
 use Rattle.reason_finding.proofs.who.Tie as tie
 
@@ -26,13 +25,16 @@ resources-long s = search (needs, length-mapped)
 claims-long : (s : tie.Start) → length (s .args .r .claims .list) ≡ claimLimit
 claims-long s = search (needs, length-mapped)
 
-shaped : (s : tie.Start) → All (λ o. length (o .path) ≡ pathLimit) (s .args .r .resources .list) → Shaped (s .args .r)
-shaped s sized = record { actors = actors-long s; resources = resources-long s; claims = claims-long s; paths = sized }
+paths-told : (s : tie.Start) → All (λ o. length (o .path) ≡ pathLimit) (s .args .r .resources .list)
+paths-told s = each-told _ _ _ (λ o. length (o .path) ≡ pathLimit) (λ o u told. search (needs, told)) (s .args .r .resources .list) _ (s .good .0 .1 .1 .1 .0 .1 .1 .0 .1 .1)
+
+shaped : (s : tie.Start) → Shaped (s .args .r)
+shaped s = record { actors = actors-long s; resources = resources-long s; claims = claims-long s; paths = paths-told s }
 
 returns : tie.Need-returns
 returns c =
     let opened = c .before .before .before in
-    let s = opened .before .before .before .before .before in
+    let s = opened .before .before in
     let a = s .args in
     let found = opened .examine .ensures in
     let soundly = judged-sound (a .r) (record { put = found .0; told = found .1 }) (claims-long s) in
@@ -42,7 +44,7 @@ returns-2 : tie.Need-returns-2
 returns-2 c =
     let asked = c .before .before in
     let opened = asked .before .before .before in
-    let s = opened .before .before .before .before .before in
+    let s = opened .before .before in
     let a = s .args in
     let found = opened .examine .ensures in
     let soundly = judged-sound (a .r) (record { put = found .0; told = found .1 }) (claims-long s) in
@@ -52,18 +54,18 @@ returns-2 c =
 
 returns-3 : tie.Need-returns-3
 returns-3 c =
-    let ending = c .before .before .before .before .before in
-    let laying = ending .before .before .before .before .before .before in
-    let asked = laying .before .before .before in
+    let covering = c .before .before .before .before .before .before .before in
+    let ending = covering .before .before .before .before .before .before .before in
+    let marking = ending .before .before .before .before .before in
+    let asked = marking .before .before .before .before .before .before in
     let opened = asked .before .before .before in
-    let s = opened .before .before .before .before .before in
+    let s = opened .before .before in
     let a = s .args in
     let found = opened .examine .ensures in
     let soundly = judged-sound (a .r) (record { put = found .0; told = found .1 }) (claims-long s) in
-    let paths = laid-zeros (a .r .resources) (laying .lay .ensures .0) (laying .lay .ensures .1 .0) in
-    let same = lent-told (a .r) (claims-long s) (found .0) (found .1) (paths .1) (ending .claim-ends .ensures) (paths .0) in
-    held-lent (a .r) (shaped s (laying .lay .ensures .1 .1)) (a .usage) (a .moment) (sym soundly ∙ not-false (opened .examine .result .sound) (asked .before .if1 .left))
-    (sym (asked .ask-fits .ensures) ∙ not-false _ (laying .before .before .if2 .left)) same (c .permitted .ensures)
+    held-found (a .r) (shaped s) (a .usage) (a .moment) (sym soundly ∙ not-false (opened .examine .result .sound) (asked .before .if1 .left))
+    (sym (asked .ask-fits .ensures) ∙ not-false _ (marking .before .before .before .before .before .if2 .left)) (found .0) (found .1) (marking .before .spot .ensures) (marking .containers .ensures)
+    (ending .claim-ends .ensures) (covering .coverers .ensures) (c .before .before .before .number-at .ensures) (c .permitted .ensures)
 
 pub who-spec : {M : Type 1} → statement M
 who-spec =
@@ -76,13 +78,15 @@ who-spec =
     (λ c κs. search needs)
     (λ c κs. search needs)
     returns-2
-    (λ c. search needs)
+    (λ c κs. search needs)
     (λ c κs. search needs)
     (λ c. search needs)
     (λ c κs. search needs)
     (λ c. search needs)
     (λ c. search needs)
     (λ c. search needs)
+    (λ c κs. search needs)
+    (λ c κs. search needs)
     (λ c. search needs)
     (λ c κs. search needs)
     returns-3)

@@ -30,7 +30,7 @@ shaped s sized = record { actors = actors-long s; resources = resources-long s; 
 returns : tie.Need-returns
 returns c =
     let opened = c .before .before .before in
-    let s = opened .before .before .before .before .before in
+    let s = opened .before .before in
     let a = s .args in
     let found = opened .examine .ensures in
     let soundly = judged-sound (a .r) (record { put = found .0; told = found .1 }) (claims-long s) in
@@ -41,7 +41,7 @@ returns-2 c =
     let asked = c .before .before .before .before in
     let made = asked .before .before .before .before in
     let opened = c .before .before .before .before .before .before .before .before .before .before .before .before .before .before .before .before .before .before .before in
-    let s = opened .before .before .before .before .before in
+    let s = opened .before .before in
     let a = s .args in
     let found = opened .examine .ensures in
     let soundly = judged-sound (a .r) (record { put = found .0; told = found .1 }) (claims-long s) in
@@ -57,7 +57,7 @@ returns-3 c =
     let ending = made .before in
     let laying = ending .before .before .before .before .before .before in
     let opened = c .before .before .before .before .before .before .before .before .before .before .before .before .before .before .before .before .before .before .before .before .before .before .before .before .before .before in
-    let s = opened .before .before .before .before .before in
+    let s = opened .before .before in
     let a = s .args in
     let found = opened .examine .ensures in
     let soundly = judged-sound (a .r) (record { put = found .0; told = found .1 }) (claims-long s) in
