@@ -1,6 +1,6 @@
 /* Makes every call that takes or answers a register or its text, by value and by its twin, in a thread of 128 KB of stack, which is what musl
- * gives a thread by itself, on full inputs (full.h) of either version; the caller's structs stand in static memory. A call that needs more ends
- * the program by a signal. Prints a line to a failure and 'N passed, M failed'. */
+ * gives a thread by itself, and those that are lent the register in one of 64 KB, on full inputs (full.h) of either version; the caller's structs
+ * stand in static memory. A call that needs more ends the program by a signal. Prints a line to a failure and 'N passed, M failed'. */
 #define _GNU_SOURCE
 #include "full.h"
 
@@ -10,6 +10,7 @@
 #include <sys/mman.h>
 
 #define THREAD_STACK (128 * 1024)
+#define LENT_STACK (64 * 1024)
 #define BELOW (1024 * 1024)
 
 static unsigned passed, failed;
@@ -87,12 +88,13 @@ static void lend(void) {
     }
 }
 
-/* Below the 128 KB nothing can be written: what needs more is a fault. */
-static void in_small_thread(void *(*call)(void *)) {
+/* Of the thread's stack only the uppermost bytes can be written, so many: what needs more is a fault. */
+static void in_thread_of(size_t bytes, void *(*call)(void *)) {
     uint8_t *start = mmap(NULL, BELOW + THREAD_STACK, PROT_NONE, MAP_PRIVATE | MAP_ANONYMOUS, -1, 0);
     pthread_attr_t small;
     pthread_t thread;
-    if (start == MAP_FAILED || mprotect(start + BELOW, THREAD_STACK, PROT_READ | PROT_WRITE) != 0 || pthread_attr_init(&small) != 0 ||
+    if (start == MAP_FAILED || mprotect(start + BELOW + THREAD_STACK - bytes, bytes, PROT_READ | PROT_WRITE) != 0 ||
+        pthread_attr_init(&small) != 0 ||
         pthread_attr_setstack(&small, start + BELOW, THREAD_STACK) != 0 || pthread_create(&thread, &small, call, NULL) != 0 ||
         pthread_join(thread, NULL) != 0) {
         puts("failed: a thread");
@@ -101,14 +103,15 @@ static void in_small_thread(void *(*call)(void *)) {
     munmap(start, BELOW + THREAD_STACK);
 }
 
-/* Makes a call and its twin: the same answer, and this of it. */
-#define MAKE(name, held, what)                                                                                                            \
+/* Makes a call and its twin in a thread of so many bytes: the same answer, and this of it. */
+#define MAKE_IN(bytes, name, held, what)                                                                                                  \
     do {                                                                                                                                  \
-        in_small_thread(call_##name);                                                                                                     \
+        in_thread_of(bytes, call_##name);                                                                                                 \
         expect(held, what);                                                                                                               \
-        in_small_thread(twin_##name);                                                                                                     \
+        in_thread_of(bytes, twin_##name);                                                                                                 \
         expect(memcmp(&name, &name##_at, sizeof name) == 0, what ", by its twin");                                                        \
     } while (0)
+#define MAKE(name, held, what) MAKE_IN(THREAD_STACK, name, held, what)
 
 /* Every call on a register of this version. */
 static void call_all(uint64_t version) {
@@ -117,20 +120,20 @@ static void call_all(uint64_t version) {
     lend();
     MAKE(sound, sound.sound == 1, "the register is sound");
     MAKE(sound_table, sound_table.sound == 1, "its claims are sound as a table");
-    MAKE(sound_lent, sound_lent.sound == 1, "the register lent is sound");
+    MAKE_IN(LENT_STACK, sound_lent, sound_lent.sound == 1, "the register lent is sound");
     MAKE(grant, grant.accepted == 1 && grant.state.claims.count == GUVRENDIK_LIMIT_CLAIMS, "a grant of claim 256 is accepted");
     MAKE(revoke, revoke.accepted == 1 && revoke.removed == 1 && revoke.state.claims.count == CLAIMS - 1, "claim 1 goes alone");
     MAKE(clear_resource, clear_resource.accepted == 1 && clear_resource.removed == 4, "four claims are on resource 1");
     MAKE(clear_expired, clear_expired.accepted == 1 && clear_expired.removed == 0, "no claim has an expiry");
     MAKE(gate, gate.decision == GUVRENDIK_DECISION_PERMITTED && gate.count == 0, "the gate permits what roots cover");
-    MAKE(gate_lent, memcmp(&gate_lent, &gate, sizeof gate) == 0, "the gate answers the same of the register lent");
+    MAKE_IN(LENT_STACK, gate_lent, memcmp(&gate_lent, &gate, sizeof gate) == 0, "the gate answers the same of the register lent");
     MAKE(propose, propose.accepted == 1 && propose.proposal.kind == GUVRENDIK_PROPOSES_NONE, "what is permitted needs no grant");
     MAKE(check_proposal, check_proposal.answer == GUVRENDIK_CHECK_PASSES, "a grant of what is permitted passes");
     MAKE(judge_plan,
          judge_plan.accepted == 1 && judge_plan.count == GUVRENDIK_LIMIT_ACTIONS &&
              judge_plan.list[GUVRENDIK_LIMIT_ACTIONS - 1].decision == GUVRENDIK_DECISION_PERMITTED,
          "every action of the plan is permitted");
-    MAKE(judge_plan_lent, memcmp(&judge_plan_lent, &judge_plan, sizeof judge_plan) == 0, "and so of the plan, of the register lent");
+    MAKE_IN(LENT_STACK, judge_plan_lent, memcmp(&judge_plan_lent, &judge_plan, sizeof judge_plan) == 0, "and so of the plan, of the register lent");
     MAKE(plain_gate, memcmp(&plain_gate, &gate, sizeof gate) == 0, "the plain gate answers the same");
     MAKE(plain_plan, memcmp(&plain_plan, &judge_plan, sizeof judge_plan) == 0, "and so of the plan");
     MAKE(cover_table, cover_table.accepted == 1 && cover_table.states[CLAIMS - 1] == GUVRENDIK_REMARK_LIVES, "every claim is remarked on");

@@ -270,10 +270,10 @@ static void do_sound(void) {
     struct {
         guvrendik_soundness sound;
         uint8_t fault[sizeof(guvrendik_fault)];
+        guvrendik_soundness lent;
     } got = {.sound = guvrendik_sound(current)};
-    guvrendik_soundness lent;
     guvrendik_fault fault = guvrendik_why_unsound(current);
-    uint32_t marks = lent_mark(sound_lent, &lent, &got.sound, sizeof lent);
+    uint32_t marks = lent_mark(sound_lent, &got.lent, &got.sound, sizeof got.lent);
     memcpy(got.fault, &fault, sizeof fault);
     answer_marked(marks | errno_mark(), &got, sizeof got);
 }
@@ -347,24 +347,23 @@ static void do_gate(payload *p) {
     guvrendik_action action;
     take(p, &action, sizeof action);
     struct {
-        guvrendik_verdict verdicts[2];
+        guvrendik_verdict verdicts[3];
         guvrendik_table table;
         uint32_t behind;
     } got = {{guvrendik_gate(current, action), guvrendik_plain_gate(current, action)}, guvrendik_cover_table(current, action.actor, action.now), 0};
-    guvrendik_verdict lent;
     uint32_t marks = memcmp(&got.verdicts[0], &got.verdicts[1], sizeof *got.verdicts) == 0 ? 0 : PLAIN_DIFFERS;
     lent_action = action;
-    marks |= lent_mark(gate_lent, &lent, &got.verdicts[0], sizeof lent);
+    marks |= lent_mark(gate_lent, &got.verdicts[2], &got.verdicts[0], sizeof *got.verdicts);
     answer_marked(marks | errno_mark(), &got, sizeof got.verdicts + sizeof got.table);
 }
 
 static void do_plan(payload *p) {
     guvrendik_plan plan;
     take(p, &plan, sizeof plan);
-    guvrendik_plan_verdict got[2] = {guvrendik_judge_plan(current, plan), guvrendik_plain_plan(current, plan)}, lent;
+    guvrendik_plan_verdict got[3] = {guvrendik_judge_plan(current, plan), guvrendik_plain_plan(current, plan)};
     uint32_t marks = memcmp(&got[0], &got[1], sizeof *got) == 0 ? 0 : PLAIN_DIFFERS;
     lent_plan = plan;
-    marks |= lent_mark(plan_lent, &lent, &got[0], sizeof *got);
+    marks |= lent_mark(plan_lent, &got[2], &got[0], sizeof *got);
     answer_marked(marks | errno_mark(), got, sizeof got);
 }
 

@@ -1,26 +1,16 @@
 -- The rules of a claim by itself, as the code asks them: each from what the tests found. Assumes nothing.
-use mathlib.Core.Path.{_≡_, sym, _∙_}
-use mathlib.Core.Bool.{Bool, true, not, _&&_, _||_, and-true, and-assoc}
-use mathlib.Core.List.{List, [], _∷_}
+use mathlib.Core.Path.{_≡_}
+use mathlib.Core.Bool.{Bool, true, not, _&&_, _||_}
+use mathlib.Core.List.{[], _∷_}
 use Prim.Native.Nat.{ℕ}
 use lib.Dec.{eqb, leb, ltb}
 use borrow.Author.Tests.{eq-eqb, ne-eqb}
-use Rattle.lists.specs.Lists.{ands}
+use Rattle.lists.specs.Each.{joined-ands}
 use Rattle.rights.specs.Rights.{isRights, barsMachine}
 use Rattle.register.specs.Limits.{claimLimit, idLimit, weightLimit, leftLimit, tellsLeft, momentEnd, machineKind, isId}
 use Rattle.register.specs.declared.Claim.{Claim}
 use Rattle.soundness_rules.specs.Sound.{World, claimFits, namesStand, rootKept}
-use Rattle.claim_judging.specs.Alone.{Found, aloneAt}
-
--- some tests joined from the left
-abbrev joined : Bool → List Bool → Bool
-joined a [] = a
-joined a (b ∷ l) = joined (a && b) l
-
--- they are all of the tests
-joined-ands : (a : Bool) (l : List Bool) → joined a l ≡ ands (a ∷ l)
-joined-ands a [] = sym (and-true a)
-joined-ands a (b ∷ l) = joined-ands (a && b) l ∙ and-assoc a b (ands l)
+use Rattle.claim_judging.specs.Alone.{Found, namedAt}
 
 module _ (version : ℕ) (c : Claim) where
   pub claim-asked : {own grantor holder resource rights : Bool}
@@ -68,25 +58,20 @@ module _ (w : World) (c : Claim) where
   root-asked h q = rw (eq-eqb (c .parent) 0 h) q
 
 -- a claim by what was looked up of it
-module _ (version : ℕ) (c : Claim) (f : Found) where
-  pub alone-asked : {fit barred : Bool}
-      → fit ≡ claimFits version c
-      → barred ≡ barsMachine (c .rights)
-      → fit
-      && ltb (f .grantor) claimLimit
-      && ltb (f .holder) claimLimit
-      && ltb (f .report) claimLimit
-      && (not (eqb (c .parent) 0) || eqb (c .grantor) (f .keeper))
-      && (not (eqb machineKind (f .kind)) || (not (eqb 0 (f .owner)) && not barred))
-      ≡ aloneAt version c f
-  unfolding aloneAt
-  alone-asked t b =
-      rw (t, b)
-      (joined-ands
-      (claimFits version c)
-      (ltb (f .grantor) claimLimit
-      ∷ ltb (f .holder) claimLimit
-      ∷ ltb (f .report) claimLimit
-      ∷ (not (eqb (c .parent) 0) || eqb (c .grantor) (f .keeper))
-      ∷ (not (eqb machineKind (f .kind)) || (not (eqb 0 (f .owner)) && not (barsMachine (c .rights))))
-      ∷ []))
+pub named-asked : (c : Claim) (f : Found) {barred : Bool} → barred ≡ barsMachine (c .rights)
+    → ltb (f .grantor) claimLimit
+    && ltb (f .holder) claimLimit
+    && ltb (f .report) claimLimit
+    && (not (eqb (c .parent) 0) || eqb (c .grantor) (f .keeper))
+    && (not (eqb machineKind (f .kind)) || (not (eqb 0 (f .owner)) && not barred))
+    ≡ namedAt c f
+unfolding namedAt
+named-asked c f b =
+    rw b
+    (joined-ands
+    (ltb (f .grantor) claimLimit)
+    (ltb (f .holder) claimLimit
+    ∷ ltb (f .report) claimLimit
+    ∷ (not (eqb (c .parent) 0) || eqb (c .grantor) (f .keeper))
+    ∷ (not (eqb machineKind (f .kind)) || (not (eqb 0 (f .owner)) && not (barsMachine (c .rights))))
+    ∷ []))

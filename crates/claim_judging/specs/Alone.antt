@@ -50,13 +50,16 @@ foundIn actors n resources m c = record {
   keeper = getD (map keeperOf resources) (placeIn (map resourceId resources) m (c .resource)) 0;
 }
 
--- what a claim is asked by itself, by what was looked up of it: a place that is not below the claims' limit is none
-unfoldable pub aloneAt : ℕ → Claim → Found → Bool
-aloneAt version c f = ands (
-    claimFits version c
-    ∷ ltb (f .grantor) claimLimit
+-- what a claim whose numbers are in range is asked by itself, by what was looked up of it: a place that is not below the claims' limit is none
+unfoldable pub namedAt : Claim → Found → Bool
+namedAt c f = ands (
+    ltb (f .grantor) claimLimit
     ∷ ltb (f .holder) claimLimit
     ∷ ltb (f .report) claimLimit
     ∷ (not (eqb (c .parent) 0) || eqb (c .grantor) (f .keeper))
     ∷ (not (eqb machineKind (f .kind)) || (not (eqb 0 (f .owner)) && not (barsMachine (c .rights))))
     ∷ [])
+
+-- what a claim is asked by itself, by what was looked up of it
+abbrev pub aloneAt : ℕ → Claim → Found → Bool
+aloneAt version c f = claimFits version c && namedAt c f

@@ -24,7 +24,7 @@ use Rattle.columns.specs.declared.ResourceColumns.{ResourceColumns}
 use Rattle.lookup.specs.Finding.{placeNumber}
 use Rattle.lookup.specs.Asked.{askedAt, asked-natural}
 use Rattle.soundness_rules.specs.Sound.{worldOf, isMachine, claimFits, namesStand, rootKept, machineMay, alone}
-use Rattle.claim_judging.specs.Alone.{worldBy, placeIn, foundIn, aloneAt}
+use Rattle.claim_judging.specs.Alone.{worldBy, placeIn, foundIn, namedAt, aloneAt}
 
 -- what is looked up by the number x among the first n of a list
 module _ {A : Type 0} (id : A → ℕ) (l : List A) (n x : ℕ) (short : n ≤ claimLimit) where
@@ -65,7 +65,7 @@ pub alone-natural : (version : ℕ) (actors : List Actor) (n : ℕ) (resources :
     → n ≤ claimLimit → distinct (map actorId (take n actors)) ≡ true
     → m ≤ claimLimit → distinct (map resourceId (take m resources)) ≡ true
     → aloneAt version c (foundIn actors n resources m c) ≡ alone (worldOf version (take n actors) (take m resources)) c
-unfolding aloneAt alone namesStand rootKept machineMay
+unfolding namedAt alone namesStand rootKept machineMay
 alone-natural version actors n resources m c few apart short distant =
     let f = foundIn actors n resources m c in
     let w = worldOf version (take n actors) (take m resources) in

@@ -3,7 +3,7 @@
 ghost use mathlib.Core.Path.{_≡_};
 ghost use mathlib.Core.List.{[]};
 ghost use Rattle.soundness_rules.specs.Sound.{claimFits, namesStand, rootKept};
-ghost use Rattle.claim_judging.specs.Alone.{worldBy, aloneAt};
+ghost use Rattle.claim_judging.specs.Alone.{worldBy, namedAt};
 use register::Actor;
 use register::Claim;
 use register::Register;
@@ -42,11 +42,11 @@ pub fn root_kept<'a>(reports: &'a [u32], keepers: &'a [u32], m: usize, c: Claim)
     columns::is_beside(reports, keepers, m, c.resource, c.grantor)
 }
 
-// Whether a claim is as it should be by itself, by what was looked up of it: the places of its grantor and its holder among the actors
-// and of its resource among the resources, the limit of the claims for nowhere; the grantor's kind and owner, and the resource's keeper.
+// Whether a claim whose numbers are in range is as it should be by itself, by what was looked up of it: the places of its grantor and its
+// holder among the actors and of its resource among the resources, the limit of the claims for nowhere; the grantor's kind and owner, and the
+// resource's keeper.
 // (c): a machine grantor has an owner, and none of the claim's rights is kept from machines.
-pub fn stands_alone(
-    version: u64,
+pub fn stands_named(
     c: Claim,
     grantor: usize,
     holder: usize,
@@ -55,10 +55,9 @@ pub fn stands_alone(
     owner: u32,
     keeper: u32,
 ) -> bool
-    ensures { λ r. ⌜ r ≡ aloneAt version c (record { grantor = grantor; holder = holder; report = report; kind = kind; owner = owner; keeper = keeper }) ⌝ }
+    ensures { λ r. ⌜ r ≡ namedAt c (record { grantor = grantor; holder = holder; report = report; kind = kind; owner = owner; keeper = keeper }) ⌝ }
 {
-    claim_fits(version, c)
-        & (grantor < Register::CLAIMS)
+    (grantor < Register::CLAIMS)
         & (holder < Register::CLAIMS)
         & (report < Register::CLAIMS)
         & ((c.parent != 0) | (c.grantor == keeper))

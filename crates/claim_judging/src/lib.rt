@@ -10,7 +10,7 @@ mod over;
 pub use alone::claim_fits;
 pub use alone::names_stand;
 pub use alone::root_kept;
-pub use alone::stands_alone;
+pub use alone::stands_named;
 pub use hands::stored;
 pub use over::circles_up;
 pub use over::fewer_left;

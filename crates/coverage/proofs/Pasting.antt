@@ -1,14 +1,14 @@
 -- A loop that lays paths of 64 bytes one after the other over a buffer, and their lengths beside them. Assumes nothing.
 use mathlib.Core.Path.{_≡_, refl, sym, ap, _∙_}
 use mathlib.Core.Bool.{cond}
-use mathlib.Core.List.{List, [], _∷_, _++_, map, map-append, append-assoc, append-nil}
+use mathlib.Core.List.{List, [], _∷_, _++_, map, map-append}
 use Prim.Native.Nat.{ℕ, _+_, _*_, _-_, _≤_, _<_, min}
 use native.Mathlib.Numerals.{add-one}
 use native.Mathlib.Omega.{arith}
 use borrow.Author.Tests.{eqb-true, eqb-false, ne-eqb}
 use lib.Dec.{eqb}
 use lib.ListN.{length, take, drop, getD, set, replicate, length-map, length-append, length-take, length-drop}
-use lib.Seq.{paste, take-suc, take-take, take-all, take-at, drop-append-add, drop-drop}
+use lib.Seq.{paste, take-suc, take-take, take-all}
 use Rattle.lists.specs.Tests.{cases}
 use Rattle.lists.specs.Lists.{All}
 use Rattle.lists.specs.Each.{all-map, all-take}
@@ -18,16 +18,7 @@ use Rattle.register.specs.Register.{resourcesOf}
 use Rattle.register.specs.declared.Resource.{Resource}
 use Rattle.register.specs.declared.Resources.{Resources}
 use Rattle.coverage.specs.Laid.{bytesLimit, flat, laidOver, laidIn, lensOf}
-use Rattle.coverage.specs.LaidLaws.{Sized, flat-length, laid-room}
-
-flat-append : (ps qs : List (List ℕ)) → flat (ps ++ qs) ≡ flat ps ++ flat qs
-unfolding flat
-flat-append [] qs = refl
-flat-append (p ∷ ps) qs = rw (flat-append ps qs, append-assoc)
-
-flat-one : (p : List ℕ) → flat (p ∷ []) ≡ p
-unfolding flat
-flat-one p = append-nil p
+use Rattle.coverage.specs.LaidLaws.{Sized, flat-length, laid-room, paste-laid}
 
 -- over a buffer of another length nothing is laid
 laid-other : (old : List ℕ) (ps : List (List ℕ)) → (length old ≡ bytesLimit → ⊥) → laidOver old ps ≡ old
@@ -48,19 +39,7 @@ laid-length old ps h few =
     ∙ omega (arith, length-append (flat ps) (drop (length ps * pathLimit) old), flat-length ps h, length-drop (length ps * pathLimit) old))
     (λ e. ap length (laid-other old ps (eqb-false (length old) bytesLimit e)))
 
--- one path more, pasted behind the others
-paste-laid : (rest : List ℕ) (ps : List (List ℕ)) → Sized ps → (p : List ℕ) → length p ≡ pathLimit → (n : ℕ) → n ≡ length ps
-    → paste (flat ps ++ drop (n * pathLimit) rest) (n * pathLimit) p pathLimit ≡ flat (ps ++ (p ∷ [])) ++ drop ((n + 1) * pathLimit) rest
-paste-laid rest ps h p sized n number =
-    let long : length (flat ps) ≡ n * pathLimit = omega (arith, flat-length ps h) in
-    let next : n * pathLimit + pathLimit ≡ (n + 1) * pathLimit = omega arith in
-    let tail = drop (n * pathLimit) rest in
-    let behind : drop (n * pathLimit + pathLimit) (flat ps ++ tail) ≡ drop ((n + 1) * pathLimit) rest =
-    ap (λ m. drop (m + pathLimit) (flat ps ++ tail)) (sym long) ∙ drop-append-add (flat ps) tail pathLimit
-    ∙ drop-drop pathLimit (n * pathLimit) rest ∙ ap (λ m. drop m rest) next in
-    rw (take-at (flat ps) tail (n * pathLimit) long, take-all pathLimit p (omega arith), behind, flat-append, flat-one)
-
--- the same over a buffer of any length
+-- one path more, pasted behind the others over a buffer of any length
 paste-over : (old : List ℕ) (ps : List (List ℕ)) → Sized ps → (p : List ℕ) → length p ≡ pathLimit → (n : ℕ) → n ≡ length ps
     → (bytes : List ℕ) → bytes ≡ laidOver old ps → length bytes ≡ length old
     → cond (eqb (length bytes) bytesLimit) (paste bytes (n * pathLimit) p pathLimit) bytes ≡ laidOver old (ps ++ (p ∷ []))

@@ -1,12 +1,12 @@
 -- Laws: What the laid paths of resources say of the resources: the part at a place is the path of the resource there. Assumes nothing.
-use mathlib.Core.Path.{_≡_, refl, ap, _∙_}
-use mathlib.Core.List.{List, [], _∷_, _++_, map, append-assoc}
+use mathlib.Core.Path.{_≡_, refl, sym, ap, _∙_}
+use mathlib.Core.List.{List, [], _∷_, _++_, map, append-assoc, append-nil}
 use Prim.Native.Nat.{ℕ, zero, suc, _+_, _*_, _-_, _/_, _≤_, _<_}
 use native.Mathlib.Omega.{arith}
 use borrow.Author.Tests.{lt-ltb, le-ltb, ltb-true, ltb-false, eq-eqb}
 use lib.Dec.{ltb}
 use lib.ListN.{length, take, drop, getD, replicate, length-append, length-take, length-map, length-replicate, getD-replicate, List·getD-map, List·getD-append, List·getD-eq-default}
-use lib.Seq.{take-at, drop-append-add, getD-append-add}
+use lib.Seq.{paste, take-all, take-at, drop-append-add, drop-drop, getD-append-add}
 use Rattle.lists.specs.Tests.{cases}
 use Rattle.lists.specs.Each.{all-map, all-take}
 use Rattle.lists.specs.Lists.{All}
@@ -123,3 +123,24 @@ pub laid-zeros : (k : Resources) {bytes lens : List ℕ} → bytes ≡ laidIn (r
     → (bytes ≡ laid k .bytes) × (lens ≡ laid k .lens)
 unfolding laid
 laid-zeros k of-bytes of-lens = (of-bytes, of-lens)
+
+flat-append : (ps qs : List (List ℕ)) → flat (ps ++ qs) ≡ flat ps ++ flat qs
+unfolding flat
+flat-append [] qs = refl
+flat-append (p ∷ ps) qs = rw (flat-append ps qs, append-assoc)
+
+flat-one : (p : List ℕ) → flat (p ∷ []) ≡ p
+unfolding flat
+flat-one p = append-nil p
+
+-- one path more, pasted behind the others
+pub paste-laid : (rest : List ℕ) (ps : List (List ℕ)) → Sized ps → (p : List ℕ) → length p ≡ pathLimit → (n : ℕ) → n ≡ length ps
+    → paste (flat ps ++ drop (n * pathLimit) rest) (n * pathLimit) p pathLimit ≡ flat (ps ++ (p ∷ [])) ++ drop ((n + 1) * pathLimit) rest
+paste-laid rest ps h p sized n number =
+    let long : length (flat ps) ≡ n * pathLimit = omega (arith, flat-length ps h) in
+    let next : n * pathLimit + pathLimit ≡ (n + 1) * pathLimit = omega arith in
+    let tail = drop (n * pathLimit) rest in
+    let behind : drop (n * pathLimit + pathLimit) (flat ps ++ tail) ≡ drop ((n + 1) * pathLimit) rest =
+    ap (λ m. drop (m + pathLimit) (flat ps ++ tail)) (sym long) ∙ drop-append-add (flat ps) tail pathLimit
+    ∙ drop-drop pathLimit (n * pathLimit) rest ∙ ap (λ m. drop m rest) next in
+    rw (take-at (flat ps) tail (n * pathLimit) long, take-all pathLimit p (omega arith), behind, flat-append, flat-one)

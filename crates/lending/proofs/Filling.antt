@@ -1,25 +1,17 @@
--- What stands of a list, put into an array of zeros from the front, and a path. Assumes nothing.
-use mathlib.Core.Path.{_≡_, sym, ap, _∙_}
-use mathlib.Core.List.{List, [], _++_, map, append-nil}
-use Prim.Native.Nat.{ℕ, _+_, _*_, _-_, _≤_, _<_, min}
+-- Columns filled from the front with what is read of the records that stand, and a path. Assumes nothing.
+use mathlib.Core.Path.{_≡_, refl, sym, ap, _∙_}
+use mathlib.Core.List.{List, _∷_, _++_, map, map-map, map-append, append-nil}
+use Prim.Native.Nat.{ℕ, zero, suc, _+_, _*_, _-_, _≤_, _<_, min}
 use native.Mathlib.Omega.{arith}
-use borrow.Author.Tests.{leb-true, leb-false}
-use lib.Dec.{leb}
-use lib.ListN.{length, take, drop, getD, replicate, length-drop}
-use lib.Seq.{take-all}
-use Rattle.lists.specs.Tests.{cases}
+use lib.ListN.{length, take, drop, getD, replicate, length-take, length-drop}
+use lib.Seq.{take-take, take-all}
 use Rattle.lists.specs.Lists.{counted}
-use Rattle.lists.specs.Counts.{counted-at}
-use Rattle.lists.specs.Fills.{Filling, filledBy, filling-end}
+use Rattle.lists.specs.Counts.{counted-at, counted-first}
+use Rattle.lists.specs.Fills.{Filling, filling-end}
 use Rattle.register.specs.Limits.{pathLimit}
-use Rattle.register.specs.Register.{noActor, noResource}
-use Rattle.register.specs.declared.Actor.{Actor}
-use Rattle.register.specs.declared.Actors.{Actors}
-use Rattle.register.specs.declared.Resource.{Resource}
-use Rattle.register.specs.declared.Resources.{Resources}
-use Rattle.register_bytes.specs.Bytes.{recordsIn}
+use Rattle.register_bytes.specs.Bytes.{numberSize, numberIn, fieldIn, recordsIn}
 use Rattle.register_bytes.specs.Laws.{record-at}
-use Rattle.columns.specs.Columns.{upTo, actorsTo, resourcesTo}
+use Rattle.columns.specs.Columns.{upTo}
 
 -- the places of a path are filled with its bytes
 pub path-filled : (bytes : List ℕ) (at : ℕ) → at + pathLimit ≤ length bytes → {i : ℕ} {path : List ℕ}
@@ -29,35 +21,43 @@ path-filled bytes at room s past =
     ∙ append-nil (map (λ k. getD (drop at bytes) k 0) (counted 0 pathLimit))
     ∙ counted-at 0 (drop at bytes) pathLimit 0 (omega (arith, room, length-drop at bytes))
 
--- an array of a list's places is filled with what stands of the list
-module _ {A : Type 0} (none : A) (l : List A) (limit count : ℕ) (long : length l ≡ limit) where
-  pub stands-filled : {top i : ℕ} {got : List A} → top ≡ min count limit → Filling limit (λ k. getD l k none) top none i got → top ≤ i → got ≡ upTo none count l
+map-replicate : {A B : Type 0} (f : A → B) (n : ℕ) (x : A) → map f (replicate n x) ≡ replicate n (f x)
+map-replicate f zero x = refl
+map-replicate f (suc n) x = ap (λ m. f x ∷ m) (map-replicate f n x)
+
+-- as many of a list as are looked at are those that stand
+module _ {A : Type 0} (l : List A) (limit count : ℕ) (long : length l ≡ limit) {top : ℕ} (bound : top ≡ min count limit) where
+  pub standing-length : top ≡ length (take count l)
+  standing-length = omega (arith, bound, long, length-take count l)
+
+  pub standing-first : take top l ≡ take count l
+  standing-first = sym (take-take top count l (omega (arith, bound))) ∙ take-all top (take count l) (omega (arith, standing-length))
+
+-- an array of a list's places is filled with f of what stands of the list
+module _ {A B : Type 0} (f : A → B) (none : A) (l : List A) (limit count : ℕ) (long : length l ≡ limit) {top : ℕ} (bound : top ≡ min count limit) where
+  -- f of what is read at the places that are filled is f of what stands
+  standing-read : map (λ k. f (getD l k none)) (counted 0 top) ≡ map f (take count l)
+  standing-read =
+      sym (map-map f (λ k. getD l k none) (counted 0 top))
+      ∙ ap (λ n. map f (map (λ k. getD l k none) (counted 0 n))) (standing-length l limit count long bound)
+      ∙ ap (map f) (counted-first none l count)
+
+  pub standing-filled : {b : B} {i : ℕ} {column : List B} → Filling limit (λ k. f (getD l k none)) top b i column → top ≤ i
+      → column ≡ map f (take count l) ++ replicate (limit - top) b
+  standing-filled {b} s past = filling-end s past ∙ ap (λ m. m ++ replicate (limit - top) b) standing-read
+
+  pub column-filled : {i : ℕ} {column : List B} → Filling limit (λ k. f (getD l k none)) top (f none) i column → top ≤ i → column ≡ map f (upTo none count l)
   unfolding upTo
-  stands-filled {top} {i} {got} bound s past =
-      filling-end s past
-      ∙ ap (λ m. m ++ replicate (limit - top) none) (counted-at none l top 0 (omega (arith, bound, long)))
-      ∙ cases (leb count limit)
-      (λ e. let same : top ≡ count = omega (arith, bound, leb-true count limit e) in rw (same, long))
-      (λ e. let over = leb-false count limit e in
-      let same : top ≡ limit = omega (arith, bound, over) in
-      let none-left : limit - limit ≡ 0 = omega arith in
-      let none-over : limit - count ≡ 0 = omega (arith, over) in
-      rw (same, long, none-left, none-over, take-all limit l (omega (arith, long)), take-all count l (omega (arith, long, over))))
+  column-filled s past =
+      let behind : limit - top ≡ length l - count = omega (arith, bound, long) in
+      standing-filled s past
+      ∙ ap (λ n. map f (take count l) ++ replicate n (f none)) behind
+      ∙ ap (λ m. map f (take count l) ++ m) (sym (map-replicate f (length l - count) none))
+      ∙ sym (map-append f (take count l) (replicate (length l - count) none))
 
--- the record at a place of those that stand from the beginning on
-pub first-record : {A : Type 0} (read : ℕ → A) (size n i : ℕ) (d : A) → i < n → read (i * size) ≡ getD (recordsIn read size 0 n) i d
-first-record read size n i d inside = let same : 0 + i * size ≡ i * size = omega arith in ap read (sym same) ∙ sym (record-at read size n 0 i d inside)
-
--- actors, resources whose list and count are known
-pub actors-told : (k : Actors) (list : List Actor) {count n : ℕ} → k .list ≡ upTo noActor count list → k .count ≡ count → count ≡ n → k ≡ actorsTo (record { list = list; count = n })
-actors-told k list {count} e f g =
-    ap (λ m. record { list = m; count = k .count }) e
-    ∙ ap (λ m. record { list = upTo noActor count list; count = m }) f
-    ∙ ap (λ m. actorsTo (record { list = list; count = m })) g
-
-pub resources-told : (k : Resources) (list : List Resource) {count n : ℕ} → k .list ≡ upTo noResource count list → k .count ≡ count → count ≡ n
-    → k ≡ resourcesTo (record { list = list; count = n })
-resources-told k list {count} e f g =
-    ap (λ m. record { list = m; count = k .count }) e
-    ∙ ap (λ m. record { list = upTo noResource count list; count = m }) f
-    ∙ ap (λ m. resourcesTo (record { list = list; count = m })) g
+-- a number of the record at a place of those that stand one behind the other
+module _ {A : Type 0} (bytes : List ℕ) (read : ℕ → A) (size first n : ℕ) (d : A) {i : ℕ} (inside : i < n) where
+  pub field-read : (f : A → ℕ) (k : ℕ) → f (read (first + i * size)) ≡ fieldIn bytes (first + i * size) k → {at x : ℕ} → x ≡ numberIn numberSize at bytes
+      → at ≡ first + i * size + k * numberSize → x ≡ f (getD (recordsIn read size first n) i d)
+  field-read f k is e there =
+      e ∙ ap (λ m. numberIn numberSize m bytes) there ∙ sym is ∙ ap f (sym (record-at read size n first i d inside))

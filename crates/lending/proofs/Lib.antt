@@ -1,4 +1,5 @@
 pub mod Filling
+pub mod Laying
 pub mod Putting
-pub mod Sameness
+pub mod Opening
 pub mod Answering

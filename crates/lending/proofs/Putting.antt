@@ -3,16 +3,13 @@ use mathlib.Core.Path.{_≡_, sym, ap, _∙_}
 use mathlib.Core.List.{List}
 use Prim.Native.Nat.{ℕ, _+_, _≤_, _<_, min}
 use native.Mathlib.Omega.{arith}
-use borrow.Author.Tests.{leb-true, leb-false}
-use lib.Dec.{leb}
 use lib.ListN.{length, take, getD}
-use lib.Seq.{take-all}
-use Rattle.lists.specs.Tests.{cases}
 use Rattle.register.specs.Limits.{claimLimit}
 use Rattle.register.specs.Register.{noClaim}
 use Rattle.register.specs.declared.Claim.{Claim}
 use Rattle.columns.specs.Sheet.{sheetLimit, claimPut, claimsPut, takenApart, sheetWith}
 use Rattle.columns.specs.SheetLaws.{claims-put-nil, claims-put-first, claim-put-length, taken-apart-put, sheet-with-put}
+use Rattle.lending.proofs.Filling.{standing-first}
 
 -- the first i of the claims cs are in the sheet s, which was s₀
 pub record Put (s₀ : List ℕ) (cs : List Claim) (top i : ℕ) (s : List ℕ) : Type 0 where
@@ -41,11 +38,7 @@ module _ (s₀ : List ℕ) (cs : List Claim) (full : length cs ≡ claimLimit) w
     pub put-all : length s₀ ≡ sheetLimit → top ≤ i → s ≡ sheetWith s₀ (take count cs)
     put-all long past =
         let all : i ≡ top = omega (arith, past, p .within) in
-        p .put ∙ ap (λ k. claimsPut s₀ 0 (take k cs)) all ∙ ap (claimsPut s₀ 0) counted ∙ sym (sheet-with-put s₀ (take count cs) long)
-      where
-        counted : take top cs ≡ take count cs
-        counted =
-            cases (leb count claimLimit)
-            (λ e. let same : top ≡ count = omega (arith, bound, leb-true count claimLimit e) in ap (λ k. take k cs) same)
-            (λ e. let over = leb-false count claimLimit e in
-            take-all top cs (omega (arith, bound, over, full)) ∙ sym (take-all count cs (omega (arith, over, full))))
+        p .put
+        ∙ ap (λ k. claimsPut s₀ 0 (take k cs)) all
+        ∙ ap (claimsPut s₀ 0) (standing-first cs claimLimit count full bound)
+        ∙ sym (sheet-with-put s₀ (take count cs) long)

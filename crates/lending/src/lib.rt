@@ -1,35 +1,36 @@
 // A register lent as the bytes of its struct, judged.
-// Nothing lent is written. What is judged is filled from the bytes: the sheet of the claims, the
-// actors and the resources that stand; then it is judged as any other. Bytes of another length
-// than a register's are refused with 1. The bytes are read one by one, the least of a number
-// first, so they may lie anywhere.
+// Nothing lent is written, and no register is built. What is judged is filled from the bytes: the
+// sheet of the claims, the columns of the actors and the resources that stand, and the paths; then
+// it is judged as any other. Bytes of another length than a register's are refused with 1. The
+// bytes are read one by one, the least of a number first, so they may lie anywhere.
 ghost use mathlib.Core.Path.{_≡_};
 ghost use Prim.Native.Nat.{_+_, _*_, _≤_};
 ghost use lib.ListN.{length, take, drop, replicate};
+ghost use lib.Seq.{paste};
 ghost use Rattle.register.specs.Limits.{pathLimit};
 ghost use Rattle.register.specs.Register.{claimsOf};
-ghost use Rattle.register_bytes.specs.Bytes.{numberSize, wideSize, actorSize, resourceSize, claimSize, registerSize, numberIn, actorIn, resourceIn, claimIn, registerAt, registerIn};
-ghost use Rattle.columns.specs.Columns.{actorsTo, resourcesTo};
+ghost use Rattle.register_bytes.specs.Bytes.{numberSize, wideSize, resourceSize, claimSize, registerSize, numberIn, resourceIn, claimIn, registerAt, registerIn};
+ghost use Rattle.columns.specs.Columns.{actorsTo, resourcesTo, actorColumns, resourceColumns};
 ghost use Rattle.columns.specs.Sheet.{sheetLimit, sheetWith};
 ghost use Rattle.soundness_rules.specs.Sound.{sound};
+ghost use Rattle.soundness.specs.World.{resourcesAlone};
 ghost use Rattle.soundness.specs.Opened.{Opened};
+ghost use Rattle.coverage.specs.Laid.{bytesLimit, laidIn, lensOf};
 ghost use Rattle.gate_rules.specs.Gate.{gated};
 ghost use Rattle.gate_rules.specs.Plans.{planned};
 ghost use Rattle.gate.specs.Judged.{countsOf};
-ghost use Rattle.lending.specs.Standing.{whatStands};
 use actions::Action;
 use actions::Plan;
 use actions::PlanVerdict;
 use actions::Verdict;
+use columns::ActorColumns;
+use columns::ResourceColumns;
 use gate::Counts;
 use refusals::Outcome;
 use refusals::Refusal;
-use register::Actor;
-use register::Actors;
 use register::Claim;
 use register::Register;
 use register::Resource;
-use register::Resources;
 use soundness::Findings;
 
 // How many bytes there are of a number, a wide number, an actor, a resource, a claim.
@@ -83,18 +84,6 @@ fn wide_at(bytes: &[u8], at: usize) -> u64
     low + 4294967296 * high
 }
 
-// The actor at a place.
-fn actor_at(bytes: &[u8], at: usize) -> Actor
-    requires { ⌜ at + actorSize ≤ length (now bytes) ⌝ }
-    ensures { λ r. ⌜ r ≡ actorIn (now (bytes .entry)) at ⌝ }
-{
-    Actor {
-        id: number_at(bytes, at),
-        kind: number_at(bytes, at + NUMBER),
-        owner: number_at(bytes, at + 2 * NUMBER),
-    }
-}
-
 // The path at a place.
 fn path_at(bytes: &[u8], at: usize) -> [u8; Register::PATH]
     requires { ⌜ at + pathLimit ≤ length (now bytes) ⌝ }
@@ -142,54 +131,94 @@ fn claim_at(bytes: &[u8], at: usize) -> Claim
     }
 }
 
-// The actors that stand, zeros behind them.
-fn actors_in(bytes: &[u8]) -> Actors
-    requires { ⌜ length (now bytes) ≡ registerSize ⌝ }
-    ensures { λ r. ⌜ r ≡ actorsTo (registerAt (now (bytes .entry)) .actors) ⌝ }
+// The columns of the actors that stand, 0 behind them, in one pass.
+fn actors_in(bytes: &[u8], count: usize) -> ActorColumns
+    requires { ⌜ (length (now bytes) ≡ registerSize) × (count ≡ registerAt (now bytes) .actors .count) ⌝ }
+    ensures { λ r. ⌜ r ≡ actorColumns (actorsTo (registerAt (now (bytes .entry)) .actors) .list) ⌝ }
 {
-    let count = wide_at(bytes, ACTOR_COUNT_AT) as usize;
     let top = lists::least(count, Register::ACTORS);
-    let none = Actor {
-        id: 0,
-        kind: 0,
-        owner: 0,
-    };
-    let mut actors = Actors {
-        list: [none; Register::ACTORS],
-        count,
+    let mut columns = ActorColumns {
+        names: [0; Register::ACTORS],
+        kinds: [0; Register::ACTORS],
+        owners: [0; Register::ACTORS],
     };
     let mut i: usize = 0;
     while i < top {
-        actors.list[i] = actor_at(bytes, i * ACTOR);
+        let at = i * ACTOR;
+        columns.names[i] = number_at(bytes, at);
+        columns.kinds[i] = number_at(bytes, at + NUMBER);
+        columns.owners[i] = number_at(bytes, at + 2 * NUMBER);
         i += 1;
     }
-    actors
+    columns
 }
 
-// The resources that stand, zeros behind them.
-fn resources_in(bytes: &[u8]) -> Resources
-    requires { ⌜ length (now bytes) ≡ registerSize ⌝ }
-    ensures { λ r. ⌜ r ≡ resourcesTo (registerAt (now (bytes .entry)) .resources) ⌝ }
+// The columns of the resources that stand, 0 behind them, in one pass.
+fn resources_in(bytes: &[u8], count: usize) -> ResourceColumns
+    requires { ⌜ (length (now bytes) ≡ registerSize) × (count ≡ registerAt (now bytes) .resources .count) ⌝ }
+    ensures { λ r. ⌜ r ≡ resourceColumns (resourcesTo (registerAt (now (bytes .entry)) .resources) .list) ⌝ }
 {
-    let count = wide_at(bytes, RESOURCE_COUNT_AT) as usize;
     let top = lists::least(count, Register::RESOURCES);
-    let none = Resource {
-        id: 0,
-        public: 0,
-        keeper: 0,
-        len: 0,
-        path: [0; Register::PATH],
-    };
-    let mut resources = Resources {
-        list: [none; Register::RESOURCES],
-        count,
+    let mut columns = ResourceColumns {
+        reports: [0; Register::RESOURCES],
+        keepers: [0; Register::RESOURCES],
+        publics: [0; Register::RESOURCES],
     };
     let mut i: usize = 0;
     while i < top {
-        resources.list[i] = resource_at(bytes, RESOURCES_AT + i * RESOURCE);
+        let at = RESOURCES_AT + i * RESOURCE;
+        columns.reports[i] = number_at(bytes, at);
+        columns.publics[i] = number_at(bytes, at + NUMBER);
+        columns.keepers[i] = number_at(bytes, at + 2 * NUMBER);
         i += 1;
     }
-    resources
+    columns
+}
+
+// Whether each resource that stands is as it should be by itself, its keeper aside. Every one is looked at, without a way out of the loop.
+fn resources_alone(bytes: &[u8], count: usize) -> bool
+    requires { ⌜ (length (now bytes) ≡ registerSize) × (count ≡ registerAt (now bytes) .resources .count) ⌝ }
+    ensures { λ r. ⌜ r ≡ resourcesAlone (registerAt (now (bytes .entry)) .resources) ⌝ }
+{
+    let top = lists::least(count, Register::RESOURCES);
+    let mut fit = true;
+    let mut i: usize = 0;
+    while i < top {
+        let o = resource_at(bytes, RESOURCES_AT + i * RESOURCE);
+        fit = fit & soundness::resource_fits(true, o);
+        i += 1;
+    }
+    fit
+}
+
+// Writes the path that stands at `from` of the lent bytes at `to` of the paths.
+fn put_path(paths: &mut [u8], to: usize, bytes: &[u8], from: usize)
+    requires { ⌜ (to + pathLimit ≤ length (now paths)) × (from + pathLimit ≤ length (now bytes)) ⌝ }
+    ensures { λ _. ⌜ now (paths .exit) ≡ paste (now (paths .entry)) to (take pathLimit (drop from (now (bytes .entry)))) pathLimit ⌝ }
+{
+    let mut i: usize = 0;
+    while i < Register::PATH {
+        paths[to + i] = bytes[from + i];
+        i += 1;
+    }
+}
+
+// Lays the paths of the resources that stand over the buffer of all paths, and answers their lengths, 0 behind them.
+fn lay(paths: &mut [u8], bytes: &[u8], count: usize) -> [usize; Register::RESOURCES]
+    requires { ⌜ (length (now bytes) ≡ registerSize) × (length (now paths) ≡ bytesLimit) × (count ≡ registerAt (now bytes) .resources .count) ⌝ }
+    ensures laid { λ _. ⌜ now (paths .exit) ≡ laidIn (now (paths .entry)) (registerAt (now (bytes .entry)) .resources) ⌝ }
+    ensures lengths { λ r. ⌜ r ≡ lensOf (registerAt (now (bytes .entry)) .resources) ⌝ }
+{
+    let top = lists::least(count, Register::RESOURCES);
+    let mut lens = [0usize; Register::RESOURCES];
+    let mut i: usize = 0;
+    while i < top {
+        let at = RESOURCES_AT + i * RESOURCE;
+        put_path(paths, i * Register::PATH, bytes, at + 4 * NUMBER);
+        lens[i] = number_at(bytes, at + 3 * NUMBER) as usize;
+        i += 1;
+    }
+    lens
 }
 
 // Puts the claims that stand into a sheet of zeros.
@@ -217,15 +246,26 @@ fn counts_in(bytes: &[u8]) -> Counts
     }
 }
 
-// Puts the claims that stand into a sheet of zeros, and says what is found of the register by it and by the resources that stand.
-fn examine(sheet: &mut [u32], bytes: &[u8], resources: Resources, claims: usize) -> Findings
-    requires { ⌜ (length (now bytes) ≡ registerSize) × (now sheet ≡ replicate sheetLimit 0) × (claims ≡ registerAt (now bytes) .claims .count) × (resources ≡ resourcesTo (registerAt (now bytes) .resources)) ⌝ }
-    ensures { λ r. ⌜ Opened (whatStands (registerAt (now (bytes .entry)))) (now (sheet .exit)) r ⌝ }
+// Puts the claims that stand into a sheet of zeros, and says what is found of the register by it and by the columns of the actors and the resources.
+fn examine(sheet: &mut [u32], bytes: &[u8], counts: Counts) -> Findings
+    requires { ⌜ (length (now bytes) ≡ registerSize) × (now sheet ≡ replicate sheetLimit 0) × (counts ≡ countsOf (registerAt (now bytes))) ⌝ }
+    ensures { λ r. ⌜ Opened (registerAt (now (bytes .entry))) (now (sheet .exit)) r ⌝ }
 {
-    put_claims(sheet, bytes, claims);
+    put_claims(sheet, bytes, counts.claims);
     let version = wide_at(bytes, VERSION_AT);
-    let actors = actors_in(bytes);
-    soundness::examine_sheet(version, actors, resources, sheet, claims)
+    let actors = actors_in(bytes, counts.actors);
+    let resources = resources_in(bytes, counts.resources);
+    let alone = resources_alone(bytes, counts.resources);
+    soundness::examine_columns(
+        version,
+        actors,
+        counts.actors,
+        resources,
+        counts.resources,
+        alone,
+        sheet,
+        counts.claims,
+    )
 }
 
 // Whether the register that the bytes hold is sound.
@@ -235,10 +275,9 @@ pub fn is_sound(bytes: &[u8]) -> bool
     if bytes.len() != REGISTER {
         return false;
     }
-    let resources = resources_in(bytes);
     let counts = counts_in(bytes);
     let mut sheet = [0u32; columns::SHEET];
-    let found = examine(&mut sheet, bytes, resources, counts.claims);
+    let found = examine(&mut sheet, bytes, counts);
     found.sound
 }
 
@@ -249,15 +288,14 @@ pub fn gate(bytes: &[u8], a: Action) -> Verdict
     if bytes.len() != REGISTER {
         return violations::stopped(Refusal::Unsound);
     }
-    let resources = resources_in(bytes);
     let counts = counts_in(bytes);
     let mut sheet = [0u32; columns::SHEET];
-    let found = examine(&mut sheet, bytes, resources, counts.claims);
+    let found = examine(&mut sheet, bytes, counts);
     if !found.sound {
         return violations::stopped(Refusal::Unsound);
     }
     let mut paths = [0u8; coverage::BYTES];
-    let lens = coverage::lay(&mut paths, resources);
+    let lens = lay(&mut paths, bytes, counts.resources);
     let ends = gate::claim_ends(&sheet, &found.ups, counts.claims);
     let outcome = gate::action_outcome(&found.actors.names, counts.actors, a);
     match outcome {
@@ -277,10 +315,9 @@ pub fn plan(bytes: &[u8], p: Plan) -> PlanVerdict
     if bytes.len() != REGISTER {
         return plans::stopped(Refusal::Unsound, 0);
     }
-    let resources = resources_in(bytes);
     let counts = counts_in(bytes);
     let mut sheet = [0u32; columns::SHEET];
-    let found = examine(&mut sheet, bytes, resources, counts.claims);
+    let found = examine(&mut sheet, bytes, counts);
     if !found.sound {
         return plans::stopped(Refusal::Unsound, 0);
     }
@@ -288,7 +325,7 @@ pub fn plan(bytes: &[u8], p: Plan) -> PlanVerdict
         return plans::stopped(Refusal::Range, 0);
     }
     let mut paths = [0u8; coverage::BYTES];
-    let lens = coverage::lay(&mut paths, resources);
+    let lens = lay(&mut paths, bytes, counts.resources);
     let ends = gate::claim_ends(&sheet, &found.ups, counts.claims);
     let stop = plans::first_stop(&found.actors.names, counts.actors, p);
     let outcome = stop.outcome;

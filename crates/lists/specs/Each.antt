@@ -1,11 +1,11 @@
 -- Laws: What some or every element of a list passing a test, or each of them having a property, says and follows from. Assumes nothing.
 use mathlib.Core.Path.{_≡_, refl, ap, sym, _∙_}
-use mathlib.Core.Bool.{Bool, true, false, _||_, _&&_, and-comm, and-true, or-comm, or-false}
+use mathlib.Core.Bool.{Bool, true, false, _||_, _&&_, and-assoc, and-comm, and-true, or-comm, or-false}
 use mathlib.Core.List.{List, [], _∷_, _++_, map, map-append, reverse, reverse-cons}
 use Prim.Native.Nat.{ℕ, zero, suc, _<_}
 use native.Mathlib.Omega.{arith}
 use lib.ListN.{length, take, getD}
-use Rattle.lists.specs.Tests.{cases, clash, and-left, and-right, and-both, or-left, or-right, or-middle}
+use Rattle.lists.specs.Tests.{cases, clash, and-left, and-right, and-both, and-middle, or-left, or-right, or-middle}
 use Rattle.lists.specs.Lists.{any, every, ands, Each, All}
 
 module _ {A : Type 0} where
@@ -36,6 +36,11 @@ module _ {A : Type 0} where
   pub every-append : (p : A → Bool) (l m : List A) → every p (l ++ m) ≡ every p l && every p m
   every-append p [] m = refl
   every-append p (a ∷ l) m = cases (p a) (λ e. rw e (every-append p l m)) (λ e. rw e)
+
+  -- two tests that every element passes are one
+  pub every-both : (p q : A → Bool) (l : List A) → every p l && every q l ≡ every (λ x. p x && q x) l
+  every-both p q [] = refl
+  every-both p q (a ∷ l) = and-middle (p a) (every p l) (q a) (every q l) ∙ ap (λ b. (p a && q a) && b) (every-both p q l)
 
   -- every element passes a test whichever way round the list is
   pub every-reverse : (p : A → Bool) (l : List A) → every p (reverse l) ≡ every p l
@@ -124,6 +129,16 @@ module _ {C : Type 0} where
   pub any-either : (p q : C → Bool) (L : List C) → any (λ c. p c || q c) L ≡ any p L || any q L
   any-either p q [] = refl
   any-either p q (c ∷ L) = rw (any-either p q L) (or-middle (p c) (q c) (any p L) (any q L))
+
+-- some tests joinedTests from the left
+abbrev pub joinedTests : Bool → List Bool → Bool
+joinedTests a [] = a
+joinedTests a (b ∷ l) = joinedTests (a && b) l
+
+-- they are all of the tests
+pub joined-ands : (a : Bool) (l : List Bool) → joinedTests a l ≡ ands (a ∷ l)
+joined-ands a [] = sym (and-true a)
+joined-ands a (b ∷ l) = joined-ands (a && b) l ∙ and-assoc a b (ands l)
 
 -- all of some tests, taken apart
 pub ands-out : (l : List Bool) → ands l ≡ true → All (λ b. b ≡ true) l

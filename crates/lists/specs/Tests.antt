@@ -22,6 +22,12 @@ and-right false b h = cc
 pub and-both : (a b : Bool) → a ≡ true → b ≡ true → a && b ≡ true
 and-both a b h k = rw (h, k)
 
+pub and-middle : (a b c d : Bool) → (a && b) && (c && d) ≡ (a && c) && (b && d)
+and-middle false b c d = refl
+and-middle true false false d = refl
+and-middle true false true d = refl
+and-middle true true c d = refl
+
 pub or-left : (a b : Bool) → a || b ≡ false → a ≡ false
 or-left true b h = h
 or-left false b h = refl

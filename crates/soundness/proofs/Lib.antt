@@ -1,8 +1,7 @@
-pub mod Actors
+pub mod Asking
 pub mod Climbing
+pub mod Examining
 pub mod Fits
-pub mod Judging
-pub mod Keeping
+pub mod Fitting
 pub mod Naming
-pub mod Whole
-pub mod WorldLaws
+pub mod Passing

@@ -2,11 +2,12 @@
 -- (`register-same`).
 use mathlib.Core.Bool.{Bool, _&&_}
 use mathlib.Core.List.{List}
-use Prim.Native.Nat.{ℕ, min}
-use lib.Dec.{eqb, leb}
+use Prim.Native.Nat.{ℕ, _+_, _*_, min}
+use lib.Dec.{eqb, leb, ltb}
 use lib.ListN.{length, take, getD}
 use Rattle.lists.specs.Lists.{every, counted, distinct}
-use Rattle.register.specs.Limits.{actorLimit, resourceLimit, claimLimit}
+use Rattle.register.specs.Limits.{actorLimit, resourceLimit, claimLimit, versionOne, versionTwo, momentEnd, ranged}
+use Rattle.register.specs.Chain.{latest}
 use Rattle.register.specs.declared.Actors.{Actors}
 use Rattle.register.specs.declared.Resources.{Resources}
 use Rattle.register.specs.declared.Register.{Register}
@@ -15,9 +16,12 @@ use Rattle.columns.specs.Sheet.{sheetLimit, columnOf, claimAt, claimsIn, idColu
 use Rattle.columns.specs.declared.ActorColumns.{ActorColumns}
 use Rattle.columns.specs.declared.ResourceColumns.{ResourceColumns}
 use Rattle.lookup.specs.Finding.{asked, placesOf, earlierPlaces}
-use Rattle.soundness_rules.specs.Sound.{sound}
+use Rattle.soundness_rules.specs.Sound.{claimFits, sound}
 use Rattle.claim_judging.specs.Alone.{Found, aloneAt}
+use Rattle.claim_judging.specs.Over.{standOver}
+use Rattle.soundness.specs.World.{actorsFit, humanIds, keepersFit}
 use Rattle.soundness.specs.declared.Findings.{Findings}
+use Rattle.soundness.specs.declared.Looked.{Looked}
 
 -- the register of a version, of actors and resources, and of the first n claims of a sheet
 abbrev pub registerBy : ℕ → Actors → Resources → List ℕ → ℕ → Register
@@ -30,6 +34,15 @@ soFar h reports m s n =
     (((leb n claimLimit && leb h actorLimit) && leb m resourceLimit)
     && (distinct (take (asked n (columnOf parentColumn s)) (columnOf idColumn s)) && distinct (take (min m claimLimit) reports)))
     && eqb (length s) sheetLimit
+
+-- what is looked up by the ids of the resources and the claims: whether nothing is against soundness so far, the place of each claim's parent before it
+-- and that of its resource, the claims' limit for none
+abbrev pub lookedIn : ℕ → List ℕ → ℕ → List ℕ → ℕ → Looked
+lookedIn h reports m s n = record {
+  begun = soFar h reports m s n;
+  ups = earlierPlaces (columnOf idColumn s) (columnOf parentColumn s) n;
+  spots = placesOf reports m (columnOf resourceColumn s) n;
+}
 
 -- what is found by the columns of actors and resources, with whether it is sound: the place of each claim's parent before it and that of its resource, the
 -- claims' limit for none, and these columns
@@ -58,6 +71,14 @@ foundAt actors keepers granting holding spots i = record {
   keeper = getD keepers (getD spots i 0) 0;
 }
 
+-- whether the expiry at a place is a moment, by the two columns that keep it
+abbrev pub expiryFits : List ℕ → List ℕ → ℕ → Bool
+expiryFits expiries late i = ltb (getD expiries i 0 + momentEnd * getD late i 0) momentEnd
+
+-- whether the numbers of the claim at a place of a sheet are in range
+abbrev pub fitsAt : ℕ → List ℕ → ℕ → Bool
+fitsAt version s i = claimFits version (claimAt s i)
+
 -- whether the ids of the first h actors are distinct, and each of the first n claims of a sheet is as it should be by itself, its grantor and its
 -- holder looked up among those
 unfoldable pub claimsAlone : ℕ → ActorColumns → ℕ → List ℕ → List ℕ → List ℕ → ℕ → Bool
@@ -66,3 +87,17 @@ claimsAlone version actors h keepers spots s n =
     let holding = placesOf (actors .names) h (columnOf holderColumn s) n in
     distinct (take (min h claimLimit) (actors .names))
     && every (λ i. aloneAt version (claimAt s i) (foundAt actors keepers granting holding spots i)) (counted 0 n)
+
+-- whether what the columns of the first h actors and the first m resources and the first n claims of a sheet say is sound, where `alone` says
+-- whether each resource is as it should be by itself, its keeper aside
+unfoldable pub columnsSound : ℕ → ActorColumns → ℕ → ResourceColumns → ℕ → Bool → List ℕ → ℕ → Bool
+columnsSound version actors h resources m alone s n =
+    soFar h (resources .reports) m s n
+    && (((((ranged versionOne versionTwo version && actorsFit (actors .names) (actors .kinds) (actors .owners) h) && alone)
+    && keepersFit (humanIds (actors .names) (actors .kinds) h) h (resources .keepers) m)
+    && standOver version (latest (take n (claimsIn s))))
+    && claimsAlone version actors h (resources .keepers) (placesOf (resources .reports) m (columnOf resourceColumn s) n) s n)
+
+-- what is found by these columns
+abbrev pub findingsOver : ℕ → ActorColumns → ℕ → ResourceColumns → ℕ → Bool → List ℕ → ℕ → Findings
+findingsOver version actors h resources m alone s n = findingsIn actors resources m s n (columnsSound version actors h resources m alone s n)

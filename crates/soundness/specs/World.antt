@@ -1,12 +1,13 @@
 -- Working: The actors and the resources by columns: who is a human, and what they are asked but for distinct ids. They are shaped for the code; what
 -- they are in 01's words is proved in proofs/WorldLaws (`actors-natural`, `resources-natural`).
-use mathlib.Core.Bool.{Bool, cond}
+use mathlib.Core.Bool.{Bool, true, cond}
 use mathlib.Core.List.{List, [], _∷_, _++_}
 use Prim.Native.Nat.{ℕ, _-_, min}
 use lib.Dec.{eqb, ltb}
 use lib.ListN.{length, take, getD, replicate}
 use Rattle.lists.specs.Lists.{every, counted}
 use Rattle.register.specs.Limits.{actorLimit, resourceLimit, claimLimit, humanKind}
+use Rattle.register.specs.Register.{resourcesOf}
 use Rattle.register.specs.declared.Actor.{Actor}
 use Rattle.register.specs.declared.Resource.{Resource}
 use Rattle.register.specs.declared.Resources.{Resources}
@@ -47,11 +48,11 @@ humanIds ids kinds n =
 abbrev pub beyond : Resource
 beyond = record { id = 0; public = 0; keeper = 0; len = 0; path = [] }
 
--- whether the resource at a place is as it should be by itself, by the place that its keeper was found at
-abbrev pub fitsAt : List Resource → List ℕ → ℕ → Bool
-fitsAt l keeping i = resourceFits (λ x. ltb (getD keeping i 0) claimLimit) (getD l i beyond)
+-- whether each resource that stands is as it should be by itself, its keeper aside
+unfoldable pub resourcesAlone : Resources → Bool
+resourcesAlone o = every (resourceFits (λ x. true)) (resourcesOf o)
 
--- whether each resource is as it should be by itself, its keeper looked up among the first h of the humans' ids
-unfoldable pub resourcesFit : List ℕ → ℕ → List ℕ → Resources → Bool
-resourcesFit humans h keepers o =
-    let top = min (o .count) resourceLimit in every (fitsAt (o .list) (placesOf humans h keepers top)) (counted 0 top)
+-- whether each of the first m keepers has a place among the first h of the humans' ids
+unfoldable pub keepersFit : List ℕ → ℕ → List ℕ → ℕ → Bool
+keepersFit humans h keepers m =
+    let top = min m resourceLimit in every (λ i. ltb (getD (placesOf humans h keepers top) i 0) claimLimit) (counted 0 top)

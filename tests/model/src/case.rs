@@ -4,7 +4,7 @@ use guvrendik_model::model::proposals::{Question, CHECK_FAILS, CHECK_PASSES, PRO
 use guvrendik_model::model::{Model, Refusal};
 use guvrendik_model::requests::{put_request, Request};
 use guvrendik_model::types::*;
-use guvrendik_model::wire::Wire;
+use guvrendik_model::wire::{bytes_of, Wire};
 use std::mem::size_of;
 use std::ops::RangeInclusive;
 
@@ -312,12 +312,12 @@ impl Call {
     pub fn answer_size(&self) -> usize {
         MARKS
             + match self {
-                Call::Sound => size_of::<Soundness>() + size_of::<FirstFault>(),
+                Call::Sound => 2 * size_of::<Soundness>() + size_of::<FirstFault>(),
                 Call::SoundTable(_) => size_of::<Soundness>(),
                 Call::Grant { .. } => size_of::<Granted>(),
                 Call::Revoke { .. } | Call::ClearResource { .. } | Call::ClearExpired { .. } => size_of::<Revoked>(),
-                Call::Gate(_) => 2 * size_of::<Verdict>() + size_of::<CoverTable>(),
-                Call::Plan(_) => 2 * size_of::<PlanVerdict>(),
+                Call::Gate(_) => 3 * size_of::<Verdict>() + size_of::<CoverTable>(),
+                Call::Plan(_) => 3 * size_of::<PlanVerdict>(),
                 Call::PlanText(_) => size_of::<PlanTextVerdict>(),
                 Call::Contains { .. } => size_of::<Containment>(),
                 Call::ReadRegister(_) => size_of::<RegisterRead>() + size_of::<FirstFault>(),
@@ -344,6 +344,7 @@ impl Call {
                 u32::from(model.sound(state)).put(out);
                 let fault = model.why_unsound(state);
                 fault.put(out);
+                u32::from(model.sound(&lent(model, state))).put(out);
                 fault.why
             }
             Call::SoundTable(claims) => {
@@ -382,6 +383,7 @@ impl Call {
                 let verdict = model.gate(state, action);
                 verdict.put(out);
                 model.plain_gate(state, action).put(out);
+                model.gate(&lent(model, state), action).put(out);
                 model.cover_table(state, action.actor, action.now).put(out);
                 match verdict.decision {
                     PERMITTED => YES,
@@ -393,6 +395,7 @@ impl Call {
                 let verdict = model.judge_plan(state, plan);
                 verdict.put(out);
                 model.plain_plan(state, plan).put(out);
+                model.judge_plan(&lent(model, state), plan).put(out);
                 planned(verdict.accepted, verdict.refusal, &verdict.list, verdict.count)
             }
             Call::PlanText(text) => {
@@ -495,7 +498,10 @@ impl Call {
         let from = &mut answer;
         let marks = u32::take(from);
         let mut fields = match self {
-            Call::Sound => both("fault", fields(&Soundness::take(from)), fields(&FirstFault::take(from))),
+            Call::Sound => {
+                let told = both("fault", fields(&Soundness::take(from)), fields(&FirstFault::take(from)));
+                both("lent", told, fields(&Soundness::take(from)))
+            }
             Call::SoundTable(_) => fields(&Soundness::take(from)),
             Call::Grant { .. } => fields(&Granted::take(from)),
             Call::Revoke { .. } | Call::ClearResource { .. } | Call::ClearExpired { .. } => {
@@ -503,9 +509,13 @@ impl Call {
             }
             Call::Gate(_) => {
                 let verdicts = both("plain", fields(&Verdict::take(from)), fields(&Verdict::take(from)));
+                let verdicts = both("lent", verdicts, fields(&Verdict::take(from)));
                 both("table", verdicts, fields(&CoverTable::take(from)))
             }
-            Call::Plan(_) => both("plain", fields(&PlanVerdict::take(from)), fields(&PlanVerdict::take(from))),
+            Call::Plan(_) => {
+                let verdicts = both("plain", fields(&PlanVerdict::take(from)), fields(&PlanVerdict::take(from)));
+                both("lent", verdicts, fields(&PlanVerdict::take(from)))
+            }
             Call::PlanText(_) => fields(&PlanTextVerdict::take(from)),
             Call::Contains { .. } => fields(&Containment::take(from)),
             Call::ReadRegister(_) => both("fault", fields(&RegisterRead::take(from)), fields(&FirstFault::take(from))),
@@ -525,6 +535,11 @@ impl Call {
         fields.extend(from.iter().enumerate().map(|(at, byte)| (format!("buffer[{at}]"), byte.to_string())));
         fields
     }
+}
+
+/// The register that the model reads from the bytes of the state, as they are lent.
+fn lent(model: &Model, state: &Register) -> Register {
+    model.held(&bytes_of(state))
 }
 
 fn put_question(question: &Question, out: &mut Vec<u8>) {

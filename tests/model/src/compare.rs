@@ -266,7 +266,7 @@ impl<'c> Comparison<'c> {
             let scripts = guess.scripts();
             let mut told = [Vec::new(), Vec::new()];
             // Of the gate, which comes first, the verdicts alone: the table behind them shows the register whole.
-            let verdicts = size_of::<u32>() + 2 * size_of::<Verdict>();
+            let verdicts = size_of::<u32>() + 3 * size_of::<Verdict>();
             for (script, answers) in scripts.iter().zip(&mut told) {
                 let seeing = |answer: &[u8]| {
                     let seen = if answers.is_empty() { verdicts } else { answer.len() };

@@ -6,6 +6,7 @@ mod gate;
 mod grant;
 mod ids;
 pub mod json;
+mod lent;
 pub mod paths;
 mod plain;
 mod plan;
@@ -161,10 +162,12 @@ pub enum Fault {
     DeadSourceShown,
     /// A claim that is not live is told with the last on its chain that is not current.
     LastEnded,
+    /// In a register that is lent, numbers are taken with their greatest byte first.
+    BigEndFirst,
 }
 
 impl Fault {
-    pub const ALL: [(&'static str, Fault); 29] = [
+    pub const ALL: [(&'static str, Fault); 30] = [
         ("expiry-equal-live", Fault::ExpiryEqualLive),
         ("source-unasked", Fault::SourceUnasked),
         ("direct-children", Fault::DirectChildren),
@@ -194,6 +197,7 @@ impl Fault {
         ("owner-unasked", Fault::OwnerUnasked),
         ("dead-source-shown", Fault::DeadSourceShown),
         ("last-ended", Fault::LastEnded),
+        ("big-end-first", Fault::BigEndFirst),
     ];
 }
 
