@@ -3,6 +3,10 @@
 # in target/x86-64, target/aarch64 and target/wasm32, as they are delivered.
 clang=$toolchain/bin/clang
 arm=aarch64-unknown-linux-gnu
+# What the kit hands to its clang for every processor, so that it compiles no proved code wrongly, and for AArch64 alone.
+careful='-ffunction-sections -fdata-sections -mllvm -trap-unreachable -mllvm -no-x86-call-frame-opt -mllvm -disable-machine-licm
+    -mllvm -disable-postra-machine-licm -mllvm -sink-common-insts=false'
+careful_arm='-march=armv8-a -mllvm -no-trap-after-noreturn -mllvm -aarch64-load-store-renaming=false'
 
 # c TARGET SOURCE OUT FLAG..: an object of C, without a C library's headers.
 c() {
@@ -24,7 +28,7 @@ program() {
 plain() {
     local at=target/plain
     rm -rf $at && mkdir -p $at &&
-        "$clang" --target=x86_64-unknown-linux-gnu -S -emit-llvm -O0 -Xclang -disable-llvm-passes -x ir target/staticlib/portal.bc -o $at/x86-64.ll &&
+        "$clang" --target=x86_64-unknown-linux-gnu -S -emit-llvm -O0 -Xclang -disable-llvm-passes -x ir target/staticlib/portal_c.bc -o $at/x86-64.ll &&
         python3 -B native/translate.py include/guvrendik.h $at/x86-64.ll $at
 }
 
@@ -40,7 +44,7 @@ for_arm() {
     local at=target/aarch64 name
     name=libguvrendik.so.$(version | cut -d . -f 1)
     rm -rf $at && mkdir -p $at &&
-        "$clang" --target=$arm -Wno-override-module -ffunction-sections -fPIC -O3 $inlined -c -x ir target/plain/module.ll -o target/plain/module.o &&
+        "$clang" --target=$arm -Wno-override-module $careful $careful_arm -fPIC -O3 $inlined -c -x ir target/plain/module.ll -o target/plain/module.o &&
         c $arm target/plain/values.c target/plain/values.o -fPIC && c $arm native/calls.c target/plain/calls.o -fPIC &&
         c $arm native/memory.c target/plain/memory.o -fPIC &&
         "$toolchain/bin/llvm-ar" rcsD $at/libguvrendik.a target/plain/module.o target/plain/values.o target/plain/calls.o &&
@@ -60,7 +64,7 @@ for_wasm() {
     local at=target/wasm32 target=wasm32-unknown-unknown
     rm -rf $at && mkdir -p $at && ln -sf "$toolchain/bin/ld.lld" target/plain/wasm-ld &&
         sed 's/"probe-stack"="inline-asm"//' target/plain/module.ll >target/plain/wasm.ll &&
-        "$clang" --target=$target -Wno-override-module -mbulk-memory -O3 -c -x ir target/plain/wasm.ll -o target/plain/wasm.o &&
+        "$clang" --target=$target -Wno-override-module -mbulk-memory $careful -O3 -c -x ir target/plain/wasm.ll -o target/plain/wasm.o &&
         c $target target/plain/places.c target/plain/places.o -mbulk-memory &&
         target/plain/wasm-ld --no-entry --strip-all --export=__heap_base -z stack-size=262144 --initial-memory=1048576 \
             target/plain/wasm.o target/plain/places.o -o $at/guvrendik.wasm
@@ -68,13 +72,9 @@ for_wasm() {
 
 # Not anew where all that they are made of is older.
 builds() {
-    local name made=target/wasm32/guvrendik.wasm
-    for name in verdict plan_verdict json_verdict; do
-        if [ ! -e "target/bin/$name" ] || [ -n "$(find crates crates.txt -newer "target/bin/$name" -print -quit)" ]; then
-            rt check verdict plan_verdict json_verdict && touch target/bin/verdict target/bin/plan_verdict target/bin/json_verdict || return
-        fi
-    done
-    if [ ! -e $made ] || [ -n "$(find $library.a target/staticlib/portal.bc target/bin/*verdict native include packaging -newer $made -print -quit)" ]; then
+    local made=target/wasm32/guvrendik.wasm
+    programs || return
+    if [ ! -e $made ] || [ -n "$(find $library.a target/staticlib/portal_c.bc target/bin/*verdict native include packaging -newer $made -print -quit)" ]; then
         plain && for_x86 && for_arm && for_wasm
     fi
 }

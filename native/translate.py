@@ -2,10 +2,12 @@
 
     translate.py HEADER MODULE FOLDER
 
-Inside the module, LLVM's text for x86-64, each exported call is a function whose structs all go by pointer, the place of the answer first, and a slice
-as a pointer to a pointer and a length; the exported function by value around it is all that knows x86-64. Written are
+Inside the module, LLVM's text for x86-64, each exported call is a function that knows no processor: a slice goes as a pointer and a length, a struct by
+pointer, the place of the answer first, but a struct of one or two numbers as those. The exported function by value around it is all that knows x86-64.
+Written are
 
-    FOLDER/module.ll  the module without those and without x86-64's names, the inner functions exported. Of their parameters it says what C
+    FOLDER/module.ll  the module without x86-64's names, and around each call's function an inner one, exported, whose structs all go by pointer,
+                      the place of the answer first, and a slice as a pointer to a pointer and a length. Of its parameters it says what C
                       guarantees of a struct that passes by value: nobody else writes it, and it is whole
     FOLDER/values.c   the calls by value of the header, in C over the inner functions
     FOLDER/places.c   for a processor of 32 bits: the calls by pointer, with 32 bits to a length
@@ -17,8 +19,11 @@ import sys
 from pathlib import Path
 
 INNER = "guvrendik_inner_"
+CRATE = "portal_c"
 WIDTHS = {"uint32_t": "i32", "uint64_t": "i64"}
 ALIGNED = {"uint8_t": 1, "uint32_t": 4, "uint64_t": 8, "size_t": 8}
+BITS = {1: "i8", 4: "i32", 8: "i64"}
+ALIGN = {"i8": 1, "i32": 4, "i64": 8, "ptr": 8}
 HEAD = "/* Written by native/translate.py. */\n"
 
 
@@ -45,10 +50,27 @@ def size(header, kind):
     return int(re.search(rf"^#define GUVRENDIK_SIZE_{kind.removeprefix('guvrendik_').upper()} (\d+)$", header, flags=re.M).group(1))
 
 
+def fields(header, kind):
+    """Those of a struct: type, and what stands behind it."""
+    inside = re.search(rf"^typedef struct \w* ?\{{([^}}]*)\}} {kind};", re.sub(r"/\*.*?\*/", "", header, flags=re.S), flags=re.M).group(1)
+    return re.findall(r"^ +(\w+) ([^;]*);", inside, flags=re.M)
+
+
 def alignment(header, kind):
     """That of the widest field of a struct."""
-    inside = re.search(rf"^typedef struct \w* ?\{{([^}}]*)\}} {kind};", re.sub(r"/\*.*?\*/", "", header, flags=re.S), flags=re.M).group(1)
-    return max(ALIGNED.get(field) or alignment(header, field) for field in re.findall(r"^ +(\w+) ", inside, flags=re.M))
+    return max(ALIGNED.get(field) or alignment(header, field) for field, _ in fields(header, kind))
+
+
+def numbers(header, kind):
+    """The numbers that a struct holds, each with its place and LLVM's type for it, or None where it has an array or another struct."""
+    found, at = [], 0
+    for field, name in fields(header, kind):
+        if field not in ALIGNED or "[" in name:
+            return None
+        at += -at % ALIGNED[field]
+        found.append((at, BITS[ALIGNED[field]]))
+        at += ALIGNED[field]
+    return found
 
 
 def attributes(header, kind, of):
@@ -60,25 +82,64 @@ def attributes(header, kind, of):
     return f"ptr noalias readonly captures(none) align {align} dereferenceable({bytes_there})"
 
 
+def around(header, call, line, said):
+    """The inner function around a call's, which begins with the line, and has the attributes that are said."""
+    name, answer, parameters = call
+    gives, takes = re.fullmatch(rf'define internal (.*) @"{CRATE}::guvrendik_{name}"\((.*)\)', line).groups()
+    takes = [word.split()[0] for word in takes.split(", ") if word]
+    head, body, given = ["ptr noalias noundef %a0"], [], []
+    differ = f"the module's {name} does not take or give what the header says"
+
+    def value(place, at, of):
+        body.append(f"  %at{len(body)} = getelementptr i8, ptr %a{place}, i64 {at}")
+        body.append(f"  %value{len(body)} = load {of}, ptr %at{len(body) - 1}, align {ALIGN[of]}")
+        given.append((of, f"%value{len(body) - 1}"))
+
+    if gives == "void":
+        given.append(("ptr", "%a0"))
+    for place, (kind, of, _, _) in enumerate(parameters, 1):
+        head.append(f"{attributes(header, kind, of)} noundef %a{place}")
+        inside = numbers(header, of) if kind == "struct" else None
+        if kind == "slice":
+            value(place, 0, "ptr")
+            value(place, 8, "i64")
+        elif kind == "number":
+            given.append((WIDTHS[of], f"%a{place}"))
+        elif inside and [bits for _, bits in inside] == takes[len(given) : len(given) + len(inside)]:
+            for at, bits in inside:
+                value(place, at, bits)
+        else:
+            given.append(("ptr", f"%a{place}"))
+    if [of for of, _ in given] != takes:
+        sys.exit(differ)
+    call = f'call {gives.removeprefix("noundef ")} @"{CRATE}::guvrendik_{name}"({", ".join(" ".join(word) for word in given)})'
+    if gives == "void":
+        body.append(f"  {call}")
+    else:
+        inside = numbers(header, answer)
+        of = ", ".join(bits for _, bits in inside or [])
+        if gives.removeprefix("noundef ") not in (of, f"{{ {of} }}"):
+            sys.exit(differ)
+        body.append(f"  %answer = {call}")
+        for number, (at, bits) in enumerate(inside):
+            one = "%answer"
+            if len(inside) > 1:
+                one = f"%part{number}"
+                body.append(f"  {one} = extractvalue {{ {of} }} %answer, {number}")
+            body.append(f"  %to{number} = getelementptr i8, ptr %a0, i64 {at}")
+            body.append(f"  store {bits} {one}, ptr %to{number}, align {ALIGN[bits]}")
+    return "\n".join([f"define hidden void @{INNER}{name}({', '.join(head)}) {said} {{", *body, "  ret void", "}", ""])
+
+
 def module(header, calls, text):
-    found = set(re.findall(r'^define internal void @"portal::guvrendik_(\w+)"', text, flags=re.M))
-    if found != {name for name, _, _ in calls}:
-        sys.exit(f"header and module differ in {sorted(found ^ {name for name, _, _ in calls})}")
+    found = re.findall(rf'^(define internal [^\n]* @"{CRATE}::guvrendik_(\w+)"\([^\n]*\)) (#\d+) \{{$', text, flags=re.M)
+    lines = {name: (line, said) for line, name, said in found}
+    if lines.keys() != {name for name, _, _ in calls}:
+        sys.exit(f"header and module differ in {sorted(lines.keys() ^ {name for name, _, _ in calls})}")
     text = re.sub(r"^target (datalayout|triple).*\n", "", text, flags=re.M)
     text = re.sub(r'"(target-cpu|target-features|tune-cpu)"="[^"]*"', "", text)
     text = re.sub(r"^define (.*?)@guvrendik_", r"define internal \1@by_value_", text, flags=re.M)
-    for name, answer, parameters in calls:
-        said = ["ptr noalias noundef %a0"]
-        plain = ["ptr noundef %a0"]
-        for place, (kind, of, _, _) in enumerate(parameters, 1):
-            said.append(f"{attributes(header, kind, of)} noundef %a{place}")
-            plain.append(f"{WIDTHS.get(of, 'ptr')} noundef %a{place}")
-        inner = f'@"portal::guvrendik_{name}"'
-        line = f"define internal void {inner}({', '.join(plain)})"
-        if text.count(line) != 1:
-            sys.exit(f"the module's {name} does not take what the header says")
-        text = text.replace(line, f"define hidden void @{INNER}{name}({', '.join(said)})").replace(inner, f"@{INNER}{name}")
-    return text
+    return text + "".join("\n" + around(header, call, *lines[call[0]]) for call in calls)
 
 
 def inner(name, parameters):

@@ -4,12 +4,12 @@ A file of specs/ (Lib.antt aside) says on its first line what it is, and then wh
     -- Believed: ..   definitions that a contract or a theorem rests on, in the rule book's words, and nothing else
     -- Working: ..    definitions shaped for the code; its head names, in backticks, the law that leads back to a believed one, or what a contract ties
                       it to
-    -- Laws: ..       what is proved of either, for other crates
+    -- Laws: ..       what is proved of either, for other crates; such a file may stand in proofs/ too, and is held to the same
 
-Roots are the `ensures` of the exported calls (crates/portal/src) and of the public calls that the printing programs print (crates/verdict_printing/src and
+Roots are the `ensures` of the exported calls (crates/portal_c/src; those of crates/portal/src, which they hand on to, say the same) and of the public calls that the printing programs print (crates/verdict_printing/src and
 crates/plan_verdict_text/src), `History`, `Authority` and `Traced`, and the statements of the files proofs/Theorems*.antt. From them the closure is taken by name and import: a
 name in the type or the body of a definition leads to what it names. `specs.declared` is written by rattle from the structs and enums of src/:
-these are listed as types of the code. Modules outside crates/ (`lib`, `mathlib`, `Prim`, `native`, `borrow`) are the language's own, and end it.
+these are listed as types of the code. Modules outside crates/ (`Rattle.std`, `lib`, `mathlib`, `Prim`, `native`, `borrow`) are the language's own, and end it.
 
 A definition is a lemma where its type, behind its arguments, speaks of values: an equation, an order, ⊥, ⊎, ↔, a pair with such a part, or a type that
 takes values (`Place l c`, a record with values for parameters). A type that takes nothing but types (`Bool`, `List ℕ`, `Read Register`, `Type 0`)
@@ -34,9 +34,9 @@ THEOREM_LINES = 100
 MARKS = ("Believed", "Working", "Laws")
 APART = re.compile(r"json|steps|plan_text|plan_verdict_text|words|refusal_text|violation_text|right_name|flag_name|version$|propos|attach|fetch|fingerprints|cover_table|table_showing|why|who|reason|fault|_lent$|register_bytes")
 REPOSITORY = os.path.dirname(os.path.dirname(os.path.dirname(os.path.abspath(__file__))))
-EXPORTED, PRINTED = "portal", ("verdict_printing", "plan_verdict_text")
+EXPORTED, LINKED, PRINTED = "portal_c", "portal", ("verdict_printing", "plan_verdict_text")
 DEMANDS = (("history", "History", "History"), ("gate_rules", "Authority", "Authority"), ("gate_rules", "Authority", "Traced"))
-MODULE = re.compile(r"Rattle·(\w+?)(?:·specs|·proofs)?\.(specs|proofs)\.(.+)$")
+MODULE = re.compile(r"Rattle\.(?!std\.)(\w+)\.(specs|proofs)\.(.+)$")
 USE = re.compile(r"^(?:ghost )?use ([^\s{}]+?)(?:\.\{([^}]*)\})?(?: as (\S+?))?;?$")
 START = re.compile(r"^((?:(?:abbrev|unfoldable|pub) )*)([^\s:(){}]+) :(?:\s|$)")
 TYPE = re.compile(r"^((?:pub )?)(record|data) (\S+)")
@@ -89,7 +89,7 @@ class File:
         self.read()
 
     def label(self):
-        return f"{self.crate}/{self.name}" + ("" if self.folder == "specs" else f" (in {self.folder}/)")
+        return f"{self.crate}/{self.name}" + ("" if self.folder == "specs" or self.mark == "Laws" else f" (in {self.folder}/)")
 
     def path(self):
         return f"crates/{self.crate}/{self.folder}/{self.name}.antt"
@@ -229,7 +229,7 @@ def references(words, bound=()):
             at += 1
         elif word == "in" and lets:
             scope.append(lets.pop())
-        elif word[0] not in '."' and word not in scope and not (words[at:at + 1] == ["="] and words[at - 2] in ("{", ";")):
+        elif word[0] not in '."' and word.partition(".")[0] not in scope and not (words[at:at + 1] == ["="] and words[at - 2] in ("{", ";")):
             found.add(word)
     return found
 
@@ -240,7 +240,7 @@ class Tree:
     def __init__(self, root):
         self.root = root
         self.files, self.importers = {}, {}
-        listed = re.findall(r"^(\w+):", self.read("crates.txt"), re.M)
+        listed = re.findall(r"^(\w+)(?: \w+)*:", self.read("crates.txt"), re.M)
         present = sorted(os.listdir(os.path.join(root, "crates")))
         self.crates = [c for c in listed if c in present] + [c for c in present if c not in listed]
         self.sources = {c: self.read_all(f"crates/{c}/src", ".rt") for c in self.crates}
@@ -248,7 +248,7 @@ class Tree:
             for folder in ("specs", "proofs"):
                 for path, text in self.read_all(f"crates/{crate}/{folder}", ".antt").items():
                     name = path[:-len(".antt")]
-                    if "/" not in name and name != "Lib" and (folder == "specs" or name.startswith("Theorems")):
+                    if "/" not in name and name != "Lib" and (folder == "specs" or name.startswith("Theorems") or text.startswith("-- Laws: ")):
                         self.files[crate, folder, name] = parsed(crate, folder, name, text)
                     self.note_imports(crate, folder if "/" not in name else "proofs", name, text)
             for path, text in self.sources[crate].items():
@@ -275,8 +275,8 @@ class Tree:
         for line in text.splitlines():
             used = USE.match(line) if "use " in line else None
             module = MODULE.match(used.group(1)) if used else None
-            if module and module.group(2) == "specs":
-                self.importers.setdefault((module.group(1), "specs", module.group(3)), set()).add((crate, folder, name))
+            if module:
+                self.importers.setdefault(module.groups(), set()).add((crate, folder, name))
 
     def used(self):
         """What of specs/ some file imports and names, as (crate, file, name)."""
@@ -287,13 +287,14 @@ class Tree:
                 lines = [line.strip() for line in text.splitlines()]
                 uses = [USE.match(line) for line in lines if line.startswith(("use ", "ghost use "))]
                 words = {w.rstrip(".") for line in lines if not line.startswith(("use ", "ghost use ", "--", "//")) for w in TOKEN.findall(line)}
+                bases = {w.partition(".")[0] for w in words}
                 for module, names, alias in (u.groups() for u in uses if u and MODULE.match(u.group(1))):
                     own, folder, file = MODULE.match(module).groups()
                     for name in filter(None, (n.strip() for n in (names or "").split(","))):
                         there, _, here = name.partition(" as ")
-                        if (here or there).strip("_") in words:
+                        if (here or there).strip("◌") in bases:
                             found.add((own, file, there))
-                    found |= {(own, file, w.partition(".")[2]) for w in words if alias and w.startswith(alias + ".")}
+                    found |= {(own, file, w.split(".")[1]) for w in words if alias and w.startswith(alias + ".")}
         return found
 
     def declared(self, crate):
@@ -321,14 +322,16 @@ class Tree:
         return parsed(crate, folder, name, text) if text else None
 
     def resolve(self, file, word, line):
-        for name in (word, f"_{word}_"):
+        alias, _, name = word.partition(".")
+        if name and alias in file.aliases:
+            return self.at(file.aliases[alias], name.partition(".")[0])
+        for name in (alias, f"◌{alias}◌"):
             if name in file.owner:
                 earlier = [i for i in file.owner[name] if i.first <= line]
                 return ("item", (earlier or file.owner[name])[-1])
             if name in file.names:
                 return self.at(*file.names[name])
-        alias, _, name = word.partition(".")
-        return self.at(file.aliases[alias], name) if name and alias in file.aliases else None
+        return None
 
     def words_of(self, item, stated_only=False):
         """The unbound words of an item: of its type, and of its clauses unless only what it states is asked."""
@@ -400,7 +403,7 @@ class Tree:
         level, parts = 0, [[]]
         for word in result:
             level += (word in OPENS) - (word in CLOSES)
-            if level == 0 and word.strip("_") in SAYS:
+            if level == 0 and word.strip("◌") in SAYS:
                 return True
             if level == 0 and word == "×":
                 parts.append([])
@@ -450,7 +453,7 @@ class Tree:
         if (crate, name) in self.types:
             return crate, name
         for text in self.sources[crate].values():
-            found = re.search(rf"^use (\w+)::{name};", text, re.M)
+            found = re.search(rf"^use (\w+)::(?:{name};|\{{[^}}]*\b{name}\b)", text, re.M)
             if found and (found.group(1), name) in self.types:
                 return found.group(1), name
         return None
@@ -464,12 +467,18 @@ class Tree:
                 name, rest = found.groups()
                 if "requires" in rest:
                     continue
-                stated = re.findall(r"ensures\s*\w*\s*\{(.*?)⌝\s*\}", rest, re.S)
-                bound = re.findall(r"(\w+):", rest.split("ensures")[0])
-                words = set().union(*(references(tokens(s.replace("⌜", " ")), bound) for s in stated)) if stated else set()
+                stated = re.findall(r"^\s*ensures ?\w* \{ (.*) \}$", rest, re.M)
+                bound = ["result"] + re.findall(r"(\w+):", rest.split("ensures")[0])
+                words = set().union(*(references(tokens(s), bound) for s in stated)) if stated else set()
                 known = [self.resolve(file, word, 0) for word in sorted(words)]
                 known += [("type", self.home(crate, t)) for t in re.findall(r"\b[A-Z]\w*", rest.split("ensures")[0]) if self.home(crate, t)]
                 yield name, [(k, f"{crate}::{name}") for k in known if k]
+
+    def contracts(self, crate):
+        """The name of each public call of a crate, with what it takes, answers and promises."""
+        for text in self.sources.get(crate, {}).values():
+            for found in re.finditer(r'^pub (?:extern "C" )?fn (\w+)(.*?)^\{', re.sub(r"//.*", "", text), re.M | re.S):
+                yield found.group(1), " ".join(found.group(2).split())
 
     def theorem_roots(self, file):
         for item in file.items:
@@ -501,10 +510,11 @@ class Tree:
         return done
 
     def theorem_files(self):
-        return [f for (c, folder, n), f in self.files.items() if folder == "proofs"]
+        return [f for (c, folder, n), f in self.files.items() if folder == "proofs" and f.mark != "Laws"]
 
     def spec_files(self):
-        return [f for (c, folder, n), f in self.files.items() if folder == "specs"]
+        """The files of specs/, and the laws in proofs/."""
+        return [f for (c, folder, n), f in self.files.items() if folder == "specs" or f.mark == "Laws"]
 
 
 def lines_of(items):
@@ -525,6 +535,9 @@ class Belief:
         self.faults, self.checks = [], 0
         calls = [(name, roots) for crate in (EXPORTED, *PRINTED) for name, roots in tree.call_roots(crate)]
         self.calls = [name for name, _ in calls]
+        said, linked = (dict(tree.contracts(crate)) for crate in (EXPORTED, LINKED))
+        for name in sorted(set(said) | set(linked)):
+            self.holds(said.get(name) == linked.get(name), f"{EXPORTED}::{name} does not promise what {LINKED}::{name} does")
         for name, roots in calls:
             self.holds(any(kind == "item" for (kind, _), _ in roots), f"{name} has no contract that names a definition")
         base = [r for name, roots in calls if not APART.search(name) for r in roots]
@@ -586,10 +599,10 @@ class Belief:
         """What stands in specs/ has a user: another definition of its file, or a file that imports it."""
         used = self.tree.used()
         for file in self.tree.spec_files():
-            rows = [set(TOKEN.findall(uncommented(line))) for line in file.text.splitlines()]
+            rows = [{w.partition(".")[0] for w in TOKEN.findall(uncommented(line))} for line in file.text.splitlines()]
             for item in file.items:
-                word = item.name.strip("_")
-                own = any({word, word + "."} & words for number, words in enumerate(rows, 1) if number not in item.rows)
+                word = item.name.strip("◌")
+                own = any(word in words for number, words in enumerate(rows, 1) if number not in item.rows)
                 self.holds(own or (file.crate, file.name, item.name) in used, f"{item.label()} has no user")
 
     def check_reached(self):
@@ -607,7 +620,7 @@ class Belief:
     def check_needed(self):
         """A file of specs/ that is not believed is there for other crates, or for contracts, or for such a file."""
         tree, needed = self.tree, set()
-        keys = {(f.crate, "specs", f.name) for f in tree.spec_files()}
+        keys = {(f.crate, f.folder, f.name) for f in tree.spec_files()}
         while True:
             more = {k for k in keys - needed
                     if any(c != k[0] or folder == "src" or (c, folder, n) in needed for c, folder, n in tree.importers.get(k, ()))}
@@ -616,7 +629,7 @@ class Belief:
             needed |= more
         for file in tree.spec_files():
             if file.mark != "Believed":
-                self.holds((file.crate, "specs", file.name) in needed, f"{file.path()}: no other crate and no contract imports it, so its place is proofs/")
+                self.holds((file.crate, file.folder, file.name) in needed, f"{file.path()}: no other crate and no contract imports it, so its place is proofs/, without a mark")
 
     def check_theorems(self):
         for file in self.tree.theorem_files():

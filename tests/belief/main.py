@@ -24,11 +24,12 @@ def move(source, target, name):
         with open(os.path.join(root, source), encoding="utf-8") as file:
             text = file.read()
         here = File(crate, "specs", "", text)
+        folder = target.split("/")[2]
         lines, rows = text.splitlines(keepends=True), sorted(here.owner[name][-1].rows)
         cut = "".join(lines[row - 1] for row in rows)
         module = os.path.basename(target).removesuffix(".antt")
         with open(os.path.join(root, source), "w", encoding="utf-8") as file:
-            file.write(text.replace(cut, "").replace("\nuse ", f"\nuse Rattle·{crate}·specs.specs.{module}.{{{name}}}\nuse ", 1))
+            file.write(text.replace(cut, "").replace("\nuse ", f"\nuse Rattle.{crate}.{folder}.{module}.{{{name}}}\nuse ", 1))
         append(target, "\n" + cut)(root)
     return edit
 
@@ -51,22 +52,23 @@ def replace(path, old, new):
 
 
 BROKEN_CRATE = "soundness_rules"
+LAWS = next((path for path in (f"crates/{BROKEN_CRATE}/{folder}/Laws.antt" for folder in ("specs", "proofs")) if os.path.exists(path)), "")
 BROKEN = (
-    ("a believed definition moved to a file of laws", move("crates/soundness_rules/specs/Sound.antt", "crates/soundness_rules/specs/Laws.antt", "drawnFrom"),
-     "drawnFrom", "soundness_rules/Laws: drawnFrom is believed .* stands in a file that is laws"),
+    ("a believed definition moved to a file of laws", move("crates/soundness_rules/specs/Sound.antt", LAWS, "drawn_from"),
+     "drawn_from", "soundness_rules/Laws: drawn_from is believed .* stands in a file that is laws"),
     ("a lemma put into a believed file",
-     append("crates/soundness_rules/specs/Sound.antt", "\npub sound-once : (r : Register) → sound r ≡ sound r\nsound-once r = refl\n"),
-     "sound-once", "soundness_rules/Sound: sound-once is a lemma"),
+     append("crates/soundness_rules/specs/Sound.antt", "\npub sound_once : (r : Register) → sound r ≡ sound r\nsound_once r = refl\n"),
+     "sound_once", "soundness_rules/Sound: sound_once is a lemma"),
     ("a definition that nothing reaches put into a believed file",
      append("crates/soundness_rules/specs/Sound.antt", "\npub unsound : Register → Bool\nunsound r = not (sound r)\n"),
      "unsound", "soundness_rules/Sound: unsound stands in a believed file, and nothing reaches it"),
-    ("a law that nothing uses", append("crates/soundness_rules/specs/Laws.antt", "\npub sound-twice : (r : Register) → sound r ≡ sound r\nsound-twice r = refl\n"),
-     "sound-twice", "soundness_rules/Laws: sound-twice has no user"),
-    ("a name that stands twice", append("crates/soundness_rules/specs/Laws.antt", "\ndrawnFrom : ℕ\ndrawnFrom = 0\n"),
-     "drawnFrom", "drawnFrom stands more than once in specs/: soundness_rules/"),
+    ("a law that nothing uses", append(LAWS, "\npub sound_twice : (r : Register) → sound r ≡ sound r\nsound_twice r = refl\n"),
+     "sound_twice", "soundness_rules/Laws: sound_twice has no user"),
+    ("a name that stands twice", append(LAWS, "\ndrawn_from : ℕ\ndrawn_from = 0\n"),
+     "drawn_from", "drawn_from stands more than once in specs/: soundness_rules/"),
     ("a rule that names what does not stand", append(RULES, "\n`soundness_rules/Sound: soundly`\n"),
      "soundly", "names `soundness_rules/Sound: soundly`, which does not stand there"),
-    ("a rule with neither theorem nor case", replace(RULES, "`verdict_printing/Cases: json-printed-stopped`", "–"),
+    ("a rule with neither theorem nor case", replace(RULES, "`verdict_printing/Cases: json_printed_stopped`", "–"),
      "rule 46", "rule 46 has neither theorem nor case"),
     ("a decision that names what is gone", append(DECISIONS, "\n`withdrawing::withdrawal`\n"),
      "withdrawing::withdrawal", "names `withdrawing::withdrawal`, which stands nowhere"),

@@ -1,10 +1,10 @@
 """The papers, held to what they speak of.
 
-docs/RULES.md names a definition, a theorem or a case, in backticks, as `crate/File: name` (`soundness_rules/Sound: drawnFrom`), several with commas
-between, and a file alone as `crate/File`; files of theorems and cases stand in proofs/, the others in specs/. The word crate itself stands for any. A rule
-is its words and below them one line of four parts, `definition · theorem · case · run`, with `–` for none; it has a definition, a run, and a theorem or
-a case. What runs it is a folder below tests/cases, as `cases/name`, the beginning of a line that tests/calls prints, in quotes, or what else stands in
-backticks.
+docs/RULES.md names a definition, a theorem or a case, in backticks, as `crate/File: name` (`soundness_rules/Sound: drawn_from`), several with commas
+between, and a file alone as `crate/File`; files of theorems and cases stand in proofs/, the others in specs/ (laws in either). The word crate itself
+stands for any. A rule is its words and below them one line of four parts, `definition · theorem · case · run`, with `–` for none; it has a
+definition, a run, and a theorem or a case. What runs it is a folder below tests/cases, as `cases/name`, the beginning of a line that tests/calls
+prints, in quotes, or what else stands in backticks.
 
 A name in backticks in README.md, docs/RULES.md, docs/DECISIONS.md, docs/AUDIT.md and docs/CONTRACTS.md is that of something: a definition or what one
 imports, a word of the code, of the header or of the texts, a crate or one of its edits, `crate::call`, `Type::member`, or a file.
@@ -26,13 +26,13 @@ RULE = re.compile(r"^(\d+)\. \*\*.*(?:\n +.*)*", re.M)
 DEFINED = re.compile(r"^ *(?:(?:abbrev|unfoldable|pub) )*([^\s:(){}]+) :", re.M)
 MADE = re.compile(r"^(?:pub )?(?:record|data) (\S+)", re.M)
 IMPORTED = re.compile(r"^(?:ghost )?use [^\s{}]+\.\{([^}]*)\}", re.M)
-SIGNS = {"module", "record", "data", "let", "now", "entry", "exit", "abbrev", "unfoldable", "suc", "Unit", "search"}
+SIGNS = {"module", "record", "data", "let", "now", "old", "new", "result", "abbrev", "unfoldable", "suc", "Unit", "search"}
 APART = {".git", "target", "__pycache__"}
 
 
 def file_of(tree, crate, name):
     folder = "proofs" if name.startswith(("Theorems", "Cases")) else "specs"
-    return tree.files.get((crate, folder, name)) or tree.hidden(crate, folder, name)
+    return tree.files.get((crate, folder, name)) or tree.hidden(crate, folder, name) or tree.files.get((crate, "proofs", name))
 
 
 def rules(belief):
@@ -98,7 +98,7 @@ def known(belief):
         names |= code[crate]
         names |= {os.path.basename(edit).removesuffix(".edit") for edit in tree.read_all(f"crates/{crate}/must-fail", ".edit")}
     names |= set(re.findall(r"\w+", re.sub(r"/\*.*?\*/", "", belief.whole(HEADER), flags=re.S)))
-    return names | {name.strip("_") for name in names} | files_of(belief.repository), code
+    return names | {name.strip("◌") for name in names} | files_of(belief.repository), code
 
 
 @functools.lru_cache(maxsize=None)
@@ -145,7 +145,7 @@ def table_of(text, name):
 def wording(belief):
     """The words of a refusal and of a kind of violation are said once, and repeated as they are."""
     words = belief.tree.read(WORDS)
-    refusals, violations = table_of(words, "refusalTexts"), table_of(words, "violationTexts")
+    refusals, violations = table_of(words, "refusal_texts"), table_of(words, "violation_texts")
     portal, header = belief.tree.read(PORTAL), belief.whole(HEADER)
     said = {row[0]: row[1:] for row in re.findall(r"^#define (GUVRENDIK_\w+) (\d+) +/\* (.*?) \*/", re.sub(r"\n +\* ", " ", header), re.M)}
     for paper, text, table in ((RULES, belief.tree.read(RULES).partition("\n## 3.")[2].partition("\n## 4.")[0], refusals),

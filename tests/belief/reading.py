@@ -10,14 +10,14 @@ from closure import APART, EXPORTED, lines_of
 
 BASE = "base"
 DEMANDS = {
-    "1": (("refusals", "Theorems", ("number-same", "first-decides")),
-          ("history", "Theorems", ("refused-register", "refused-removed")),
-          ("register_writing", "Theorems", ("text-unwritten", "register-unwritten")),
-          ("json_writing", "Theorems", ("json-unwritten",)),
-          ("answers", "Theorems", ("accepted-alone", "permitted-alone", "agreed-alone", "outcome-zero-clash", "decision-zero-clash"))),
+    "1": (("refusals", "Theorems", ("number_same", "first_decides")),
+          ("history", "Theorems", ("refused_register", "refused_removed")),
+          ("register_writing", "Theorems", ("text_unwritten", "register_unwritten")),
+          ("json_writing", "Theorems", ("json_unwritten",)),
+          ("answers", "Theorems", ("accepted_alone", "permitted_alone", "agreed_alone", "outcome_zero_clash", "decision_zero_clash"))),
     "2": (BASE,
-          ("text_rules", "Theorems", ("register-accepted", "accepted-register", "register-read-written", "register-written-read", "register-one-text",
-                                      "text-one-register"))),
+          ("text_rules", "Theorems", ("register_accepted", "accepted_register", "register_read_written", "register_written_read", "register_one_text",
+                                      "text_one_register"))),
     "3": (("history", "Theorems", ("history",)),),
 }
 
@@ -81,7 +81,7 @@ def declared(tree, crate, name):
 
 def equations(lines):
     """A contract as a page has it: the call with the names that it takes, and what it says, a line each."""
-    head, says = "".join(lines).partition("ensures")[0], [re.fullmatch(r"\s*ensures ?\w* ?\{ λ \S+\. ⌜ (.*) ⌝ \}", line) for line in lines]
+    head, says = "".join(lines).partition("ensures")[0], [re.fullmatch(r"\s*ensures ?\w* \{ (.*) \}", line) for line in lines]
     name, taken = re.search(r"fn (\w+)\((.*)\)", head).groups()
     yield name + "(" + ", ".join(re.findall(r"\b(\w+): ", taken)) + ")"
     for found in filter(None, says):

@@ -4,7 +4,7 @@
 # A copy without anything that was built, which anybody may read.
 copy=$room/copy
 mkdir "$copy" && chmod 755 "$room" "$copy"
-tar -c --exclude=target --exclude=build --exclude=.git . | tar -x -C "$copy"
+tar -c --exclude=target --exclude=build --exclude=.git --exclude='./crates/*/out' . | tar -x -C "$copy"
 # Not as root, who reads every file.
 person=()
 if [ "$(id -u)" = 0 ] && command -v setpriv >/dev/null; then person=(setpriv --reuid=65534 --regid=65534 --clear-groups); fi

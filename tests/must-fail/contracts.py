@@ -1,7 +1,8 @@
 """Writes docs/CONTRACTS.md to standard output: up to and with the line that begins with BELOW it is kept as it stands, what comes behind it is made
-of the crates, in the order of crates.txt: the contract of each public call of src/lib.rt and of the modules that it hands on, the comment of each
-theorem of proofs/Theorems*.antt, and the first line of each must-fail edit. It fails for a public call that asks something of its caller or has no
-contract, unless the kept part names it as `crate::call`, for a theorem without comment and for an edit without first line.
+of the crates, in the order of crates.txt: the contract of each public call of src/lib.rt and of the modules that it hands on (of calls that an
+earlier crate has with the same contract, only how many they are), the comment of each theorem of proofs/Theorems*.antt, and the first line of each
+must-fail edit. It fails for a public call that asks something of its caller or has no contract, unless the kept part names it as `crate::call`, for
+a theorem without comment and for an edit without first line.
 """
 import glob
 import os
@@ -16,6 +17,7 @@ CALL = re.compile(r'^( *)pub (?:extern "C" )?fn (\w+)(?:<[^>]*>)?\((.*?)(?:^\1| 
 WITHIN = re.compile(r"^impl (\w+) \{(.*?)^\}", re.M | re.S)
 THEOREM = re.compile(r"((?:^ *--[^\n]*\n)*)^ *pub ([^\s:]+) :", re.M)
 faults = []
+told = {}
 
 
 def read(path):
@@ -68,11 +70,14 @@ def sources(crate):
 
 
 def calls(crate, kept):
+    again = {}
     for text, handed in sources(crate):
-        yield from calls_of(crate, kept, text, handed)
+        yield from calls_of(crate, kept, text, handed, again)
+    for other, count in again.items():
+        yield entry(f"{count} calls of `{other}`, each with the contract that it has there.")
 
 
-def calls_of(crate, kept, text, handed):
+def calls_of(crate, kept, text, handed, again):
     spans = [(found.start(), found.end(), found.group(1)) for found in WITHIN.finditer(text)]
     for found in CALL.finditer(text):
         _, name, rest = found.groups()
@@ -85,6 +90,10 @@ def calls_of(crate, kept, text, handed):
             faults.append(f"{crate}::{name} asks something of its caller, and {PAGE} does not name it as an exception")
         if not parts and f"`{crate}::{name}`" not in kept:
             faults.append(f"{crate}::{name} has no contract, and {PAGE} does not name it as an exception")
+        key = (owner, name, " ".join(rest.split()))
+        if parts and told.setdefault(key, crate) != crate:
+            again[told[key]] = again.get(told[key], 0) + 1
+            continue
         yield entry(f"`{owner}{name}({parameters(taken)})`: {said}")
         for part in parts or ["no contract: see the exceptions"]:
             yield entry(part, 1)
@@ -122,7 +131,7 @@ def page():
     if not below:
         faults.append(f"{PAGE} has no line that begins with {BELOW}")
     yield kept + below + ", from the crates' `src`, `Theorems` and edits.\n"
-    for crate in re.findall(r"^(\w+):", read("crates.txt"), re.M):
+    for crate in re.findall(r"^(\w+)(?: \w+)*:", read("crates.txt"), re.M):
         if os.path.exists(f"crates/{crate}/src/lib.rt"):
             yield from section(crate, kept)
 

@@ -1,5 +1,7 @@
 // An action read from a lent text of any length and content.
 // In one pass: the first failing line decides.
+#![tactic(auto)]
+
 ghost use Rattle.std.specs.Prelude.{◌≡◌, ◌++◌, ◌-◌, length, replicate};
 ghost use Rattle.actions.specs.Actions.{no_use, use_limit, govern_limit, no_action};
 ghost use Rattle.lines.specs.Answers.{state_of};
@@ -14,20 +16,20 @@ use rights::POLICY_MODIFY;
 use text_rules::{ActionRead, LAST_MOMENT};
 
 // What was read of a kind, and where the reading then stands.
-#[derive(Drop)]
+#[derive(Clone, Copy)]
 struct UseRead {
     usage: Usage,
     cursor: Cursor,
 }
 
-#[derive(Drop)]
+#[derive(Clone, Copy)]
 struct UsesRead {
     uses: [Usage; Action::USES],
     used: usize,
     cursor: Cursor,
 }
 
-#[derive(Drop)]
+#[derive(Clone, Copy)]
 struct GovernsRead {
     governs: [u32; Action::GOVERNED],
     governed: usize,
@@ -35,7 +37,7 @@ struct GovernsRead {
 }
 
 // The action that lines say, and where the reading then stands.
-#[derive(Drop)]
+#[derive(Clone, Copy)]
 pub struct ActionForm {
     pub action: Action,
     pub cursor: Cursor,

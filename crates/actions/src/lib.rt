@@ -1,6 +1,8 @@
 // What the gate and the plan are asked and answer, and whether an action is in range.
 // Every number of an action has a type that can say one out of range; entries past a count are
 // ignored. The structs that come in cross to C as they are; answers hold enums.
+#![tactic(auto)]
+
 mod numbers;
 mod ranges;
 
@@ -13,14 +15,14 @@ use refusals::{Outcome, Refusal};
 
 // A resource number with a right.
 #[repr(C)]
-#[derive(Drop)]
+#[derive(Clone, Copy)]
 pub struct Usage {
     pub resource: u32,
     pub right: u32,
 }
 
 #[repr(C)]
-#[derive(Drop)]
+#[derive(Clone, Copy)]
 pub struct Action {
     pub actor: u32,
     pub flags: u32,
@@ -43,7 +45,7 @@ impl Action {
 pub const FLAGS_LIMIT: u32 = 1023;
 
 #[repr(C)]
-#[derive(Drop)]
+#[derive(Clone, Copy)]
 pub struct Plan {
     pub actions: [Action; Plan::ACTIONS],
     pub count: usize,
@@ -54,7 +56,7 @@ impl Plan {
 }
 
 // Why an action is not permitted: the flag, actor or position that it is about.
-#[derive(Drop)]
+#[derive(Clone, Copy)]
 pub enum Violation {
     // 1: a flag is set.
     FlagSet(u32),
@@ -68,12 +70,12 @@ pub enum Violation {
     OwnerNotCovering(u32),
 }
 
-#[derive(Drop)]
+#[derive(Clone, Copy)]
 pub struct Violated {
     pub what: Violation,
 }
 
-#[derive(Drop)]
+#[derive(Clone, Copy)]
 pub struct Violations {
     pub list: [Violated; Violations::MOST],
     pub count: usize,
@@ -84,7 +86,7 @@ impl Violations {
     pub const MOST: usize = 51;
 }
 
-#[derive(Drop)]
+#[derive(Clone, Copy)]
 pub enum Decision {
     Permitted,
     Refused,
@@ -92,7 +94,7 @@ pub enum Decision {
 }
 
 // The answer of the gate: past the counts, flag 0 and hop count 0.
-#[derive(Drop)]
+#[derive(Clone, Copy)]
 pub struct Verdict {
     pub decision: Decision,
     pub violations: Violations,
@@ -100,7 +102,7 @@ pub struct Verdict {
 }
 
 // The verdict on an action of a plan.
-#[derive(Drop)]
+#[derive(Clone, Copy)]
 pub enum Judgement {
     // 1: no violations.
     Permitted,
@@ -110,13 +112,13 @@ pub enum Judgement {
     Cancelled,
 }
 
-#[derive(Drop)]
+#[derive(Clone, Copy)]
 pub struct Judged {
     pub what: Judgement,
 }
 
 // The answer for a plan: past the count, permitted. A stopped plan has no verdicts, and the position of the action that stopped it.
-#[derive(Drop)]
+#[derive(Clone, Copy)]
 pub struct PlanVerdict {
     pub outcome: Outcome,
     pub position: usize,

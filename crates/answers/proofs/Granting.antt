@@ -8,7 +8,7 @@ use Rattle.register.specs.Limits.{claim_limit}
 use Rattle.register.specs.declared.Claim.{Claim}
 use Rattle.register.specs.declared.Register.{Register}
 use Rattle.refusals.specs.Refusals.{is_accepted}
-use Rattle.refusals.specs.Laws.{outcome_cases}
+use Rattle.refusals.proofs.Laws.{outcome_cases}
 use Rattle.refusals.specs.declared.Outcome.{Outcome}
 use Rattle.answers.specs.Answers.{accepted_number, refusal_number}
 use Rattle.answers.specs.Laws.{granted_answer}

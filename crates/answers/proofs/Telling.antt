@@ -1,7 +1,7 @@
 -- What the numbers of an exported answer tell, answer by answer. Assumes nothing.
 use mathlib.Core.Path.{◌≡◌, refl}
 use native.Mathlib.Omega.{arith}
-use Rattle.refusals.specs.Laws.{number_bounds}
+use Rattle.refusals.proofs.Laws.{number_bounds}
 use Rattle.refusals.specs.declared.Outcome.{Outcome}
 use Rattle.refusals.specs.declared.Refusal.{Refusal}
 use Rattle.refusals.specs.declared.Outcome.TheVariants.{Accepted, Refused as RefusedFor}

@@ -1,14 +1,14 @@
 -- Laws: An answer put together from numbers that are each the inner answer's is the answer that the inner one is told by. Assumes nothing.
 use Rattle.std.specs.Prelude.{◌≡◌, true, ◌&&◌, cond, List, ℕ, ltb}
 use Rattle.std.proofs.Common.{sym}
-use Rattle.paths.specs.Containment.{reach_between, contained, is_inside, length_of}
-use Rattle.paths.specs.Laws.{reach_told}
+use Rattle.paths.specs.Containment.{reach_between, is_inside, length_of}
+use Rattle.paths.proofs.Laws.{reach_told}
 use Rattle.paths.specs.declared.Reach.{Reach}
 use Rattle.register.specs.Limits.{claim_limit}
 use Rattle.register.specs.declared.Claim.{Claim}
 use Rattle.register.specs.declared.Register.{Register}
 use Rattle.refusals.specs.Refusals.{outcome_of, is_accepted}
-use Rattle.refusals.specs.Laws.{outcome_cases, outcome_first}
+use Rattle.refusals.proofs.Laws.{outcome_cases, outcome_first}
 use Rattle.refusals.specs.declared.Outcome.{Outcome}
 use Rattle.refusals.specs.declared.Outcome.TheVariants.{Accepted}
 use Rattle.change_rules.specs.Changes.{world_tests, grant_tests, appended, granted, Withdrawal, withdraw_tests, withdrawn}

@@ -1,6 +1,8 @@
 // The answers that cross to the portal, as structs of numbers.
 // They have no bytes between or behind their fields. Here is what gives the numbers of an inner
 // answer. No call asks anything of its caller, and no answer whose numbers are all zero is a yes.
+#![tactic(auto)]
+
 ghost use Rattle.std.specs.Prelude.{◌≡◌};
 ghost use Rattle.answers.specs.Answers.{yes_number, accepted_number, refusal_number, proposal_answer, check_answer, decision_number, stop_number, violation_numbers, violation_list, judgement_numbers, judgement_list, text_judgement_list, written_answer, version_numbers};
 ghost use Rattle.answers.specs.Laws.{containment_of, granted_answer, withdrawn_answer};
@@ -20,7 +22,7 @@ use withdrawing::Struck;
 
 // The answer of a containment: 1 for a yes, with the length of the trimmed outer path, which may be 0. Else zeros.
 #[repr(C)]
-#[derive(Drop)]
+#[derive(Clone, Copy)]
 pub struct Containment {
     pub contained: u64,
     pub length: usize,
@@ -28,7 +30,7 @@ pub struct Containment {
 
 // Whether a register is sound: 1 for a yes, 0 for a no.
 #[repr(C)]
-#[derive(Drop)]
+#[derive(Clone, Copy)]
 pub struct Soundness {
     pub sound: u32,
 }
@@ -36,7 +38,7 @@ pub struct Soundness {
 // The answer of a grant: accepted is 1, with the claim in the register. Else it is 0, with 01's number and the register as it came. The register's
 // parts lie in it as they do in a register, the list of claims and their count by name, so that the claim is stored once.
 #[repr(C)]
-#[derive(Drop)]
+#[derive(Clone, Copy)]
 pub struct GrantAnswer {
     pub actors: Actors,
     pub resources: Resources,
@@ -50,7 +52,7 @@ pub struct GrantAnswer {
 // The answer of a revocation or a clearing: accepted is 1, with how many claims went. Else it is 0, with 01's number and the register as it
 // came.
 #[repr(C)]
-#[derive(Drop)]
+#[derive(Clone, Copy)]
 pub struct RevokeAnswer {
     pub state: Register,
     pub accepted: u32,
@@ -60,7 +62,7 @@ pub struct RevokeAnswer {
 
 // 01's number of a violation's kind, and the flag, actor or position that it is about.
 #[repr(C)]
-#[derive(Drop)]
+#[derive(Clone, Copy)]
 pub struct ViolationNumbers {
     pub kind: u32,
     pub value: u32,
@@ -68,7 +70,7 @@ pub struct ViolationNumbers {
 
 // The answer of the gate: permitted is 1, refused is 2 with the violations, stopped is 3 with 01's number. Past the counts, zeros.
 #[repr(C)]
-#[derive(Drop)]
+#[derive(Clone, Copy)]
 pub struct GateAnswer {
     pub decision: u32,
     pub refusal: u32,
@@ -79,7 +81,7 @@ pub struct GateAnswer {
 
 // The answer of the planner: accepted is 1, with a proposal. Else it is 0, with 01's number and a proposal of zeros, which is of neither kind.
 #[repr(C)]
-#[derive(Drop)]
+#[derive(Clone, Copy)]
 pub struct ProposalAnswer {
     pub proposal: Proposal,
     pub accepted: u32,
@@ -88,7 +90,7 @@ pub struct ProposalAnswer {
 
 // The answer of the check of a proposal: 1 where it passes, 2 where it does not, 3 where a test stopped the call, with 01's number.
 #[repr(C)]
-#[derive(Drop)]
+#[derive(Clone, Copy)]
 pub struct CheckAnswer {
     pub answer: u32,
     pub refusal: u32,
@@ -96,7 +98,7 @@ pub struct CheckAnswer {
 
 // The verdict on an action of a plan: permitted is 1, refused is 2 with its number of violations, cancelled is 4.
 #[repr(C)]
-#[derive(Drop)]
+#[derive(Clone, Copy)]
 pub struct JudgementNumbers {
     pub decision: u32,
     pub violations: u32,
@@ -105,7 +107,7 @@ pub struct JudgementNumbers {
 // The answer for a plan: accepted is 1, with a verdict to each action. Else it is 0, with 01's number and the position of the action that
 // stopped the plan. Past the count, zeros.
 #[repr(C)]
-#[derive(Drop)]
+#[derive(Clone, Copy)]
 pub struct PlanAnswer {
     pub accepted: u32,
     pub refusal: u32,
@@ -117,7 +119,7 @@ pub struct PlanAnswer {
 // The answer for a plan text: accepted is 1, with a verdict to each action in reading order. Else it is 0, with 01's or 02's number, the failing
 // line of the text from 1, or the position of the action that stopped the plan. Past the count, zeros.
 #[repr(C)]
-#[derive(Drop)]
+#[derive(Clone, Copy)]
 pub struct PlanTextAnswer {
     pub accepted: u32,
     pub refusal: u32,
@@ -130,7 +132,7 @@ pub struct PlanTextAnswer {
 // The answer of a reading of a register's text: accepted is 1, with the register and line 0. Else it is 0, with 01's number, the empty
 // register, and the failing line from 1, or 0 where the register is not sound.
 #[repr(C)]
-#[derive(Drop)]
+#[derive(Clone, Copy)]
 pub struct RegisterAnswer {
     pub state: Register,
     pub accepted: u32,
@@ -141,7 +143,7 @@ pub struct RegisterAnswer {
 // The answer of a reading of an action's text: accepted is 1, with the action and line 0. Else it is 0, with 01's number, the action of all
 // zeros and the failing line from 1.
 #[repr(C)]
-#[derive(Drop)]
+#[derive(Clone, Copy)]
 pub struct ActionAnswer {
     pub action: Action,
     pub accepted: u32,
@@ -152,7 +154,7 @@ pub struct ActionAnswer {
 // The answer of a reading of a JSON action: accepted is 1, with the action, its kind and its id, zeros behind it. Else it is 0, with 01's
 // number, the action of all zeros, no id, and kind 0.
 #[repr(C)]
-#[derive(Drop)]
+#[derive(Clone, Copy)]
 pub struct JsonAnswer {
     pub action: Action,
     pub accepted: u32,
@@ -164,7 +166,7 @@ pub struct JsonAnswer {
 
 // The answer of a writing: accepted is 1, with the length of the text. Else it is 0, with 01's number and length 0.
 #[repr(C)]
-#[derive(Drop)]
+#[derive(Clone, Copy)]
 pub struct WrittenAnswer {
     pub accepted: u32,
     pub refusal: u32,
@@ -173,14 +175,14 @@ pub struct WrittenAnswer {
 
 // A fingerprint by itself: C passes no array by value.
 #[repr(C)]
-#[derive(Drop)]
+#[derive(Clone, Copy)]
 pub struct Fingerprint {
     pub bytes: [u8; Entry::BYTES],
 }
 
 // The answer of an attach: accepted is 1, with the entry in the book. Else it is 0, with 02's number and the book as it came.
 #[repr(C)]
-#[derive(Drop)]
+#[derive(Clone, Copy)]
 pub struct AttachAnswer {
     pub book: Book,
     pub accepted: u32,
@@ -189,7 +191,7 @@ pub struct AttachAnswer {
 
 // The answer of a fetch: accepted is 1, with the fingerprint. Else it is 0, with 02's number and 32 zeros.
 #[repr(C)]
-#[derive(Drop)]
+#[derive(Clone, Copy)]
 pub struct FetchAnswer {
     pub fingerprint: Fingerprint,
     pub accepted: u32,
@@ -198,7 +200,7 @@ pub struct FetchAnswer {
 
 // The answer to who may make a use: accepted is 1, with their ids in register order. Else it is 0, with 01's number. Past the count, zeros.
 #[repr(C)]
-#[derive(Drop)]
+#[derive(Clone, Copy)]
 pub struct HoldersAnswer {
     pub accepted: u32,
     pub refusal: u32,
@@ -209,7 +211,7 @@ pub struct HoldersAnswer {
 // The answer with a cover table: accepted is 1, with the owner that is asked, the hop count and the state of each claim, and the cells of the
 // actor and of its owner. Else it is 0, with 01's number, and nothing is shown.
 #[repr(C)]
-#[derive(Drop)]
+#[derive(Clone, Copy)]
 pub struct TableAnswer {
     pub accepted: u32,
     pub refusal: u32,
@@ -223,7 +225,7 @@ pub struct TableAnswer {
 // The answer to why an actor may make a use or may not: accepted is 1, with the actor's reason and, of a machine with an owner, his number and his
 // reason. Else it is 0, with 01's number and zeros.
 #[repr(C)]
-#[derive(Drop)]
+#[derive(Clone, Copy)]
 pub struct UseReasonAnswer {
     pub accepted: u32,
     pub refusal: u32,
@@ -234,7 +236,7 @@ pub struct UseReasonAnswer {
 
 // The version of the calls: another first number where a caller must be changed or compiled anew, another second one where a call is new.
 #[repr(C)]
-#[derive(Drop)]
+#[derive(Clone, Copy)]
 pub struct VersionNumbers {
     pub major: u32,
     pub minor: u32,

@@ -5,7 +5,6 @@ use mathlib.Core.Bool.{true, false, not, ◌&&◌}
 use mathlib.Core.List.{List, [], ◌∷◌, ◌++◌, map, map-append, append-nil}
 use Prim.Native.Nat.{ℕ, zero, suc, ◌+◌, ◌-◌, ◌≤◌, ◌<◌, min}
 use native.Mathlib.Numerals.{add-one}
-use native.Mathlib.Nat.{sub-zero}
 use native.Mathlib.Omega.{arith}
 use borrow.Author.Tests.{eq-eqb, eqb-true, leb-true, not-true}
 use lib.Dec.{eqb, leb}
@@ -20,11 +19,11 @@ use Rattle.register.specs.Limits.{claim_limit}
 use Rattle.columns.specs.Columns.{latest_place}
 use Rattle.columns.specs.declared.Place.TheVariants.{At, Nowhere}
 use Rattle.columns.specs.Laws.{place_cases, place_found_lem, nowhere_none}
-use Rattle.lookup.specs.Finding.{place_number, places_of, places_found}
+use Rattle.lookup.specs.Finding.{place_number, places_found}
 use Rattle.lookup.specs.Laws.{places_at}
 use Rattle.lookup.specs.declared.Found.{Found}
 use Rattle.fingerprints.specs.Fingerprints.{place_limit, zeros, entry, entries_of, is_for, entry_place, book_fits}
-use Rattle.fingerprints.specs.Laws.{entry_hit, entry_miss, entry_none}
+use Rattle.fingerprints.proofs.Laws.{entry_hit, entry_miss, entry_none}
 use Rattle.fingerprints.specs.declared.Entry.{Entry}
 use Rattle.fingerprints.specs.declared.Book.{Book}
 use Rattle.attaching.specs.Spots.{entry_spot}

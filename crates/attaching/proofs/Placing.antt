@@ -1,24 +1,22 @@
 -- An attach and a fetch by the place of an entry are those of 02's words, where the tests that both begin with are passed. Assumes nothing.
-use mathlib.Core.Path.{◌≡◌, refl, ap, sym, ◌∙◌}
-use mathlib.Core.Bool.{Bool, true, false, ◌||◌, cond}
-use mathlib.Core.List.{List, [], ◌∷◌, ◌++◌}
+use mathlib.Core.Path.{◌≡◌, ap, sym, ◌∙◌}
+use mathlib.Core.Bool.{true, false, ◌||◌}
+use mathlib.Core.List.{List, [], ◌∷◌}
 use Prim.Native.Nat.{ℕ, suc, ◌+◌, ◌<◌, ◌≤◌, min}
 use native.Mathlib.Omega.{arith}
-use borrow.Author.Tests.{lt-ltb, le-ltb, eq-eqb, ne_eqb, ltb-true, ltb-false, leb-true}
-use lib.Dec.{eqb, leb, ltb}
-use lib.ListN.{length, get_or, set, take}
+use borrow.Author.Tests.{lt-ltb, le-ltb, eq-eqb, ne_eqb, ltb-true, ltb-false}
+use lib.Dec.{ltb}
+use lib.ListN.{length, get_or, set}
 use lib.Seq.{get_or-take}
-use Rattle.lists.specs.Tests.{cases, and_left}
-use Rattle.lists.specs.Lists.{distinct}
+use Rattle.lists.specs.Tests.{cases}
 use Rattle.register.specs.declared.Register.{Register}
-use Rattle.refusals.specs.Refusals.{Test, outcome_of}
-use Rattle.refusals.specs.Laws.{outcome_pass, outcome_fail, outcome_nil, outcome_append, outcome_append_refused}
+use Rattle.refusals.specs.Refusals.{outcome_of}
+use Rattle.refusals.proofs.Laws.{outcome_pass, outcome_fail, outcome_nil, outcome_append, outcome_append_refused}
 use Rattle.refusals.specs.declared.Refusal.{Refusal}
 use Rattle.refusals.specs.declared.Refusal.TheVariants.{NoEntry, BookFull}
 use Rattle.refusals.specs.declared.Outcome.TheVariants.{Accepted, Refused}
-use Rattle.gate_rules.specs.Gate.{first_of}
-use Rattle.fingerprints.specs.Fingerprints.{place_limit, zeros, entry, entries_of, is_for, entry_for, has_entry, entry_place, book_fits, attaching, fetching, book_tests, room_test, entry_test, attach_tests, fetch_tests, with_entry, attached, first_print, fetched}
-use Rattle.fingerprints.specs.Laws.{entry_none, entry_below, entry_first, attached_accepted, attached_refused, fetched_accepted, fetched_refused}
+use Rattle.fingerprints.specs.Fingerprints.{place_limit, zeros, entry, entries_of, has_entry, entry_place, book_fits, attaching, fetching, book_tests, room_test, entry_test, attach_tests, fetch_tests, with_entry, attached, first_print, fetched}
+use Rattle.fingerprints.proofs.Laws.{entry_none, entry_below, entry_first, attached_accepted, attached_refused, fetched_accepted, fetched_refused}
 use Rattle.fingerprints.specs.declared.Entry.{Entry}
 use Rattle.fingerprints.specs.declared.Book.{Book}
 use Rattle.fingerprints.specs.declared.Fetched.{Fetched}

@@ -1,12 +1,12 @@
 -- What the tests that both calls begin with come to, by the gate's decision. Assumes nothing.
 use mathlib.Core.Path.{◌≡◌, refl, ap, sym, ◌∙◌}
 use mathlib.Core.Bool.{Bool, true, false}
-use mathlib.Core.List.{List, [], ◌∷◌, ◌++◌}
+use mathlib.Core.List.{[], ◌∷◌, ◌++◌}
 use Rattle.lists.specs.Each.{list_cases}
 use Rattle.register.specs.declared.Register.{Register}
 use Rattle.soundness_rules.specs.Sound.{sound}
 use Rattle.refusals.specs.Refusals.{Test, outcome_of}
-use Rattle.refusals.specs.Laws.{outcome_cases, outcome_pass, outcome_fail, outcome_nil, outcome_first, outcome_append, outcome_append_refused}
+use Rattle.refusals.proofs.Laws.{outcome_cases, outcome_pass, outcome_fail, outcome_nil, outcome_first, outcome_append, outcome_append_refused}
 use Rattle.refusals.specs.declared.Refusal.TheVariants.{Unsound, NotPermitted, BadBook}
 use Rattle.refusals.specs.declared.Outcome.{Outcome}
 use Rattle.refusals.specs.declared.Outcome.TheVariants.{Accepted, Refused}
@@ -14,9 +14,8 @@ use Rattle.actions.specs.Actions.{is_permitted}
 use Rattle.actions.specs.declared.Action.{Action}
 use Rattle.actions.specs.declared.Decision.{Decision}
 use Rattle.actions.specs.declared.Decision.TheVariants.{Permitted, Refused as Denied, Stopped}
-use Rattle.actions.specs.declared.Violation.{Violation}
 use Rattle.gate_rules.specs.Gate.{gated, violations_of, action_tests, gate_tests, decided}
-use Rattle.gate_rules.specs.Laws.{gated_stopped, gated_judged}
+use Rattle.gate_rules.proofs.Laws.{gated_stopped, gated_judged}
 use Rattle.fingerprints.specs.Fingerprints.{book_tests}
 
 -- the outcome by the decision

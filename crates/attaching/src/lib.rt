@@ -2,6 +2,8 @@
 // An attach is judged as the action of one use of WRITE, a fetch as that of one use of READ. The
 // register is examined once, and the gate judges by what is found. One look at the numbers of the
 // book tells whether they are distinct, and where the entry of the asked one stands.
+#![tactic(auto)]
+
 ghost use Rattle.std.specs.Prelude.{◌≡◌, map};
 ghost use Rattle.refusals.specs.Refusals.{outcome_of};
 ghost use Rattle.fingerprints.specs.Fingerprints.{entry, book_tests, attached, fetched};
@@ -13,7 +15,7 @@ use refusals::{Outcome, Refusal};
 use register::Register;
 
 // Whether a book fits, and the place of a number's entry: the count where it has none, 0 where the book does not fit.
-#[derive(Drop)]
+#[derive(Clone, Copy)]
 struct Spot {
     fits: bool,
     place: usize,

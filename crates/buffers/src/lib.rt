@@ -1,5 +1,7 @@
 // Bytes and lines put into a lent buffer, and a whole text delivered at its front.
 // What does not fit is not begun: the buffer is as it was.
+#![tactic(auto)]
+
 ghost use Rattle.std.specs.Prelude.{◌≡◌, ◌+◌, ◌≤◌, leb, length};
 ghost use Rattle.lists.specs.Lists.{splice};
 ghost use Rattle.decimals.specs.Decimals.{digits};
@@ -13,7 +15,7 @@ use refusals::{Outcome, Refusal};
 use register::Actor;
 
 // What was written into a lent buffer: the length of the text. Refused: 0.
-#[derive(Drop)]
+#[derive(Clone, Copy)]
 pub struct Written {
     pub outcome: Outcome,
     pub length: usize,

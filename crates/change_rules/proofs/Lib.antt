@@ -1,3 +1,4 @@
+pub mod Grants
 pub mod Sameness
 pub mod Sources
 pub mod Versions

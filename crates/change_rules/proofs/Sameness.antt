@@ -23,8 +23,8 @@ use Rattle.register.specs.declared.Claim.{Claim}
 use Rattle.register.specs.declared.Register.{Register}
 use Rattle.soundness_rules.specs.Sound.{fewer_left, stored}
 use Rattle.soundness_rules.specs.Struck.{struck, strike}
-use Rattle.soundness_rules.specs.Alike.{chain_bare, circling_bare, fresh_bare}
-use Rattle.soundness_rules.specs.Sameness.{world_of_same, sound_same}
+use Rattle.soundness_rules.proofs.Alike.{chain_bare, circling_bare, fresh_bare}
+use Rattle.soundness_rules.proofs.Sameness.{world_of_same, sound_same}
 use Rattle.refusals.specs.Refusals.{Test, outcome_of, is_accepted}
 use Rattle.refusals.specs.declared.Refusal.TheVariants.{NotHeld, NotLive, NoDelegate, RightLacking, WeightAbove, TooManyHops, Circle}
 use Rattle.change_rules.specs.Changes.{world_in, standing, source_live, parent_tests, world_tests, grant_tests, appended, granted, revoke_tests, clear_resource_tests, clear_expired_tests, unstruck, holding, Withdrawal, revoke, clear_resource, clear_expired, names, withdraw_tests, withdrawn}

@@ -9,8 +9,8 @@ use Rattle.register.specs.Chain.{chain, above, chain_of, current, live}
 use Rattle.register.specs.declared.Claim.{Claim}
 use Rattle.register.specs.declared.Register.{Register}
 use Rattle.soundness_rules.specs.Sound.{sound, sound_claims}
-use Rattle.soundness_rules.specs.Registers.{sound_out}
-use Rattle.soundness_rules.specs.Chains.{place_above, place_chain}
+use Rattle.soundness_rules.proofs.Registers.{sound_out}
+use Rattle.soundness_rules.proofs.Chains.{place_above, place_chain}
 use Rattle.change_rules.specs.Changes.{world_in, standing, source_live}
 
 -- asked of a parent and what is above it, it is that each of them is current

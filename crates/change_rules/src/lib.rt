@@ -1,18 +1,20 @@
 // What a grant or a withdrawal answers: definitions and theorems.
 // Here are the types, the register beside the outcome; in specs/ the definitions that the four
 // calls are proved to equal.
+#![tactic(auto)]
+
 use refusals::Outcome;
 use register::Register;
 
 // The answer of a grant. Refused: the register as it came.
-#[derive(Drop)]
+#[derive(Clone, Copy)]
 pub struct Granted {
     pub register: Register,
     pub outcome: Outcome,
 }
 
 // The answer of a withdrawal, which is a revocation or a clearing, with how many claims went. Refused: the register as it came, and none.
-#[derive(Drop)]
+#[derive(Clone, Copy)]
 pub struct Revoked {
     pub register: Register,
     pub outcome: Outcome,

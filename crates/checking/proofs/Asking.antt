@@ -17,9 +17,9 @@ use Rattle.actions.specs.declared.Action.{Action}
 use Rattle.actions.specs.declared.Violation.{Violation}
 use Rattle.actions.specs.declared.Decision.TheVariants.{Stopped}
 use Rattle.gate_rules.specs.Gate.{violations_of, action_tests, gate_tests, decided, gated}
-use Rattle.gate_rules.specs.Laws.{gated_stopped, gated_judged}
+use Rattle.gate_rules.proofs.Laws.{gated_stopped, gated_judged}
 use Rattle.proposals.specs.Proposals.{asks_fit, ask_tests, passing, checked_on, checked}
-use Rattle.proposals.specs.Exact.{asked_out, one_fits}
+use Rattle.proposals.proofs.Exact.{asked_out, one_fits}
 use Rattle.proposals.specs.declared.Signers.{Signers}
 use Rattle.proposals.specs.declared.Proposal.{Proposal}
 use Rattle.proposals.specs.declared.Checked.TheVariants.{Passes, Fails, Stopped as StoppedBy}

@@ -13,7 +13,7 @@ use Rattle.refusals.specs.Refusals.{is_accepted}
 use Rattle.refusals.specs.declared.Refusal.{Refusal}
 use Rattle.refusals.specs.declared.Outcome.TheVariants.{Accepted, Refused}
 use Rattle.change_rules.specs.Changes.{appended, granted}
-use Rattle.change_rules.specs.Grants.{grant_out}
+use Rattle.change_rules.proofs.Grants.{grant_out}
 use Rattle.granting.specs.Settled.{grant_outcome}
 use Rattle.actions.specs.Actions.{one_use, is_permitted}
 use Rattle.actions.specs.declared.Usage.{Usage}

@@ -1,6 +1,8 @@
 // The check of a proposal, whoever made it.
 // The tests of the call, then whether the proposal passes. It asks the gate of the one use and, for a grant, the grant and the gate of the
 // register that the grant leaves. It knows nothing of the planner.
+#![tactic(auto)]
+
 ghost use Rattle.std.specs.Prelude.{◌≡◌, ◌&&◌, ◌||◌, cond, ◌<◌, eqb};
 ghost use Rattle.register.specs.Limits.{claim_limit};
 ghost use Rattle.refusals.specs.declared.Refusal.TheVariants.{Range};

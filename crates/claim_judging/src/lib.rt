@@ -3,6 +3,8 @@
 // granted by the keeper (a), and what a machine may grant (c); the actors and resources are lent as
 // columns, or were looked up in them before. Over the claims before it, where it has a parent:
 // drawn from the parent (b), with fewer hands left (d) and no circle along the chain (e).
+#![tactic(auto)]
+
 mod alone;
 mod hands;
 mod over;

@@ -1,6 +1,8 @@
 // The register's numbers as columns, the claims' in one lent sheet.
 // Judgements over many claims look at columns that are lent to them, and copy nothing. Every call
 // answers for every column and count: past the end of a column there is nothing, and a number is 0.
+#![tactic(auto)]
+
 ghost use Rattle.std.specs.Prelude.{◌≡◌, ◌<◌, min, eqb, length, get_or, take};
 ghost use Rattle.lists.specs.Lists.{any};
 ghost use Rattle.register.specs.Limits.{claim_limit};
@@ -36,21 +38,21 @@ pub const LATE: usize = 8;
 pub const LEFT: usize = 9;
 
 // Where a number stands in a column.
-#[derive(Drop)]
+#[derive(Clone, Copy)]
 pub enum Place {
     At(usize),
     Nowhere,
 }
 
 // The number of steps up to the root, or that there is no root within the limit.
-#[derive(Drop)]
+#[derive(Clone, Copy)]
 pub enum Hops {
     Up(usize),
     Beyond,
 }
 
 // The columns of the actors: their ids are the names that claims and actions know them by.
-#[derive(Drop)]
+#[derive(Clone, Copy)]
 pub struct ActorColumns {
     pub names: [u32; Register::ACTORS],
     pub kinds: [u32; Register::ACTORS],
@@ -58,7 +60,7 @@ pub struct ActorColumns {
 }
 
 // The columns of the resources: their ids are the reports.
-#[derive(Drop)]
+#[derive(Clone, Copy)]
 pub struct ResourceColumns {
     pub reports: [u32; Register::RESOURCES],
     pub keepers: [u32; Register::RESOURCES],

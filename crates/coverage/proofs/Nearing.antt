@@ -1,32 +1,32 @@
 -- Whether a claim reaches a spot and how far, by the tests that the code makes, in their order: the first that fails decides. Assumes nothing.
 use mathlib.Core.Path.{◌≡◌, sym, ap, ◌∙◌}
-use mathlib.Core.Bool.{Bool, true, false, not, ◌&&◌, and-false}
+use mathlib.Core.Bool.{Bool, true, false, ◌&&◌, and-false}
 use mathlib.Core.List.{List}
 use Prim.Native.Nat.{ℕ, ◌≤◌, ◌<◌}
 use native.Mathlib.Omega.{arith}
-use borrow.Author.Tests.{lt-ltb, le-ltb, ltb-true, le-leb, lt-leb, not-true, not-false}
+use borrow.Author.Tests.{lt-ltb, le-ltb, ltb-true, le-leb, lt-leb}
 use lib.Dec.{ltb, leb}
 use lib.ListN.{length, get_or}
 use Rattle.lists.specs.Tests.{cases, and_right}
 use Rattle.rights.specs.Rights.{has_right}
 use Rattle.paths.specs.Containment.{reach_between}
-use Rattle.paths.specs.Laws.{reached_written}
+use Rattle.paths.proofs.Laws.{reached_written}
 use Rattle.paths.specs.declared.Reach.TheVariants.{Outside, Inside}
 use Rattle.register.specs.Limits.{resource_limit, path_limit}
 use Rattle.coverage.specs.Laid.{part_at}
 use Rattle.coverage.specs.LaidLaws.{part_length}
 use Rattle.coverage.specs.Coverage.{reaching, reach_at, reach_to, reach_from, short_at}
 
--- what was asked of the number at a place was asked of the column; the test is whether the right is missing
+-- what was asked of the number at a place was asked of the column; the test is whether it has the right
 module _ (right : ℕ) {n m : ℕ} (place : n ≡ m) {r : Bool} (asked : r ≡ has_right n right) where
   told_of_column : has_right m right ≡ r
   told_of_column = ap (λ k. has_right k right) (sym place) ∙ sym asked
 
-  pub right_missing : not r ≡ true → has_right m right ≡ false
-  right_missing told = told_of_column ∙ not-true r told
+  pub right_missing : r ≡ false → has_right m right ≡ false
+  right_missing told = told_of_column ∙ told
 
-  pub right_had : not r ≡ false → has_right m right ≡ true
-  right_had told = told_of_column ∙ not-false r told
+  pub right_had : r ≡ true → has_right m right ≡ true
+  right_had told = told_of_column ∙ told
 
 -- a no is no yes
 no_yes : {A : Type 0} (n : ℕ) → Outside ≡ Inside n → A

@@ -11,7 +11,7 @@ use Rattle.lists.specs.Tests.{cases}
 use Rattle.lists.specs.Lists.{every}
 use Rattle.register.specs.Limits.{claim_limit, moment_end}
 use Rattle.register.specs.Chain.{current, weighing}
-use Rattle.register.specs.Liveness.{above_unpast}
+use Rattle.register.proofs.Liveness.{above_unpast}
 use Rattle.columns.specs.Columns.{latest_place, chain_places, current_at}
 use Rattle.columns.specs.Laws.{place_cases, place_found_lem, chain_places_at, chain_places_nowhere}
 use Rattle.lookup.specs.Finding.{asked, earlier_places}
@@ -114,12 +114,12 @@ module _ (ids parents weights expiries : List ℕ) (n : ℕ) (few : n ≤ claim_
       rw (up, q, lt-ltb i k found.0, ends_at weights expiries ups k i found.0, chain_places_at ids parents k (get_or parents k 0) i other q) (known i found.0))
       (λ q. rw (up, q, le-ltb claim_limit k (omega arith), chain_places_nowhere ids parents k (get_or parents k 0) q) timely)
 
-  up_to : (bound k : ℕ) → k < bound → k < n → ltb moment (end k) ≡ lasts (k ∷ chain_places ids parents k (get_or parents k 0))
-  up_to zero k h inside = absurd (omega arith)
-  up_to (suc bound) k h inside =
+  up_to_each : (bound k : ℕ) → k < bound → k < n → ltb moment (end k) ≡ lasts (k ∷ chain_places ids parents k (get_or parents k 0))
+  up_to_each zero k h inside = absurd (omega arith)
+  up_to_each (suc bound) k h inside =
       under_natural moment (get_or weights k 0) (get_or expiries k 0) (cond (ltb (get_or ups k 0) k) (get_or (ends k) (get_or ups k 0) 0) moment_end)
-      ∙ ap (λ b. current_at weights expiries moment k && b) (source k inside (λ i before. up_to bound i (omega arith) (omega arith)))
+      ∙ ap (λ b. current_at weights expiries moment k && b) (source k inside (λ i before. up_to_each bound i (omega arith) (omega arith)))
 
   -- a moment is before the end of the claim at a place where every claim on its chain, by the places of its columns, is current
   pub end_lasts : (k : ℕ) → k < n → ltb moment (end k) ≡ lasts (k ∷ chain_places ids parents k (get_or parents k 0))
-  end_lasts k h = up_to (suc k) k (omega arith) h
+  end_lasts k h = up_to_each (suc k) k (omega arith) h

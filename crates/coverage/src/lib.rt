@@ -3,6 +3,8 @@
 // gathered once for an action; the paths laid one after the other, 64 bytes to a resource, so that
 // containment of any two is judged on parts of one lent column; and of the gathered claims that
 // cover a use the one whose path reaches furthest.
+#![tactic(auto)]
+
 mod gathering;
 mod laying;
 mod reaching;
@@ -16,7 +18,7 @@ use register::Register;
 pub const BYTES: usize = Register::RESOURCES * Register::PATH;
 
 // The places of the claims that can cover, in register order; 0 past the count.
-#[derive(Drop)]
+#[derive(Clone, Copy)]
 pub struct Gathered {
     pub places: [u16; Register::CLAIMS],
     pub count: usize,

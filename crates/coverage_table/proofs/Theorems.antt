@@ -18,9 +18,9 @@ use Rattle.gate_rules.specs.Gate.{covers, relied, hops_for, gated}
 use Rattle.gate_rules.specs.Plans.{planned}
 use Rattle.gate_rules.specs.Authority.{IsIn}
 use Rattle.coverage_table.specs.Table.{Remark, remark_on, paper_of, cover_table, looked_up, is_nothing, entry_claim, entry_hops, plainly_gated, plainly_planned}
-use Rattle.coverage_table.specs.Filling as filling
-use Rattle.coverage_table.specs.Uses as uses
-use Rattle.coverage_table.specs.Sameness as sameness
+use Rattle.coverage_table.proofs.Filling as filling
+use Rattle.coverage_table.proofs.Uses as uses
+use Rattle.coverage_table.proofs.Sameness as sameness
 
 -- 1. In a sound register the remark on a claim is its hop count and whether it is live, by its chain among all claims.
 pub remarks_natural : (r : Register) → sound r ≡ true → (moment x : ℕ)

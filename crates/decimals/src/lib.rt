@@ -1,10 +1,12 @@
 // Decimals without leading zeros, read from a slice at a position.
+#![tactic(auto)]
+
 ghost use Rattle.std.specs.Prelude.{◌≡◌, ◌-◌, ◌≤◌, length, drop};
 ghost use Rattle.decimals.specs.Decimals.{is_digit, digit_run, after, value, judge, parse};
 ghost use Rattle.decimals.specs.Answers.{Says};
 
 // What reading a number finds, with the position behind its digits.
-#[derive(Drop)]
+#[derive(Clone, Copy)]
 pub enum Number {
     Value(u32, usize),
     // A decimal above the limit, of any length.

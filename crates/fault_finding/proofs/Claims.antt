@@ -25,18 +25,18 @@ use Rattle.columns.specs.declared.Place.TheVariants.{At, Nowhere}
 use Rattle.lookup.specs.Finding.{earlier_places}
 use Rattle.lookup.specs.Walks.{up_from_natural}
 use Rattle.soundness_rules.specs.Sound.{World, world_of, sound, claim_fits, fewer_left}
-use Rattle.soundness_rules.specs.Registers.{sound_out}
-use Rattle.soundness_rules.specs.Places.{claim_numbered}
+use Rattle.soundness_rules.proofs.Registers.{sound_out}
+use Rattle.soundness_rules.proofs.Places.{claim_numbered}
 use Rattle.soundness.specs.Judged.{register_by}
 use Rattle.claim_judging.specs.Over.{hands_at}
 use Rattle.refusals.specs.Refusals.{Test, outcome_of}
-use Rattle.refusals.specs.Laws.{outcome_nil, outcome_pass, outcome_fail}
+use Rattle.refusals.proofs.Laws.{outcome_nil, outcome_pass, outcome_fail}
 use Rattle.refusals.specs.declared.Outcome.{Outcome}
 use Rattle.refusals.specs.declared.Outcome.TheVariants.{Accepted, Refused}
 use Rattle.refusals.specs.declared.Refusal.TheVariants.{Range, NoParent}
 use Rattle.granting.specs.Drawn.{told_tests, drawn_tests, chain_tests, world_tests_lem}
 use Rattle.faults.specs.Faults.{higher_tests, claim_tests}
-use Rattle.faults.specs.Claiming.{higher_nil, higher_tests_lem}
+use Rattle.faults.proofs.Claiming.{higher_nil, higher_tests_lem}
 use Rattle.fault_finding.specs.Asked.{higher_asked}
 
 -- without 11 the tests over a chain are those of the parent and the chain, the parent taken as live

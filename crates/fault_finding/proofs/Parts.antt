@@ -24,8 +24,8 @@ use Rattle.columns.specs.declared.ResourceColumns.{ResourceColumns}
 use Rattle.columns.specs.Sheet.{sheet_of}
 use Rattle.columns.specs.SheetLaws.{sheet_long, sheet_claims}
 use Rattle.soundness_rules.specs.Sound.{sound, human}
-use Rattle.soundness_rules.specs.Registers.{Within, sound_out}
-use Rattle.soundness_rules.specs.Places.{sound_claims_nil}
+use Rattle.soundness_rules.proofs.Registers.{Within, sound_out}
+use Rattle.soundness_rules.proofs.Places.{sound_claims_nil}
 use Rattle.soundness.specs.Judged.{register_by}
 use Rattle.soundness.specs.Laws.{register_same}
 use Rattle.refusals.specs.Refusals.{outcome_of, number_of}
@@ -36,8 +36,8 @@ use Rattle.text_rules.specs.Registers.{register_from}
 use Rattle.change_rules.specs.Changes.{world_in}
 use Rattle.faults.specs.Faults.{Broken, id_taken, actor_tests, resource_tests, claim_tests, FirstFault, no_fault, of_actor, of_resource, of_claim, fault_from, broken_actors, broken_resources, broken_claims, record_fault, first_fault, fault_numbers, fault_of}
 use Rattle.faults.specs.Unread.{why_unread}
-use Rattle.faults.specs.Faulting.{in_none}
-use Rattle.faults.specs.Telling.{people, none_passing, actors_in_lem, actors_out, resources_in, resources_out, claims_out, first_claims_in}
+use Rattle.faults.proofs.Faulting.{in_none}
+use Rattle.faults.proofs.Telling.{people, none_passing, actors_in_lem, actors_out, resources_in, resources_out, claims_out, first_claims_in}
 use Rattle.fault_finding.specs.Asked.{actor_asked, resource_asked, limits_fault, Turning}
 use Rattle.fault_finding.proofs.Walking.{taken_told, human_told}
 

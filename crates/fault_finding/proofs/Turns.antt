@@ -16,11 +16,11 @@ use Rattle.columns.specs.SheetLaws.{claims_in_length, claims_in_at}
 use Rattle.soundness_rules.specs.Sound.{sound, world_of}
 use Rattle.soundness.specs.Judged.{register_by, findings_by}
 use Rattle.refusals.specs.Refusals.{outcome_of}
-use Rattle.refusals.specs.Laws.{outcome_clash}
+use Rattle.refusals.proofs.Laws.{outcome_clash}
 use Rattle.refusals.specs.declared.Refusal.{Refusal}
 use Rattle.refusals.specs.declared.Outcome.TheVariants.{Accepted, Refused}
 use Rattle.faults.specs.Faults.{claim_tests, told_fault, fault_numbers, first_fault, fault_of, of_claim}
-use Rattle.faults.specs.Halving.{between_found}
+use Rattle.faults.proofs.Halving.{between_found}
 use Rattle.fault_finding.specs.Asked.{Turning}
 
 module _ (version : ℕ) (a : Actors) (o : Resources) (s : List ℕ) where

@@ -20,12 +20,12 @@ use Rattle.columns.specs.Laws.{among_natural, beside_natural, up_to_first}
 use Rattle.columns.specs.declared.ActorColumns.{ActorColumns}
 use Rattle.soundness_rules.specs.Sound.{human}
 use Rattle.refusals.specs.Refusals.{Test, outcome_of}
-use Rattle.refusals.specs.Laws.{outcome_nil, outcome_pass, outcome_fail}
+use Rattle.refusals.proofs.Laws.{outcome_nil, outcome_pass, outcome_fail}
 use Rattle.refusals.specs.declared.Refusal.{Refusal}
 use Rattle.refusals.specs.declared.Refusal.TheVariants.{Range, Doubled}
 use Rattle.refusals.specs.declared.Outcome.TheVariants.{Accepted, Refused}
 use Rattle.faults.specs.Faults.{broken_in, id_taken}
-use Rattle.faults.specs.Faulting.{in_nil, in_pass, in_fail}
+use Rattle.faults.proofs.Faulting.{in_nil, in_pass, in_fail}
 use Rattle.fault_finding.specs.Asked.{three_tests}
 
 -- the three tests of a record, by what was found of those before

@@ -2,6 +2,8 @@
 // The register is examined as a whole first: a sound one costs no more. Then its version and counts,
 // its actors and its resources are looked at one by one. The first broken claim is found by halving
 // how many claims are judged, and told by the tests that a grant of it would be asked.
+#![tactic(auto)]
+
 ghost use Rattle.std.specs.Prelude.{◌≡◌, true, false, [], suc, ◌≤◌, ◌<◌, length, take};
 ghost use Rattle.register.specs.Limits.{claim_limit};
 ghost use Rattle.register.specs.Register.{actors_of, resources_of};

@@ -12,11 +12,11 @@ use Rattle.register.specs.declared.Claim.{Claim}
 use Rattle.register.specs.declared.Register.{Register}
 use Rattle.soundness_rules.specs.Sound.{sound, claim_fits}
 use Rattle.refusals.specs.Refusals.{Test, outcome_of}
-use Rattle.refusals.specs.Laws.{outcome_cases, outcome_pass, outcome_append, outcome_append_refused}
+use Rattle.refusals.proofs.Laws.{outcome_cases, outcome_pass, outcome_append, outcome_append_refused}
 use Rattle.refusals.specs.declared.Refusal.TheVariants.{Unsound, Range, NotHeld, NotLive}
 use Rattle.change_rules.specs.Changes.{world_in, standing, source_live, parent_tests, world_tests, grant_tests, granted}
 use Rattle.faults.specs.Faults.{higher_tests, claim_tests}
-use Rattle.faults.specs.Claiming.{higher_nil, higher_tests_lem}
+use Rattle.faults.proofs.Claiming.{higher_nil, higher_tests_lem}
 
 -- tests behind others may be put for those that come to the same
 outcome_behind : (tests more other : List Test) → outcome_of more ≡ outcome_of other → outcome_of (tests ++ more) ≡ outcome_of (tests ++ other)

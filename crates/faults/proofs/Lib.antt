@@ -1,3 +1,8 @@
+pub mod Faulting
+pub mod Records
+pub mod Claiming
+pub mod Telling
+pub mod Halving
 pub mod Unsound
 pub mod AsGranted
 pub mod Unreading

@@ -20,7 +20,7 @@ use Rattle.text_rules.specs.Registers.{register_from, register_read}
 use Rattle.change_rules.specs.Changes.{world_in, standing, granted}
 use Rattle.faults.specs.Unread.{why_unread}
 use Rattle.faults.specs.Faults.{claim_tests, of_claim, first_fault, fault_of, first_claims, Breaks, WholeBefore}
-use Rattle.faults.specs.Halving as halving
+use Rattle.faults.proofs.Halving as halving
 use Rattle.faults.proofs.Unreading as unreading
 use Rattle.faults.proofs.Unsound as unsound
 use Rattle.faults.proofs.AsGranted as asGranted

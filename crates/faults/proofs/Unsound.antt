@@ -18,18 +18,18 @@ use Rattle.register.specs.Chain.{latest}
 use Rattle.register.specs.declared.Claim.{Claim}
 use Rattle.register.specs.declared.Register.{Register}
 use Rattle.soundness_rules.specs.Sound.{sound_claims, sound, acceptable}
-use Rattle.soundness_rules.specs.Registers.{Within, within_limits_in, sound_actors_in, sound_out, sound_in}
-use Rattle.soundness_rules.specs.Places.{append_sound, take_sound}
+use Rattle.soundness_rules.proofs.Registers.{Within, within_limits_in, sound_actors_in, sound_out, sound_in}
+use Rattle.soundness_rules.proofs.Places.{append_sound, take_sound}
 use Rattle.refusals.specs.Refusals.{Test, outcome_of, number_of}
-use Rattle.refusals.specs.Laws.{number_bounds, outcome_clash}
+use Rattle.refusals.proofs.Laws.{number_bounds, outcome_clash}
 use Rattle.refusals.specs.declared.Refusal.{Refusal}
 use Rattle.refusals.specs.declared.Outcome.TheVariants.{Refused}
 use Rattle.change_rules.specs.Changes.{world_in}
 use Rattle.faults.specs.Faults.{Broken, broken_in, each_passes, actor_tests, resource_tests, claim_tests, FirstFault, no_fault, bad_version, many_actors, many_resources, many_claims, of_actor, of_resource, of_claim, broken_actors, broken_resources, broken_claims, first_fault, fault_numbers, fault_of, actor_rule, resource_rule, claim_rule, first_claims, BrokenThere, Breaks, WholeBefore}
-use Rattle.faults.specs.Faulting.{every_accepted, refused_of, BrokenFound, in_cases, in_none}
-use Rattle.faults.specs.Records.{actor_breaks, resource_breaks}
-use Rattle.faults.specs.Claiming.{claim_asks, claim_breaks}
-use Rattle.faults.specs.Telling.{none_passing, people, actors_in_lem, actors_out, resources_in, resources_out, claims_in_lem, claims_out, fault_elim, first_claims_in}
+use Rattle.faults.proofs.Faulting.{every_accepted, refused_of, BrokenFound, in_cases, in_none}
+use Rattle.faults.proofs.Records.{actor_breaks, resource_breaks}
+use Rattle.faults.proofs.Claiming.{claim_asks, claim_breaks}
+use Rattle.faults.proofs.Telling.{none_passing, people, actors_in_lem, actors_out, resources_in, resources_out, claims_in_lem, claims_out, fault_elim, first_claims_in}
 
 abbrev is_none : FirstFault → Bool
 is_none no_fault = true

@@ -11,7 +11,7 @@ use Rattle.lists.specs.Tests.{cases, clash, or_left, or_right}
 use Rattle.lists.specs.Lists.{any, distinct}
 use Rattle.register.specs.declared.Register.{Register}
 use Rattle.refusals.specs.Refusals.{outcome_of, is_accepted}
-use Rattle.refusals.specs.Laws.{outcome_cases}
+use Rattle.refusals.proofs.Laws.{outcome_cases}
 use Rattle.refusals.specs.declared.Refusal.TheVariants.{NoEntry}
 use Rattle.refusals.specs.declared.Outcome.{Outcome}
 use Rattle.refusals.specs.declared.Outcome.TheVariants.{Accepted, Refused}
@@ -19,7 +19,7 @@ use Rattle.actions.specs.declared.Decision.TheVariants.{Permitted}
 use Rattle.gate_rules.specs.Gate.{gated, first_of}
 use Rattle.gate_rules.specs.Places.{first_hit, first_miss}
 use Rattle.fingerprints.specs.Fingerprints.{place_limit, zeros, empty_book, entries_of, is_for, entry_for, has_entry, book_fits, attaching, fetching, room_test, entry_test, attach_tests, fetch_tests, entry, with_entry, attached, fetched_on, fetched, Deed, attaches, fetches, deed_after, book_after, noted_by, noted, answered_by}
-use Rattle.fingerprints.specs.Laws.{attached_accepted, attached_refused, fetched_refused}
+use Rattle.fingerprints.proofs.Laws.{attached_accepted, attached_refused, fetched_refused}
 use Rattle.fingerprints.specs.declared.Entry.{Entry}
 use Rattle.fingerprints.specs.declared.Book.{Book}
 use Rattle.fingerprints.specs.declared.Attached.{Attached}

@@ -12,7 +12,7 @@ use Rattle.lists.specs.Lists.{any}
 use Rattle.gate_rules.specs.Gate.{first_of}
 use Rattle.gate_rules.specs.Places.{first_hit, first_miss}
 use Rattle.fingerprints.specs.Fingerprints.{is_for, entry_place}
-use Rattle.fingerprints.specs.Laws.{entry_hit, entry_miss, entry_nil}
+use Rattle.fingerprints.proofs.Laws.{entry_hit, entry_miss, entry_nil}
 use Rattle.fingerprints.specs.declared.Entry.{Entry}
 
 -- a new number: the entry stands behind the others, where there is room

@@ -12,7 +12,7 @@ use Rattle.register.specs.Register.{actors_of}
 use Rattle.register.specs.declared.Register.{Register}
 use Rattle.soundness_rules.specs.Sound.{sound}
 use Rattle.refusals.specs.Refusals.{number_of, Test, outcome_of}
-use Rattle.refusals.specs.Laws.{accepted_out}
+use Rattle.refusals.proofs.Laws.{accepted_out}
 use Rattle.refusals.specs.declared.Refusal.{Refusal}
 use Rattle.refusals.specs.declared.Refusal.TheVariants.{Unsound, Range, Absent, NotPermitted, BadBook}
 use Rattle.refusals.specs.declared.Outcome.{Outcome}
@@ -21,9 +21,9 @@ use Rattle.actions.specs.Actions.{action_fits, is_permitted}
 use Rattle.actions.specs.declared.Action.{Action}
 use Rattle.actions.specs.declared.Decision.TheVariants.{Permitted}
 use Rattle.gate_rules.specs.Gate.{gated, action_tests}
-use Rattle.gate_rules.specs.Laws.{permitted_out}
+use Rattle.gate_rules.proofs.Laws.{permitted_out}
 use Rattle.fingerprints.specs.Fingerprints.{book_tests}
-use Rattle.fingerprints.specs.Laws.{is_permitted_lem}
+use Rattle.fingerprints.proofs.Laws.{is_permitted_lem}
 
 abbrev stands : Register → Action → Bool
 stands r a = any (λ b. eqb a.actor b.id) (actors_of r.actors)

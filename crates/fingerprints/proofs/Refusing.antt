@@ -7,13 +7,13 @@ use native.Mathlib.Omega.{arith}
 use lib.Dec.{ltb}
 use Rattle.register.specs.declared.Register.{Register}
 use Rattle.soundness_rules.specs.Sound.{sound}
-use Rattle.refusals.specs.Laws.{outcome_pass, outcome_nil}
+use Rattle.refusals.proofs.Laws.{outcome_pass, outcome_nil}
 use Rattle.refusals.specs.declared.Refusal.TheVariants.{Unsound, BadBook}
 use Rattle.refusals.specs.declared.Outcome.TheVariants.{Accepted, Refused}
 use Rattle.actions.specs.declared.Decision.TheVariants.{Permitted}
 use Rattle.gate_rules.specs.Gate.{gated}
 use Rattle.fingerprints.specs.Fingerprints.{place_limit, zeros, empty_book, has_entry, book_fits, attaching, fetching, room_test, entry_test, with_entry, attached, fetched, Deed, book_after}
-use Rattle.fingerprints.specs.Laws.{attached_accepted, attached_refused, fetched_refused}
+use Rattle.fingerprints.proofs.Laws.{attached_accepted, attached_refused, fetched_refused}
 use Rattle.fingerprints.specs.declared.Book.{Book}
 use Rattle.fingerprints.proofs.Outcomes.{accepted_all, own_decides, stopped_alike, unsound_refused, misfit_refused, fits_no_thirty}
 use Rattle.fingerprints.proofs.Deeds as deeds

@@ -13,7 +13,7 @@ use Rattle.refusals.specs.declared.Refusal.{Refusal}
 use Rattle.refusals.specs.declared.Outcome.TheVariants.{Accepted, Refused}
 use Rattle.actions.specs.declared.Decision.TheVariants.{Permitted}
 use Rattle.gate_rules.specs.Gate.{gated, first_of}
-use Rattle.fingerprints.specs.Fingerprints.{zeros, empty_book, entries_of, is_for, entry_for, has_entry, entry_place, book_fits, fetching, entry, attached, fetched, Deed, attaches, book_after, noted, answered_by}
+use Rattle.fingerprints.specs.Fingerprints.{zeros, empty_book, entries_of, is_for, entry_for, has_entry, entry_place, book_fits, fetching, attached, fetched, Deed, attaches, book_after, noted, answered_by}
 use Rattle.fingerprints.specs.declared.Entry.{Entry}
 use Rattle.fingerprints.specs.declared.Book.{Book}
 use Rattle.fingerprints.proofs.Sheets as sheets

@@ -1,6 +1,6 @@
 -- Believed: The fingerprint book in 02's words: its entries, the tests of attach and fetch in their order, what each hands back, and what any
 -- attaches and fetches in a row come to.
-use Rattle.std.specs.Prelude.{Bool, true, false, ◌&&◌, ◌||◌, cond, List, [], ◌∷◌, ◌++◌, map, ℕ, suc, eqb, leb, ltb, take, set, replicate}
+use Rattle.std.specs.Prelude.{Bool, ◌&&◌, ◌||◌, cond, List, [], ◌∷◌, ◌++◌, map, ℕ, suc, eqb, leb, ltb, take, set, replicate}
 use Rattle.lists.specs.Lists.{any, distinct}
 use Rattle.rights.specs.Rights.{reading}
 use Rattle.register.specs.declared.Register.{Register}

@@ -1,6 +1,8 @@
 // The fingerprint book: what an attach and a fetch answer, definitions and theorems.
 // Here are the types; in specs/ the definitions that the two calls are proved to equal. The book
 // crosses to C as it is, and has no bytes between or behind its fields.
+#![tactic(auto)]
+
 ghost use Rattle.std.specs.Prelude.{◌≡◌};
 ghost use Rattle.fingerprints.specs.Fingerprints.{empty_book};
 
@@ -8,7 +10,7 @@ use refusals::Outcome;
 
 // A resource's number and the fingerprint attached to it.
 #[repr(C)]
-#[derive(Drop)]
+#[derive(Clone, Copy)]
 pub struct Entry {
     pub resource: u32,
     pub fingerprint: [u8; Entry::BYTES],
@@ -20,7 +22,7 @@ impl Entry {
 
 // Up to 64 entries; what stands past the count is ignored and kept.
 #[repr(C)]
-#[derive(Drop)]
+#[derive(Clone, Copy)]
 pub struct Book {
     pub entries: [Entry; Book::PLACES],
     pub count: usize,
@@ -45,14 +47,14 @@ impl Book {
 }
 
 // The answer of an attach. Refused: the book as it came.
-#[derive(Drop)]
+#[derive(Clone, Copy)]
 pub struct Attached {
     pub book: Book,
     pub outcome: Outcome,
 }
 
 // The answer of a fetch. Refused: 32 zeros.
-#[derive(Drop)]
+#[derive(Clone, Copy)]
 pub struct Fetched {
     pub fingerprint: [u8; Entry::BYTES],
     pub outcome: Outcome,

@@ -12,14 +12,14 @@ use Rattle.actions.specs.declared.Violation.{Violation}
 use Rattle.actions.specs.declared.Decision.TheVariants.{Permitted, Refused, Stopped}
 use Rattle.actions.specs.declared.Verdict.{Verdict}
 use Rattle.refusals.specs.Refusals.{outcome_of}
-use Rattle.refusals.specs.Laws.{outcome_cases, outcome_pass, outcome_fail, outcome_accepted}
+use Rattle.refusals.proofs.Laws.{outcome_cases, outcome_pass, outcome_fail, outcome_accepted}
 use Rattle.refusals.specs.declared.Outcome.{Outcome}
 use Rattle.refusals.specs.declared.Outcome.TheVariants.{Accepted, Refused as RefusedFor}
 use Rattle.refusals.specs.declared.Refusal.{Refusal}
 use Rattle.refusals.specs.declared.Refusal.TheVariants.{Unsound}
 use Rattle.gate_rules.specs.Gate.{violations_of, listed, padded, decided, action_tests, gate_tests, gated}
-use Rattle.gate_rules.specs.Laws.{gated_stopped, gated_judged}
-use Rattle.gate_rules.specs.Sameness.{gated_same}
+use Rattle.gate_rules.proofs.Laws.{gated_stopped, gated_judged}
+use Rattle.gate_rules.proofs.Sameness.{gated_same}
 use Rattle.uses.specs.declared.UsesJudged.{UsesJudged}
 use Rattle.soundness.specs.declared.Findings.{Findings}
 use Rattle.gate.specs.Judged.{action_judged, Lent, lent_by, lent_in, lent_tests, lent_judged, verdict_told, verdict_by, AsGated}

@@ -9,7 +9,7 @@ use Rattle.register.specs.Limits.{claim_limit, machine_kind, moment_end}
 use Rattle.register.specs.Register.{actors_of, no_actor, Shaped}
 use Rattle.register.specs.declared.Register.{Register}
 use Rattle.soundness_rules.specs.Sound.{sound, is_machine}
-use Rattle.soundness_rules.specs.Sameness.{sound_same}
+use Rattle.soundness_rules.proofs.Sameness.{sound_same}
 use Rattle.columns.specs.Columns.{actor_id, actor_owner, resource_id, holder_of, latest_place, actor_kind, actors_to, claim_id, parent_of, claimed_of, rights_of, weight_of}
 use Rattle.columns.specs.Laws.{among_natural, beside_natural}
 use Rattle.columns.specs.Sheet.{sheet_limit, sheet_of, id_column, parent_column, holder_column, resource_column, rights_column, weight_column}
@@ -23,8 +23,8 @@ use Rattle.actions.specs.declared.Usage.{Usage}
 use Rattle.actions.specs.declared.Violation.{Violation}
 use Rattle.actions.specs.declared.Decision.TheVariants.{Permitted, Refused}
 use Rattle.gate_rules.specs.Gate.{is_ownerless, use_violations, hops_for, hop_counts, violations_of, listed, padded, decided, action_tests}
-use Rattle.gate_rules.specs.Laws.{use_violations_nil, use_violations_cons, action_fits_out}
-use Rattle.gate_rules.specs.Bounds.{violations_most}
+use Rattle.gate_rules.proofs.Laws.{use_violations_nil, use_violations_cons, action_fits_out}
+use Rattle.gate_rules.proofs.Bounds.{violations_most}
 use Rattle.violations.specs.Pushed.{besides, pushed_all}
 use Rattle.violations.specs.PushedLaws.{pushed_all_natural, pushed_all_append, pushed_all_most}
 use Rattle.coverage.specs.Gathering.{cover_places, held_places}

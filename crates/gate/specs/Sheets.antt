@@ -19,8 +19,8 @@ use Rattle.columns.specs.Laws.{up_to_length, up_to_first}
 use Rattle.columns.specs.Sheet.{sheet_limit, last_column, column_of, claim_at, claims_in, numbers_of, sheet_with, sheet_of, expiry_column, late_column}
 use Rattle.columns.specs.SheetLaws.{column_within, column_length, column_with, claims_in_length, claims_in_at, sheet_long, sheet_claims}
 use Rattle.soundness_rules.specs.Sound.{sound}
-use Rattle.soundness_rules.specs.Laws.{claim_fits_out, acceptable_out}
-use Rattle.soundness_rules.specs.Places.{prefix_sound, latest_acceptable}
+use Rattle.soundness_rules.proofs.Laws.{claim_fits_out, acceptable_out}
+use Rattle.soundness_rules.proofs.Places.{prefix_sound, latest_acceptable}
 use Rattle.coverage.specs.LaidLaws.{zero_at}
 use Rattle.uses.specs.SightsLaws.{around, stands_at, sound_at}
 use Rattle.soundness.specs.Judged.{register_by}

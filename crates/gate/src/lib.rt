@@ -5,6 +5,8 @@
 // when, and is found once for the register (`claim_ends`), so no chain is walked for an action. The
 // claims that can cover are gathered once for an action, for the actor and for the owner of a
 // machine.
+#![tactic(auto)]
+
 ghost use Rattle.std.specs.Prelude.{◌≡◌};
 ghost use Rattle.columns.specs.Columns.{latest_place};
 ghost use Rattle.refusals.specs.Refusals.{outcome_of};
@@ -20,7 +22,7 @@ use soundness::Findings;
 use uses::{Uses, UsesJudged};
 
 // How many actors, resources and claims a register has.
-#[derive(Drop)]
+#[derive(Clone, Copy)]
 pub struct Counts {
     pub actors: usize,
     pub resources: usize,
@@ -49,7 +51,7 @@ pub fn owner_of<'a>(names: &'a [u32], owners: &'a [u32], n: usize, x: u32) -> u3
 }
 
 // A holder whose claims are asked for: the number, how many claims are looked through, and the moment.
-#[derive(Drop)]
+#[derive(Clone, Copy)]
 struct Holder {
     number: u32,
     claims: usize,

@@ -16,7 +16,7 @@ use Rattle.actions.specs.declared.Action.{Action}
 use Rattle.actions.specs.declared.Violation.TheVariants.{FlagSet}
 use Rattle.actions.specs.declared.Decision.TheVariants.{Permitted, Refused}
 use Rattle.gate_rules.specs.Gate.{flags_set, gated}
-use Rattle.gate_rules.specs.Laws.{action_fits_out, permitted_out, refused_in, violations_none_out}
+use Rattle.gate_rules.proofs.Laws.{action_fits_out, permitted_out, refused_in, violations_none_out}
 use Rattle.gate_rules.specs.Authority.{Passed}
 
 map_none : {A C : Type 0} (f : A → C) (L : List A) → map f L ≡ [] → L ≡ []

@@ -26,7 +26,7 @@ use Rattle.gate_rules.specs.Gate.{covers, is_ownerless, owner_lacks, flags_set, 
 use Rattle.gate_rules.specs.Listing.{Violates, rank_of, Precedes, Ascends}
 use Rattle.gate_rules.specs.Authority.{IsIn}
 use Rattle.gate_rules.specs.Places.{place_here, place_later, all_place}
-use Rattle.gate_rules.specs.Laws.{governed_nil, governed_cons, use_violations_nil, use_violations_cons}
+use Rattle.gate_rules.proofs.Laws.{governed_nil, governed_cons, use_violations_nil, use_violations_cons}
 use Rattle.gate_rules.proofs.Members.{place_left, place_right, place_filter, place_map, place_counted, each_joined, each_filter, each_mapped, counted_ascends}
 
 -- the violations of one rank, from a value on

@@ -19,7 +19,7 @@ use Rattle.gate_rules.specs.Gate.{covers, owner_lacks, use_violation, use_violat
 use Rattle.gate_rules.specs.Listing.{rank_of, Precedes, Ascends}
 use Rattle.gate_rules.specs.Authority.{IsIn}
 use Rattle.gate_rules.specs.Places.{place_here}
-use Rattle.gate_rules.specs.Laws.{use_violations_nil, use_violations_cons}
+use Rattle.gate_rules.proofs.Laws.{use_violations_nil, use_violations_cons}
 use Rattle.gate_rules.proofs.Members.{place_left, place_right, each_joined}
 use Rattle.gate_rules.proofs.Listed.{Ranked, behind}
 

@@ -12,8 +12,8 @@ use Rattle.register.specs.Laws.{chain_ind}
 use Rattle.register.specs.declared.Claim.{Claim}
 use Rattle.register.specs.declared.Register.{Register}
 use Rattle.soundness_rules.specs.Sound.{World, world_of, sound_claims, sound}
-use Rattle.soundness_rules.specs.Registers.{sound_out}
-use Rattle.soundness_rules.specs.Chains.{place_above}
+use Rattle.soundness_rules.proofs.Registers.{sound_out}
+use Rattle.soundness_rules.proofs.Chains.{place_above}
 use Rattle.gate_rules.specs.Authority.{higher_than}
 
 -- the chain above each claim of a chain is what follows it there

@@ -12,7 +12,7 @@ use Rattle.actions.specs.Actions.{governs_of}
 use Rattle.actions.specs.declared.Action.{Action}
 use Rattle.actions.specs.declared.Decision.TheVariants.{Permitted}
 use Rattle.gate_rules.specs.Gate.{is_ownerless, gated}
-use Rattle.gate_rules.specs.Laws.{permitted_out}
+use Rattle.gate_rules.proofs.Laws.{permitted_out}
 
 pub permitted_owned : (r : Register) (a : Action) → (gated r a).decision ≡ Permitted → is_ownerless r a.actor ≡ false
 permitted_owned r a h = (permitted_out r a h).clean.owned

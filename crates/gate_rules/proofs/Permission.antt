@@ -22,9 +22,9 @@ use Rattle.actions.specs.declared.Action.{Action}
 use Rattle.actions.specs.declared.Decision.TheVariants.{Permitted}
 use Rattle.gate_rules.specs.Gate.{public_read, contains, covering, covers, is_ownerless, owner_lacks, gated}
 use Rattle.gate_rules.specs.Places.{place_any, each_place}
-use Rattle.gate_rules.specs.Laws.{UseClean, use_violations_in, permitted_in}
+use Rattle.gate_rules.proofs.Laws.{UseClean, use_violations_in, permitted_in}
 use Rattle.gate_rules.proofs.Flags.{flags_zero}
-use Rattle.gate_rules.specs.Coverage.{covering_in}
+use Rattle.gate_rules.proofs.Coverage.{covering_in}
 use Rattle.gate_rules.specs.Authority.{IsIn, Passed, PublicRead, Traced, Rests, Owned, Authority}
 use Rattle.gate_rules.proofs.Tracing.{Contains}
 

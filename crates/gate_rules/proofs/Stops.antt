@@ -5,13 +5,13 @@ use mathlib.Core.List.{[]}
 use Rattle.register.specs.declared.Register.{Register}
 use Rattle.soundness_rules.specs.Sound.{sound}
 use Rattle.refusals.specs.Refusals.{outcome_of}
-use Rattle.refusals.specs.Laws.{outcome_fail}
+use Rattle.refusals.proofs.Laws.{outcome_fail}
 use Rattle.refusals.specs.declared.Outcome.TheVariants.{Refused as RefusedFor}
 use Rattle.refusals.specs.declared.Refusal.TheVariants.{Unsound}
 use Rattle.actions.specs.declared.Action.{Action}
 use Rattle.actions.specs.declared.Decision.TheVariants.{Stopped}
 use Rattle.gate_rules.specs.Gate.{action_tests, gate_tests, listed, padded, gated}
-use Rattle.gate_rules.specs.Laws.{gated_stopped}
+use Rattle.gate_rules.proofs.Laws.{gated_stopped}
 
 module _ (r : Register) (a : Action) (broken : sound r ≡ false) where
   unsound_first : outcome_of (gate_tests r a) ≡ RefusedFor Unsound

@@ -12,7 +12,7 @@ use Rattle.refusals.specs.declared.Refusal.TheVariants.{Unsound}
 use Rattle.refusals.specs.declared.Outcome.TheVariants.{Accepted, Refused as RefusedFor}
 use Rattle.register.specs.Register.{actors_of, claims_of}
 use Rattle.register.specs.Chain.{latest, chain_of, live, Lasting}
-use Rattle.register.specs.Liveness as liveness
+use Rattle.register.proofs.Liveness as liveness
 use Rattle.register.specs.declared.Actor.{Actor}
 use Rattle.register.specs.declared.Claim.{Claim}
 use Rattle.register.specs.declared.Register.{Register}
@@ -22,7 +22,7 @@ use Rattle.actions.specs.declared.Usage.{Usage}
 use Rattle.actions.specs.declared.Action.{Action}
 use Rattle.actions.specs.declared.Decision.TheVariants.{Permitted, Refused, Stopped}
 use Rattle.gate_rules.specs.Gate.{is_ownerless, violations_of, hop_counts, gate_tests, listed, padded, decided, gated}
-use Rattle.gate_rules.specs.Laws as laws
+use Rattle.gate_rules.proofs.Laws as laws
 use Rattle.gate_rules.specs.Authority.{IsIn, Passed, higher_than, Authority}
 use Rattle.gate_rules.proofs.Stops as stops
 use Rattle.gate_rules.proofs.Flags as flags

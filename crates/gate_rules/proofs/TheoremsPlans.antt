@@ -18,7 +18,7 @@ use Rattle.actions.specs.declared.Decision.TheVariants.{Permitted, Refused}
 use Rattle.actions.specs.declared.Judgement.TheVariants.{Permitted as Agreed, Refused as Denied, Cancelled}
 use Rattle.gate_rules.specs.Gate.{violations_of, hop_counts, action_tests, listed, padded, decided, gated}
 use Rattle.gate_rules.specs.Plans.{actions_of, judged, held, stopped, planned}
-use Rattle.gate_rules.specs.Cancelling as cancelling
+use Rattle.gate_rules.proofs.Cancelling as cancelling
 use Rattle.gate_rules.specs.Authority.{IsIn}
 
 -- 9a. Up to and with the first flagged action the verdicts of a plan are the judgements of the violations, and every later one is cancelled.

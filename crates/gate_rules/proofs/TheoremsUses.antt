@@ -23,12 +23,12 @@ use Rattle.actions.specs.declared.Violation.{Violation}
 use Rattle.actions.specs.declared.Violation.TheVariants.{NotCovered}
 use Rattle.gate_rules.specs.Gate.{covering, covers, use_violation, violations_of, hops_for, hop_counts, gated, reach_of}
 use Rattle.gate_rules.specs.Plans.{planned, SamePlan}
-use Rattle.gate_rules.specs.Coverage as coverage
+use Rattle.gate_rules.proofs.Coverage as coverage
 use Rattle.gate_rules.specs.Kinds as kinds
-use Rattle.gate_rules.specs.Reaching as reaching
-use Rattle.gate_rules.specs.Bounds as bounds
+use Rattle.gate_rules.proofs.Reaching as reaching
+use Rattle.gate_rules.proofs.Bounds as bounds
 use Rattle.gate_rules.specs.Authority.{IsIn, Nearest}
-use Rattle.gate_rules.specs.Sameness as sameness
+use Rattle.gate_rules.proofs.Sameness as sameness
 use Rattle.gate_rules.proofs.SameActions as same-actions
 
 -- 5a. A use that the actor does not cover has kind 4 with its position, whether the resource stands or not.

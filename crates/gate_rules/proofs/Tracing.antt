@@ -17,7 +17,7 @@ use Rattle.register.specs.declared.Resource.{Resource}
 use Rattle.register.specs.declared.Claim.{Claim}
 use Rattle.register.specs.declared.Register.{Register}
 use Rattle.soundness_rules.specs.Sound.{human, actor_fits, sound}
-use Rattle.soundness_rules.specs.Registers.{sound_out, actor_fits_out}
+use Rattle.soundness_rules.proofs.Registers.{sound_out, actor_fits_out}
 use Rattle.soundness_rules.specs.Roots.{root_of}
 use Rattle.actions.specs.Actions.{uses_of}
 use Rattle.actions.specs.declared.Usage.{Usage}
@@ -25,9 +25,9 @@ use Rattle.actions.specs.declared.Action.{Action}
 use Rattle.actions.specs.declared.Decision.TheVariants.{Permitted}
 use Rattle.gate_rules.specs.Gate.{public_read, contains, covering, covers, is_ownerless, owner_lacks, gated}
 use Rattle.gate_rules.specs.Places.{any_place, all_place, none_place}
-use Rattle.gate_rules.specs.Laws.{UseClean, permitted_out, use_violations_out}
-use Rattle.gate_rules.specs.Trace.{root_resource_lem, root_rights_lem, root_weight_lem, place_climbing, place_higher, place_attenuating, place_hops_most, place_rooted, place_keeper}
-use Rattle.gate_rules.specs.Coverage.{covering_out, covers_cases}
+use Rattle.gate_rules.proofs.Laws.{UseClean, permitted_out, use_violations_out}
+use Rattle.gate_rules.proofs.Trace.{root_resource_lem, root_rights_lem, root_weight_lem, place_climbing, place_higher, place_attenuating, place_hops_most, place_rooted, place_keeper}
+use Rattle.gate_rules.proofs.Coverage.{covering_out, covers_cases}
 use Rattle.gate_rules.specs.Authority.{IsIn, higher_than, Traced, PublicRead, Rests, Owned, Authority}
 
 -- containment, by the two resources

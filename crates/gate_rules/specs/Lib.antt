@@ -4,12 +4,6 @@ pub mod Plans
 pub mod Authority
 pub mod Places
 pub mod Nearest
-pub mod Laws
-pub mod Coverage
 pub mod Kinds
-pub mod Trace
-pub mod Reaching
-pub mod Bounds
-pub mod Cancelling
-pub mod Sameness
 pub mod SameActions
+pub mod Fitting

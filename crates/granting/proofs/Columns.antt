@@ -27,7 +27,7 @@ use Rattle.soundness_rules.specs.Sound.{names_stand, root_kept, sound, fewer_lef
 use Rattle.claim_judging.specs.Alone.{world_by}
 use Rattle.claim_judging.specs.Over.{hands_at}
 use Rattle.refusals.specs.Refusals.{outcome_of}
-use Rattle.refusals.specs.Laws.{outcome_nil, outcome_cases, outcome_first}
+use Rattle.refusals.proofs.Laws.{outcome_nil, outcome_cases, outcome_first}
 use Rattle.refusals.specs.declared.Outcome.{Outcome}
 use Rattle.refusals.specs.declared.Outcome.TheVariants.{Accepted, Refused}
 use Rattle.refusals.specs.declared.Refusal.TheVariants.{NoParent}

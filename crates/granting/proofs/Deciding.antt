@@ -14,7 +14,7 @@ use Rattle.register.specs.declared.Register.{Register}
 use Rattle.soundness_rules.specs.Sound.{World, sound, claim_fits, names_stand, root_kept, fewer_left}
 use Rattle.refusals.specs.Refusals.{Test, outcome_of}
 use Rattle.change_rules.specs.Changes.{world_in, standing, parent_tests, grant_tests}
-use Rattle.refusals.specs.Laws.{outcome_nil, outcome_pass, outcome_fail}
+use Rattle.refusals.proofs.Laws.{outcome_nil, outcome_pass, outcome_fail}
 use Rattle.refusals.specs.declared.Refusal.TheVariants.{Unsound, Range, Absent, Stands, Full, NotKeeper, Ownerless, NotByMachine, NoParent, NotHeld, NotLive, NoDelegate, RightLacking, WeightAbove, TooManyHops, Circle}
 use Rattle.refusals.specs.declared.Outcome.TheVariants.{Accepted, Refused}
 use Rattle.granting.specs.Drawn.{told_tests, drawn_tests, chain_tests, first_tests, world_tests_lem, parent_tests_lem}

@@ -12,7 +12,7 @@ use Rattle.register.specs.declared.Actor.{Actor}
 use Rattle.register.specs.declared.Resource.{Resource}
 use Rattle.soundness_rules.specs.Sound.{World, world_of, names_stand, fresh, root_kept, fewer_left, claim_fits}
 use Rattle.refusals.specs.Refusals.{Test, outcome_of}
-use Rattle.refusals.specs.Laws.{outcome_cases, outcome_append, outcome_append_refused}
+use Rattle.refusals.proofs.Laws.{outcome_cases, outcome_append, outcome_append_refused}
 use Rattle.change_rules.specs.Changes.{source_live, world_tests, parent_tests}
 use Rattle.refusals.specs.declared.Refusal.TheVariants.{Absent, Stands, Full, NotKeeper, Ownerless, NotByMachine, NotHeld, NotLive, NoDelegate, RightLacking, WeightAbove, TooManyHops, Circle, Unsound, Range}
 use Rattle.refusals.specs.declared.Outcome.{Outcome}

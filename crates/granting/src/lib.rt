@@ -1,6 +1,8 @@
 // The grant: tests 1 to 8 and, with a parent, 9 to 16.
 // Beside the outcome stands the claim as the register holds it. The register is examined once; the
 // chain above the claim is walked by the places of the parents that were found.
+#![tactic(auto)]
+
 ghost use Rattle.std.specs.Prelude.{◌≡◌, ◌∷◌, suc, min, ltb, length, get_or};
 ghost use Rattle.lists.specs.Lists.{every};
 ghost use Rattle.register.specs.Limits.{hop_limit};
@@ -19,7 +21,7 @@ use refusals::{Outcome, Refusal};
 use register::{Actor, Claim, Register};
 
 // The outcome of a grant, and the claim: accepted, as the register holds it; refused, as it came.
-#[derive(Drop)]
+#[derive(Clone, Copy)]
 pub struct GrantOutcome {
     pub claim: Claim,
     pub outcome: Outcome,

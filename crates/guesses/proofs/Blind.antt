@@ -2,7 +2,7 @@
 use mathlib.Core.Path.{◌≡◌, refl, ap, sym, ◌∙◌}
 use mathlib.Core.Bool.{Bool, true, false, not, ◌&&◌, or-false}
 use mathlib.Core.List.{List, [], ◌∷◌, map}
-use mathlib.Core.Logic.{◌⊎◌, inl, inr, ⊎_elim}
+use mathlib.Core.Logic.{inl, inr, ⊎_elim}
 use Prim.Native.Nat.{ℕ, suc}
 use lib.Dec.{eqb}
 use Rattle.lists.specs.Lists.{any, All}
@@ -11,7 +11,7 @@ use Rattle.register.specs.Register.{actors_of}
 use Rattle.register.specs.declared.Actor.{Actor}
 use Rattle.register.specs.declared.Register.{Register}
 use Rattle.soundness_rules.specs.Sound.{sound, is_machine}
-use Rattle.soundness_rules.specs.Registers.{sound_out}
+use Rattle.soundness_rules.proofs.Registers.{sound_out}
 use Rattle.refusals.specs.Refusals.{outcome_of}
 use Rattle.refusals.specs.declared.Outcome.{Outcome}
 use Rattle.refusals.specs.declared.Outcome.TheVariants.{Accepted, Refused as RefusedFor}
@@ -19,7 +19,7 @@ use Rattle.actions.specs.Actions.{uses_of}
 use Rattle.actions.specs.declared.Usage.{Usage}
 use Rattle.actions.specs.declared.Action.{Action}
 use Rattle.gate_rules.specs.Gate.{covers, is_ownerless, owner_lacks, use_violation, use_violations, violations_of, hops_for, hop_counts, action_tests, gate_tests, verdict_on, gated}
-use Rattle.gate_rules.specs.Coverage.{not_covered_hops}
+use Rattle.gate_rules.proofs.Coverage.{not_covered_hops}
 use Rattle.guesses.specs.Alike.{record_of, owner_in, owner_of, seen, standing_of, UseAlike, LooksAlike}
 use Rattle.guesses.proofs.Firsts.{any_first, any_numbered, first_cases}
 use Rattle.guesses.proofs.Views.{Sees, covers_as, hops_for_as, covers_seen, hops_for_seen}

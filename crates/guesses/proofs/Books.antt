@@ -8,7 +8,7 @@ use native.Mathlib.Omega.{arith}
 use Rattle.lists.specs.Tests.{cases}
 use Rattle.register.specs.declared.Register.{Register}
 use Rattle.refusals.specs.Refusals.{Test, outcome_of}
-use Rattle.refusals.specs.Laws.{outcome_cases, outcome_clash, outcome_nil, outcome_pass, outcome_fail, outcome_append, outcome_append_refused}
+use Rattle.refusals.proofs.Laws.{outcome_cases, outcome_clash, outcome_nil, outcome_pass, outcome_fail, outcome_append, outcome_append_refused}
 use Rattle.refusals.specs.declared.Outcome.{Outcome}
 use Rattle.refusals.specs.declared.Outcome.TheVariants.{Accepted, Refused}
 use Rattle.refusals.specs.declared.Refusal.{Refusal}
@@ -18,7 +18,7 @@ use Rattle.fingerprints.specs.Fingerprints.{book_fits, attaching, fetching, book
 use Rattle.fingerprints.specs.declared.Entry.{Entry}
 use Rattle.fingerprints.specs.declared.Book.{Book}
 use Rattle.coverage_table.specs.Table.{plainly_gated}
-use Rattle.coverage_table.specs.Sameness.{gate_same}
+use Rattle.coverage_table.proofs.Sameness.{gate_same}
 use Rattle.guesses.specs.Alike.{LooksAlike}
 use Rattle.guesses.proofs.Blind.{action_tests_blind, guess_blind}
 

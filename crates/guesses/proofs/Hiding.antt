@@ -13,7 +13,7 @@ use Rattle.register.specs.Register.{resources_of, claims_of}
 use Rattle.register.specs.declared.Register.{Register}
 use Rattle.actions.specs.declared.Usage.{Usage}
 use Rattle.gate_rules.specs.Gate.{public_read, contains, covering, covers}
-use Rattle.gate_rules.specs.Coverage.{covering_out, absent_not_covered}
+use Rattle.gate_rules.proofs.Coverage.{covering_out, absent_not_covered}
 use Rattle.guesses.specs.Alike.{owner_of, held_by, hidden}
 use Rattle.guesses.proofs.Firsts.{any_filter}
 use Rattle.guesses.proofs.Views.{Sees, covering_held}

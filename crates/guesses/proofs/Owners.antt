@@ -15,10 +15,10 @@ use Rattle.register.specs.Register.{actors_of}
 use Rattle.register.specs.declared.Actor.{Actor}
 use Rattle.register.specs.declared.Register.{Register}
 use Rattle.soundness_rules.specs.Sound.{human, actor_fits, sound}
-use Rattle.soundness_rules.specs.Registers.{ActorFits, actor_fits_out, sound_out}
+use Rattle.soundness_rules.proofs.Registers.{ActorFits, actor_fits_out, sound_out}
 use Rattle.gate_rules.specs.Authority.{IsIn}
 use Rattle.gate_rules.specs.Places.{any_place, place_any, all_place, first_found, first_none}
-use Rattle.gate_rules.specs.Trace.{distinct_place}
+use Rattle.gate_rules.proofs.Trace.{distinct_place}
 use Rattle.guesses.specs.Alike.{record_of, owner_in, owner_of}
 
 actor_fields_lem : (b : Actor) (n : ℕ) → n ≡ b.id → human_kind ≡ b.kind → b.owner ≡ 0 → b ≡ record { id = n; kind = human_kind; owner = 0 }

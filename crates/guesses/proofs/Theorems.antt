@@ -12,7 +12,7 @@ use Rattle.actions.specs.declared.Plan.{Plan}
 use Rattle.actions.specs.declared.Violation.TheVariants.{NotCovered}
 use Rattle.gate_rules.specs.Gate.{covers, use_violation, hops_for, gated}
 use Rattle.gate_rules.specs.Plans.{actions_of, planned}
-use Rattle.gate_rules.specs.Coverage.{not_covered_violation, not_covered_hops}
+use Rattle.gate_rules.proofs.Coverage.{not_covered_violation, not_covered_hops}
 use Rattle.refusals.specs.declared.Outcome.TheVariants.{Refused}
 use Rattle.refusals.specs.declared.Refusal.TheVariants.{NotPermitted}
 use Rattle.fingerprints.specs.Fingerprints.{book_fits, attaching, fetching, attached, fetched}

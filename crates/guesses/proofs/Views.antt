@@ -19,13 +19,13 @@ use Rattle.register.specs.declared.Resource.{Resource}
 use Rattle.register.specs.declared.Claim.{Claim}
 use Rattle.register.specs.declared.Register.{Register}
 use Rattle.soundness_rules.specs.Sound.{World, world_of, names_stand, sound}
-use Rattle.soundness_rules.specs.Registers.{sound_out}
-use Rattle.soundness_rules.specs.Places.{place_acceptable}
+use Rattle.soundness_rules.proofs.Registers.{sound_out}
+use Rattle.soundness_rules.proofs.Places.{place_acceptable}
 use Rattle.actions.specs.declared.Usage.{Usage}
 use Rattle.gate_rules.specs.Gate.{public_read, contains, covering, covers, first_of, nearest_of, path_in, path_by, reach_of, hops_in, hops_for}
 use Rattle.gate_rules.specs.Authority.{IsIn}
 use Rattle.gate_rules.specs.Places.{each_place, first_found}
-use Rattle.gate_rules.specs.Coverage.{covering_out, sound_place}
+use Rattle.gate_rules.proofs.Coverage.{covering_out, sound_place}
 use Rattle.guesses.specs.Alike.{owner_of, held_by, Seen, seen_of, seen, standing_of}
 use Rattle.guesses.proofs.Firsts.{any_numbered, any_filter, nearest_filter, any_read, nearest_read}
 

@@ -13,7 +13,7 @@ use Rattle.register.specs.Chain.{chain}
 use Rattle.register.specs.declared.Register.{Register}
 use Rattle.soundness_rules.specs.Sound.{sound, stored, human}
 use Rattle.change_rules.specs.Changes.{world_in, standing, appended, granted, revoke_tests, unstruck, holding, Withdrawal, revoke, clear_resource, clear_expired, names, clear_resource_tests, clear_expired_tests, withdrawn}
-use Rattle.change_rules.specs.Grants.{every_passed}
+use Rattle.change_rules.proofs.Grants.{every_passed}
 use Rattle.history.specs.History.{Change, grant, changed, took, withdraw}
 
 -- what tests 1, 3, 17 and 18 of a revocation ask

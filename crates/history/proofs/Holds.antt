@@ -17,12 +17,12 @@ use Rattle.register.specs.declared.Claim.{Claim}
 use Rattle.register.specs.declared.Claims.{Claims}
 use Rattle.register.specs.declared.Register.{Register}
 use Rattle.soundness_rules.specs.Sound.{sound_claims, sound, stored}
-use Rattle.soundness_rules.specs.Registers.{SoundRegister, sound_out, sound_in}
-use Rattle.soundness_rules.specs.Striking.{strike_sound, strike_length}
+use Rattle.soundness_rules.proofs.Registers.{SoundRegister, sound_out, sound_in}
+use Rattle.soundness_rules.proofs.Striking.{strike_sound, strike_length}
 use Rattle.soundness_rules.specs.Struck.{strike}
 use Rattle.change_rules.specs.Changes.{world_in, standing, appended, unstruck, holding, names}
 use Rattle.history.specs.History.{Change, grant, changed, took, withdraw}
-use Rattle.change_rules.specs.Grants.{grant_out, granted_register, take_appended, appended_sound, stored_passed}
+use Rattle.change_rules.proofs.Grants.{grant_out, granted_register, take_appended, appended_sound, stored_passed}
 use Rattle.history.proofs.Changing.{refused_register, withdrawn_register}
 
 -- s holds the claims L, latest first, over the actors and resources of r and in its version

@@ -18,15 +18,15 @@ use Rattle.register.specs.Laws.{chain_zero, chain_ind}
 use Rattle.register.specs.declared.Claim.{Claim}
 use Rattle.register.specs.declared.Register.{Register}
 use Rattle.soundness_rules.specs.Sound.{World, sound_claims, sound, fresh, drawn, stored}
-use Rattle.soundness_rules.specs.Laws.{acceptable_out, drawn_out}
-use Rattle.soundness_rules.specs.Registers.{sound_out}
-use Rattle.soundness_rules.specs.Places.{latest_acceptable, earlier_sound}
-use Rattle.soundness_rules.specs.Striking.{strike_latest, strike_length, sound_distinct}
+use Rattle.soundness_rules.proofs.Laws.{acceptable_out, drawn_out}
+use Rattle.soundness_rules.proofs.Registers.{sound_out}
+use Rattle.soundness_rules.proofs.Places.{latest_acceptable, earlier_sound}
+use Rattle.soundness_rules.proofs.Striking.{strike_latest, strike_length, sound_distinct}
 use Rattle.refusals.specs.Refusals.{is_accepted}
 use Rattle.soundness_rules.specs.Struck.{strike, struck}
 use Rattle.change_rules.specs.Changes.{world_in, standing, source_live, world_tests, grant_tests, appended, granted, unstruck, Withdrawal, clear_resource, names, withdrawn}
 use Rattle.history.specs.History.{grant, changed, took, withdraw}
-use Rattle.change_rules.specs.Grants.{GrantPassed, grant_out, grant_in, granted_register, take_appended, appended_sound, appended_claims, stored_passed}
+use Rattle.change_rules.proofs.Grants.{GrantPassed, grant_out, grant_in, granted_register, take_appended, appended_sound, appended_claims, stored_passed}
 use Rattle.history.proofs.Changing.{withdrawn_register, withdrawn_removed}
 use Rattle.history.proofs.Holds.{claims_holding}
 

@@ -1,6 +1,6 @@
 -- What is left in the annals after an accepted grant and after an accepted withdrawal, and what stays true of it: striking by lines is
 -- striking by chains. Assumes nothing.
-use mathlib.Core.Path.{◌≡◌, refl, ap, sym, ◌∙◌, fun_ext}
+use mathlib.Core.Path.{◌≡◌, refl, ap, sym, subst, ◌∙◌, fun_ext}
 use mathlib.Core.Bool.{Bool, true, false, not, ◌||◌, or-true, or-false, false≢true, true≢false}
 use mathlib.Core.List.{List, [], ◌∷◌, ◌++◌}
 use Prim.Native.Nat.{ℕ, ◌<◌}
@@ -18,7 +18,7 @@ use Rattle.register.specs.Chain.{chain, above}
 use Rattle.register.specs.Laws.{all_chain, chain_map}
 use Rattle.register.specs.declared.Claim.{Claim}
 use Rattle.soundness_rules.specs.Sound.{hands_left, stored}
-use Rattle.soundness_rules.specs.Striking.{above_kept, strike_same}
+use Rattle.soundness_rules.proofs.Striking.{above_kept, strike_same}
 use Rattle.soundness_rules.specs.Struck.{struck, strike}
 use Rattle.change_rules.specs.Changes.{source_live, Withdrawal, names}
 use Rattle.history.specs.History.{Note, Annals, claims, serials, among, gone, remains, entered, started, wrote, withdraw}
@@ -122,12 +122,12 @@ agree : (version : ℕ) (P : Claim → Bool) (L : List Note) → Fine version L 
 agree version P [] h = tt
 agree version P (e ∷ L) h = let low = all_imp (After e) (Below e.serial) (λ d a. a.0) L h.0.0 in
     cases (P e.claim)
-    (λ q. rw (filter_hit (λ e. P e.claim) e L q) (
+    (λ q. subst (λ K. All (Agrees P (serials K)) (e ∷ L)) (sym (filter_hit (λ e. P e.claim) e L q)) (
       rw (eq-eqb e.serial e.serial refl) (sym q),
       all_both (Below e.serial) (Agrees P (serials (naming P L))) (Agrees P (e.serial ∷ serials (naming P L)))
           (λ d l a. rw (ne_eqb d.serial e.serial (omega arith)) a) L low (agree version P L h.1),
     ))
-    (λ q. rw (filter_miss (λ e. P e.claim) e L q) (
+    (λ q. subst (λ K. All (Agrees P (serials K)) (e ∷ L)) (sym (filter_miss (λ e. P e.claim) e L q)) (
       above_named e.serial (serials (naming P L))
           (all_map (λ (d : Note). d.serial) (λ t. t < e.serial) (naming P L) (all_dropping (λ M e. not (P e.claim)) (Below e.serial) L low)) ∙ sym q,
       agree version P L h.1,

@@ -14,11 +14,11 @@ use Rattle.register.specs.Laws.{chain_ind, numbered_own, numbered_id}
 use Rattle.register.specs.declared.Claim.{Claim}
 use Rattle.register.specs.declared.Register.{Register}
 use Rattle.soundness_rules.specs.Sound.{sound}
-use Rattle.soundness_rules.specs.Registers.{sound_out}
-use Rattle.soundness_rules.specs.Striking.{Distinct, strike_sound, chain_strike, chain_gone, sound_distinct}
+use Rattle.soundness_rules.proofs.Registers.{sound_out}
+use Rattle.soundness_rules.proofs.Striking.{Distinct, strike_sound, chain_strike, chain_gone, sound_distinct}
 use Rattle.refusals.specs.Refusals.{outcome_of, is_accepted}
 use Rattle.change_rules.specs.Changes.{world_in, standing, revoke_tests, Withdrawal, revoke, clear_resource, clear_expired, names, clear_resource_tests, clear_expired_tests, withdrawn}
-use Rattle.refusals.specs.Laws.{outcome_pass}
+use Rattle.refusals.proofs.Laws.{outcome_pass}
 use Rattle.refusals.specs.declared.Refusal.TheVariants.{Unsound, Absent, NoClaim, NoGrantor}
 use Rattle.refusals.specs.declared.Outcome.{Outcome}
 use Rattle.refusals.specs.declared.Outcome.TheVariants.{Accepted, Refused}

@@ -16,15 +16,15 @@ use Rattle.register.specs.Chain.{latest, chain}
 use Rattle.register.specs.declared.Claim.{Claim}
 use Rattle.register.specs.declared.Register.{Register}
 use Rattle.soundness_rules.specs.Sound.{sound_claims, sound, stored}
-use Rattle.soundness_rules.specs.Alike.{stored_stored}
-use Rattle.soundness_rules.specs.Registers.{SoundRegister, sound_out}
-use Rattle.soundness_rules.specs.Places.{latest_acceptable, earlier_sound}
-use Rattle.soundness_rules.specs.Striking.{strike_length}
+use Rattle.soundness_rules.proofs.Alike.{stored_stored}
+use Rattle.soundness_rules.proofs.Registers.{SoundRegister, sound_out}
+use Rattle.soundness_rules.proofs.Places.{latest_acceptable, earlier_sound}
+use Rattle.soundness_rules.proofs.Striking.{strike_length}
 use Rattle.soundness_rules.specs.Struck.{strike}
 use Rattle.change_rules.specs.Changes.{world_in, standing, appended, holding, Withdrawal, names}
 use Rattle.change_rules.proofs.Theorems.{granted_version, withdrawn_version}
 use Rattle.history.specs.History.{Change, grant, changed, took, register_after, accepts, Note, Annals, claims, remains, started, wrote, kept, annals, olds, grants, History, withdraw}
-use Rattle.change_rules.specs.Grants.{grant_out, grant_in, granted_register}
+use Rattle.change_rules.proofs.Grants.{grant_out, grant_in, granted_register}
 use Rattle.history.proofs.Changing.{refused_register, withdrawn_register}
 use Rattle.history.proofs.Holds.{Holds, holds_self, holds_appended, holds_holding, holds_same, holds_sound, changed_sound, changed_shaped}
 use Rattle.history.proofs.Noting.{Fine, Kept, After, Timely, chain_claims, strike_claims, remains_noted, kept_noted, started_claims, remains_started, kept_started, remains_withdraw, kept_withdraw}

@@ -15,7 +15,7 @@ use Rattle.register.specs.Chain.{latest}
 use Rattle.register.specs.declared.Claim.{Claim}
 use Rattle.register.specs.declared.Register.{Register}
 use Rattle.soundness_rules.specs.Sound.{sound}
-use Rattle.soundness_rules.specs.Striking.{strike_none, strike_same, strike_strike}
+use Rattle.soundness_rules.proofs.Striking.{strike_none, strike_same, strike_strike}
 use Rattle.change_rules.specs.Changes.{standing, unstruck, holding, Withdrawal, names, withdrawn}
 use Rattle.history.specs.History.{withdraw, took}
 use Rattle.soundness_rules.specs.Struck.{strike}

@@ -13,7 +13,7 @@ use actions::Action;
 use json_tokens::{TokenAt, ZERO};
 
 // What a key holds, with the position behind it: a number; or where its bytes begin and how many there are; or how many numbers it has.
-#[derive(Drop)]
+#[derive(Clone, Copy)]
 pub(crate) struct Held {
     pub(crate) ok: bool,
     pub(crate) next: usize,

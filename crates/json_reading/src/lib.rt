@@ -1,5 +1,7 @@
 // An action read from a JSON text of the builder's form.
 // Any length and content is taken, in one pass: its members, and the action that they make.
+#![tactic(auto)]
+
 mod held;
 mod marks;
 mod members;

@@ -6,7 +6,7 @@ ghost use Rattle.json_reading.specs.Answers.{separation, SeparatorSays, PassedSa
 use json_tokens::{COMMA, TokenAt};
 
 // What follows an item, with the position behind it: a comma, or the closing mark.
-#[derive(Drop)]
+#[derive(Clone, Copy)]
 pub(crate) enum Separator {
     More(usize),
     Done(usize),
@@ -14,7 +14,7 @@ pub(crate) enum Separator {
 }
 
 // The position behind a mark.
-#[derive(Drop)]
+#[derive(Clone, Copy)]
 pub(crate) enum Passed {
     At(usize),
     Not,

@@ -11,21 +11,21 @@ use crate::places::{KEYS, key_place};
 use json_tokens::{CLOSES_OBJECT, COLON, OPENS_OBJECT, TokenAt};
 
 // The place of a key, with the position behind its colon.
-#[derive(Drop)]
+#[derive(Clone, Copy)]
 enum Named {
     At(usize, usize),
     Not,
 }
 
 // A member: the place of its key, and what that holds.
-#[derive(Drop)]
+#[derive(Clone, Copy)]
 struct Keyed {
     key: usize,
     held: Held,
 }
 
 // What was read of an object's members, by the places of their keys, and the position behind it.
-#[derive(Drop)]
+#[derive(Clone, Copy)]
 pub(crate) struct Draft {
     pub(crate) ok: bool,
     pub(crate) next: usize,

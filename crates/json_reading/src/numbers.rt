@@ -14,21 +14,21 @@ use json_tokens::{CLOSES_LIST, OPENS_LIST, TokenAt};
 use register::ID_LIMIT;
 
 // A number that a text holds and nothing else.
-#[derive(Drop)]
+#[derive(Clone, Copy)]
 enum Exact {
     Is(u32),
     Not,
 }
 
 // A number in quotes, with the position behind it.
-#[derive(Drop)]
+#[derive(Clone, Copy)]
 pub(crate) enum NumberAt {
     Is(u32, usize),
     Not,
 }
 
 // How many numbers a list has, with the position behind it.
-#[derive(Drop)]
+#[derive(Clone, Copy)]
 pub(crate) enum Numbers {
     Are(usize, usize),
     Not,

@@ -9,14 +9,14 @@ use crate::places::{FLAGS, flag_place};
 use json_tokens::{CLOSES_OBJECT, COLON, FALSE, OPENS_OBJECT, TRUE, TokenAt};
 
 // A flag and whether it is set, with the position behind it.
-#[derive(Drop)]
+#[derive(Clone, Copy)]
 enum SettingAt {
     Is(usize, bool, usize),
     Not,
 }
 
 // The flags as a number, with the position behind them.
-#[derive(Drop)]
+#[derive(Clone, Copy)]
 pub(crate) enum Settings {
     Are(u32, usize),
     Not,

@@ -2,17 +2,17 @@
 -- between them: so an accepted text is a spelling of its members. Assumes nothing.
 use Prim.Native.Nat.{ℕ, zero, suc, ◌<◌}
 use mathlib.Core.Path.{◌≡◌, refl, sym, ap, ◌∙◌}
-use mathlib.Core.Bool.{Bool, true, false, cond, ◌||◌}
-use mathlib.Core.List.{List, [], ◌∷◌, ◌++◌, append-nil, append_assoc, flatten}
+use mathlib.Core.Bool.{true, cond}
+use mathlib.Core.List.{List, [], ◌∷◌, ◌++◌, append_assoc, flatten}
 use native.Mathlib.Omega.{arith}
 use borrow.Author.Tests.{eqb-true}
 use lib.Dec.{eqb}
 use lib.ListN.{length, take, drop, take-append-drop}
 use Rattle.lists.specs.Tests.{cases, clash}
-use Rattle.lists.specs.Lists.{every, All, same}
+use Rattle.lists.specs.Lists.{All, same}
 use Rattle.lists.specs.Each.{cons_clash}
 use Rattle.lists.specs.Same.{same_sound}
-use Rattle.json_tokens.specs.Tokens.{Token, mark, text, no_token, FirstToken, first, exhausted, is_blank, is_mark, quote, true_mark, false_mark, true_word, false_word, unblanked, quoted, closing, quote_closed, leading, tokens}
+use Rattle.json_tokens.specs.Tokens.{Token, mark, FirstToken, first, exhausted, is_blank, is_mark, quote, true_mark, false_mark, true_word, false_word, unblanked, quoted, closing, quote_closed, leading, tokens}
 use Rattle.json_tokens.specs.Spelling.{Spelt, blanks, spelled, spaced}
 use Rattle.json_tokens.specs.Laws.{first_cases, tokens_first, tokens_exhausted, tokens_shorter}
 

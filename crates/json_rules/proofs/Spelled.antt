@@ -1,7 +1,7 @@
 -- Members that fit, with runs of blanks around any token, are read; and an accepted text is such a
 -- spelling of its members. Assumes nothing.
 use Prim.Native.Nat.{ℕ, ◌<◌}
-use mathlib.Core.Path.{◌≡◌, ap, sym, ◌∙◌}
+use mathlib.Core.Path.{◌≡◌, ap, ◌∙◌}
 use mathlib.Core.Bool.{true}
 use mathlib.Core.List.{List}
 use Rattle.lists.specs.Lists.{All}
@@ -14,7 +14,7 @@ use Rattle.json_rules.specs.Members.{Member}
 use Rattle.json_rules.specs.Actions.{is_full, read_whole, json_read, object_tokens}
 use Rattle.json_rules.specs.Fitting.{MemberFits}
 use Rattle.json_rules.proofs.Spelling.{object_spelt}
-use Rattle.json_rules.proofs.Spacing.{Spelled, text_spelled}
+use Rattle.json_rules.proofs.Spacing.{text_spelled}
 use Rattle.json_rules.proofs.ReadWritten.{read_complete}
 use Rattle.json_rules.proofs.WrittenRead.{read_members_lem}
 

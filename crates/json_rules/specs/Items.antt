@@ -1,12 +1,15 @@
 -- Laws: Taking things off the front of a list of tokens: each takes a token at least, so fuel does not matter to items. Assumes nothing.
 use Prim.Native.Nat.{ℕ, zero, suc, ◌≤◌, ◌<◌}
-use Rattle.std.specs.Prelude.{◌≡◌, List, [], ◌∷◌, ◌++◌, Bool, true, false, cond, ◌||◌, length, eqb}
+use Rattle.std.specs.Prelude.{◌≡◌, List, [], ◌∷◌, ◌++◌, Bool, true, false, cond, ◌||◌, length, eqb, leb, ltb}
 use Rattle.std.proofs.Math.Path.{refl}
 use Rattle.std.proofs.Common.{ap, ◌∙◌, append_assoc, arith}
 use Rattle.lists.specs.Tests.{cases}
+use Rattle.lists.specs.Lists.{same}
+use Rattle.rights.specs.Rights.{right_count}
+use Rattle.actions.specs.Actions.{use_limit}
 use Rattle.json_tokens.specs.Tokens.{Token, mark, text, no_token, comma, colon, true_mark, false_mark, opens_list, closes_list, opens_object, closes_object, zero_mark}
-use Rattle.json_rules.specs.Names.{place_of, key_names, flag_names, id_place, actor_place, kind_place, read_place, write_place, execute_place, flags_place, domain_place, depth_place}
-use Rattle.json_rules.specs.Members.{Taken, taking, missed, past, made, led_by, separated, further, items_with, items, any_items, named, Value, take_text, take_number, take_numbers, take_word, take_set, take_setting, take_settings, take_zero, take_value, take_held, take_member}
+use Rattle.json_rules.specs.Names.{place_of, key_names, kind_names, flag_names, default_domain, id_place, actor_place, kind_place, read_place, write_place, execute_place, flags_place, domain_place, depth_place}
+use Rattle.json_rules.specs.Members.{Taken, taking, missed, past, made, led_by, separated, further, items_with, items, any_items, named, Value, letters, figure, figures, settings, is_id_text, take_text, take_number, take_numbers, take_word, take_set, take_setting, take_settings, take_zero, take_value, take_held, take_member}
 
 abbrev pub key_count : ℕ
 key_count = 9
@@ -171,16 +174,16 @@ value_shrinks : (k : ℕ) → Shrinks (take_value k)
 unfolding take_value
 value_shrinks k ts v rest =
     let P : Taken Value → Type 0 = λ x. x ≡ taking v rest → length rest < length ts in
-    either_way P (eqb k id_place) _ _ (made_shrinks _ _ take_text text_shrinks ts v rest)
-    (either_way P (eqb k actor_place) _ _ (made_shrinks _ _ take_number number_shrinks ts v rest)
-    (either_way P (eqb k kind_place) _ _ (made_shrinks _ _ take_text text_shrinks ts v rest)
-    (either_way P (eqb k read_place || (eqb k write_place || eqb k execute_place)) _ _ (made_shrinks _ _ take_numbers numbers_shrinks ts v rest)
-    (either_way P (eqb k flags_place) _ _ (made_shrinks _ _ take_settings settings_shrinks ts v rest)
-    (either_way P (eqb k domain_place) _ _ (made_shrinks _ _ take_text text_shrinks ts v rest)
+    either_way P (eqb k id_place) _ _ (made_shrinks is_id_text letters take_text text_shrinks ts v rest)
+    (either_way P (eqb k actor_place) _ _ (made_shrinks (λ n. true) figure take_number number_shrinks ts v rest)
+    (either_way P (eqb k kind_place) _ _ (made_shrinks (λ x. ltb (place_of kind_names x) right_count) (λ x. figure (place_of kind_names x)) take_text text_shrinks ts v rest)
+    (either_way P (eqb k read_place || (eqb k write_place || eqb k execute_place)) _ _ (made_shrinks (λ ns. leb (length ns) use_limit) figures take_numbers numbers_shrinks ts v rest)
+    (either_way P (eqb k flags_place) _ _ (made_shrinks (λ ss. true) settings take_settings settings_shrinks ts v rest)
+    (either_way P (eqb k domain_place) _ _ (made_shrinks (same default_domain) letters take_text text_shrinks ts v rest)
     (either_way P (eqb k depth_place) _ _ (zero_shrinks ts v rest) missed_took))))))
 
 held_shrinks : (k : ℕ) → Shrinks (take_held k)
-held_shrinks k = made_shrinks _ _ (take_value k) (value_shrinks k)
+held_shrinks k = made_shrinks (λ v. true) (λ v. record { key = k; value = v }) (take_value k) (value_shrinks k)
 
 pub member_shrinks : Shrinks take_member
 unfolding take_member

@@ -1,6 +1,8 @@
 // The builder's JSON form of an action: definitions and theorems.
 // Here are the types of what reading and writing answer; in specs/ the form, in the words of 02's
 // T-04, and the definitions that the two calls are proved to equal.
+#![tactic(auto)]
+
 ghost use Rattle.std.specs.Prelude.{◌≡◌};
 ghost use Rattle.json_rules.specs.Members.{is_id_text};
 
@@ -18,7 +20,7 @@ pub const ID_BYTES: usize = 64;
 pub const JSON_TEXT: usize = 807;
 
 // An action that was read, with its id and kind. Refused: the action of all zeros, no id, and kind 0.
-#[derive(Drop)]
+#[derive(Clone, Copy)]
 pub struct JsonRead {
     pub action: Action,
     pub outcome: Outcome,

@@ -1,5 +1,7 @@
 // The tokens of a JSON text, one at a time.
 // From a lent slice of any length and content, and a position.
+#![tactic(auto)]
+
 ghost use Rattle.std.specs.Prelude.{◌≡◌, ◌≤◌, length, take, drop};
 ghost use Rattle.lists.specs.Lists.{same};
 ghost use Rattle.json_tokens.specs.Tokens.{is_blank, is_mark, unblanked, quoted, closing, tokens};
@@ -30,7 +32,7 @@ pub const QUOTE: u8 = 34;
 
 // A token, where the next one begins or where its bytes stand: a mark, by its byte, with the position behind it; a text, from its first
 // byte up to, not including, its closing quote; the end of the input; or what is no token.
-#[derive(Drop)]
+#[derive(Clone, Copy)]
 pub enum TokenAt {
     Mark(u8, usize),
     Text(usize, usize),

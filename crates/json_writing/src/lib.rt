@@ -1,6 +1,8 @@
 // An action written in the builder's JSON form into a lent buffer.
 // The text is made in one pass on an array that every action in range fits, and then delivered
 // whole or not at all.
+#![tactic(auto)]
+
 ghost use Rattle.std.specs.Prelude.{◌≡◌, ◌+◌, ◌≤◌, ◌<◌, length};
 ghost use Rattle.lists.specs.Lists.{splice};
 ghost use Rattle.buffers.specs.Buffers.{put};

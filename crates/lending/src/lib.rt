@@ -3,6 +3,8 @@
 // sheet of the claims, the columns of the actors and the resources that stand, and the paths; then
 // it is judged as any other. Bytes of another length than a register's are refused with 1. The
 // bytes are read one by one, the least of a number first, so they may lie anywhere.
+#![tactic(auto)]
+
 ghost use Rattle.std.specs.Prelude.{◌≡◌, ◌+◌, ◌*◌, ◌≤◌, length, take, drop, replicate};
 ghost use Rattle.std.proofs.Math.Seq.{paste};
 ghost use Rattle.register.specs.Limits.{path_limit};

@@ -1,3 +1,4 @@
+pub mod Laws
 pub mod Cases
 pub mod Walks
 pub mod Cursors

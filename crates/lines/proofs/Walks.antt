@@ -13,7 +13,7 @@ use Rattle.decimals.specs.Decimals.{Parsed, got, large, bad, parse}
 use Rattle.decimals.specs.Walk.{drop_byte}
 use Rattle.lines.specs.Lines.{line_feed, Line, line, beyond, fault, begins, ended, parse_limited, at_least, decimal_line, parse_word, scope_key, path_on, parse_scope}
 use Rattle.lines.specs.Answers.{PathSays}
-use Rattle.lines.specs.Laws.{begins_split, limited_read, decimal_line_length}
+use Rattle.lines.proofs.Laws.{begins_split, limited_read, decimal_line_length}
 use Rattle.lines.specs.declared.PathRead.{PathRead}
 
 -- a key that is longer than the text

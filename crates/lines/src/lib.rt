@@ -1,6 +1,8 @@
 // Lines `key=value` of a text, each ended by LF, read one behind the other.
 // The slice is lent, of any length and content. A reading that failed stays as it is: the first
 // failing line decides, with the refusal of that line.
+#![tactic(auto)]
+
 ghost use Rattle.std.specs.Prelude.{◌≡◌, true, false, ◌&&◌, [], ◌+◌, ◌≤◌, ◌<◌, leb, length, drop};
 ghost use Rattle.lines.specs.Lines.{begins, parse_limited, parse_decimal, path_on, held_path};
 ghost use Rattle.lines.specs.Reading.{decimal, number, count, kind, read_form, read_scope, closed};
@@ -19,7 +21,7 @@ pub const PLAN_STEP: u32 = 2;
 pub const LINE_FEED: u8 = 10;
 
 // Where a reading stands: the position of the next line, and how many lines are behind it. Failed: not on, with the refusal, and the line.
-#[derive(Drop)]
+#[derive(Clone, Copy)]
 pub struct Cursor {
     pub at: usize,
     pub line: usize,
@@ -28,14 +30,14 @@ pub struct Cursor {
 }
 
 // A number that was read, 0 where the reading failed, and where it then stands.
-#[derive(Drop)]
+#[derive(Clone, Copy)]
 pub struct Field {
     pub value: u32,
     pub cursor: Cursor,
 }
 
 // A path that was read, empty where the reading failed, zeros behind it, and where the reading then stands.
-#[derive(Drop)]
+#[derive(Clone, Copy)]
 pub struct Scope {
     pub path: [u8; Register::PATH],
     pub len: usize,
@@ -43,7 +45,7 @@ pub struct Scope {
 }
 
 // A line's number with the position behind its LF; a number above the limit; or no such line.
-#[derive(Drop)]
+#[derive(Clone, Copy)]
 pub enum LineRead {
     Value(u32, usize),
     Over,
@@ -51,7 +53,7 @@ pub enum LineRead {
 }
 
 // A path with the position behind its LF. An enum holds no array, so the answer whether there is one stands beside it.
-#[derive(Drop)]
+#[derive(Clone, Copy)]
 pub struct PathRead {
     pub ok: bool,
     pub path: [u8; Register::PATH],

@@ -1,6 +1,8 @@
 // Definitions and laws over lists of any element.
 // Of code there is what every loop over a list asks, how many of its places to look at, and whether
 // two lists of bytes are the same.
+#![tactic(auto)]
+
 ghost use Rattle.std.specs.Prelude.{◌≡◌, min};
 ghost use Rattle.lists.specs.Lists.{same};
 

@@ -73,23 +73,23 @@ module _ (ids parents : List ℕ) (n : ℕ) (few : n ≤ claim_limit) (long : n 
   up_at : (j : ℕ) → j < n → get_or ups j j ≡ place_number claim_limit (latest_place ids j (get_or parents j 0))
   up_at j h = earlier_at ids parents n j j (omega arith)
 
-  up_to : (bound j : ℕ) → j < bound → j < n → places_up ups j ≡ chain_places ids parents j (get_or parents j 0)
-  up_to zero j h inside = absurd (omega arith)
-  up_to (suc bound) j h inside =
+  up_to_each : (bound j : ℕ) → j < bound → j < n → places_up ups j ≡ chain_places ids parents j (get_or parents j 0)
+  up_to_each zero j h inside = absurd (omega arith)
+  up_to_each (suc bound) j h inside =
       place_cases (latest_place ids j (get_or parents j 0))
       (λ i q. let found = place_found_lem ids (get_or parents j 0) j i q in
       let other : (get_or parents j 0 ≡ 0 → ⊥) = λ z. numbered i (omega (arith, found.0)) (found.2 ∙ z) in
       let up : get_or ups j j ≡ i = up_at j inside ∙ ap (place_number claim_limit) q in
       places_up_at ups j (rw up found.0)
       ∙ ap (λ k. k ∷ places_up ups k) up
-      ∙ ap (λ l. i ∷ l) (up_to bound i (omega (arith, found.0)) (omega (arith, found.0)))
+      ∙ ap (λ l. i ∷ l) (up_to_each bound i (omega (arith, found.0)) (omega (arith, found.0)))
       ∙ sym (chain_places_at ids parents j (get_or parents j 0) i other q))
       (λ q. let up : get_or ups j j ≡ claim_limit = up_at j inside ∙ ap (place_number claim_limit) q in
       places_up_none ups j (rw up (omega arith)) ∙ sym (chain_places_nowhere ids parents j (get_or parents j 0) q))
 
   -- a step up by the kept places is one by the ids and the parents' numbers
   pub places_up_natural : (j : ℕ) → j < n → places_up ups j ≡ chain_places ids parents j (get_or parents j 0)
-  places_up_natural j inside = up_to (suc j) j (omega arith) inside
+  places_up_natural j inside = up_to_each (suc j) j (omega arith) inside
 
 -- so the walk counts the hops of the claim at a place
 pub hop_count_natural : (cs : List Claim) (n : ℕ) → n ≤ claim_limit → n ≤ length cs → ((j : ℕ) → j < n → (get_or cs j no_claim).id ≡ 0 → ⊥) → (j : ℕ) → j < n

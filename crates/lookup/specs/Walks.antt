@@ -9,8 +9,8 @@ use Rattle.register.specs.Register.{actors_of, resources_of, claims_of, no_claim
 use Rattle.register.specs.Chain.{latest, chain, above}
 use Rattle.register.specs.declared.Register.{Register}
 use Rattle.soundness_rules.specs.Sound.{world_of, sound}
-use Rattle.soundness_rules.specs.Registers.{sound_out}
-use Rattle.soundness_rules.specs.Places.{claim_numbered}
+use Rattle.soundness_rules.proofs.Registers.{sound_out}
+use Rattle.soundness_rules.proofs.Places.{claim_numbered}
 use Rattle.columns.specs.Columns.{claim_id, parent_of, latest_place, chain_places, places_up}
 use Rattle.columns.specs.declared.Place.{Place}
 use Rattle.columns.specs.declared.Place.TheVariants.{At, Nowhere}

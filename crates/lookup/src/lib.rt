@@ -1,5 +1,7 @@
 // Where each of many numbers stands in a column.
 // Every column and count is taken; at most the first 256 places are looked at.
+#![tactic(auto)]
+
 ghost use Rattle.std.specs.Prelude.{◌≡◌, min, length, take};
 ghost use Rattle.lists.specs.Lists.{distinct};
 ghost use Rattle.register.specs.Limits.{claim_limit};
@@ -10,14 +12,14 @@ ghost use Rattle.lookup.specs.Tables.{bucket_of, Indexing, Sought};
 use register::Register;
 
 // The places of a list of numbers, and whether the numbers that they were looked up among are distinct.
-#[derive(Drop)]
+#[derive(Clone, Copy)]
 pub struct Found {
     pub places: [u16; Register::CLAIMS],
     pub distinct: bool,
 }
 
 // The places of two lists of numbers, looked up by one table, and whether the numbers that they were looked up among are distinct.
-#[derive(Drop)]
+#[derive(Clone, Copy)]
 pub struct Both {
     pub first: [u16; Register::CLAIMS],
     pub second: [u16; Register::CLAIMS],
@@ -33,7 +35,7 @@ pub const NOWHERE: u16 = Register::CLAIMS as u16;
 // The places of a column by buckets, so that few places are looked at for a number. A link is 0 for none, else a place and 1: a
 // bucket's head links to its latest place, and each place to the latest before it in its bucket. It tells besides whether the numbers
 // are distinct.
-#[derive(Drop)]
+#[derive(Clone, Copy)]
 struct Table {
     heads: [u16; BUCKETS],
     nexts: [u16; Register::CLAIMS],

@@ -10,14 +10,14 @@ use Rattle.register.specs.Limits.{claim_limit}
 use Rattle.register.specs.Register.{Shaped}
 use Rattle.register.specs.declared.Register.{Register}
 use Rattle.soundness_rules.specs.Sound.{sound}
-use Rattle.soundness_rules.specs.Sameness.{same_alike}
+use Rattle.soundness_rules.proofs.Sameness.{same_alike}
 use Rattle.refusals.specs.declared.Refusal.{Refusal}
 use Rattle.refusals.specs.declared.Refusal.TheVariants.{Unsound}
 use Rattle.actions.specs.declared.Action.{Action}
 use Rattle.lines.specs.Reading.{going, failed}
 use Rattle.lines.specs.Answers.{state_of}
 use Rattle.gate_rules.specs.Plans.{judgements, Halt, runs, halts, first_halt}
-use Rattle.gate_rules.specs.Cancelling.{first_halt_runs}
+use Rattle.gate_rules.proofs.Cancelling.{first_halt_runs}
 use Rattle.gate.specs.Judged.{Lent, lent_in}
 use Rattle.gate.specs.Sheets.{sheeted, sheeted_same}
 use Rattle.plans.specs.Stops.{halt_by}
@@ -25,7 +25,7 @@ use Rattle.plans.specs.Judgements.{judgements_by}
 use Rattle.plans.specs.Laws.{halt_natural, judgements_natural}
 use Rattle.steps.specs.Steps.{text_action_limit}
 use Rattle.steps.specs.Nesting.{plan_of}
-use Rattle.steps.specs.Sameness.{flat_alike}
+use Rattle.steps.proofs.Sameness.{flat_alike}
 use Rattle.steps.specs.Judging.{stopped_plan, halt_under, text_verdict, flat_judged, plan_text_verdict, plan_text_judged}
 use Rattle.steps.specs.declared.PlanTextVerdict.{PlanTextVerdict}
 use Rattle.step_reading.specs.Finding.{TextFound, actions_at}

@@ -5,6 +5,8 @@
 // has one, in reading order: every action after the first with a flag set is cancelled, whatever
 // plans they stand in. The text is read once for its form; what is kept of an action is where it
 // begins, and it is read again there when it is judged.
+#![tactic(auto)]
+
 ghost use Rattle.std.specs.Prelude.{◌≡◌, false, ◌≤◌, replicate};
 ghost use Rattle.gate.specs.Judged.{lent_of};
 ghost use Rattle.plans.specs.Stops.{halt_by};

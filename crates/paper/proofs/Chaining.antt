@@ -17,7 +17,7 @@ use Rattle.register.specs.Chain.{latest, above, hops_of, live, current}
 use Rattle.register.specs.declared.Claim.{Claim}
 use Rattle.register.specs.declared.Register.{Register}
 use Rattle.soundness_rules.specs.Sound.{sound}
-use Rattle.soundness_rules.specs.Chains.{place_above}
+use Rattle.soundness_rules.proofs.Chains.{place_above}
 use Rattle.columns.specs.Columns.{latest_place, places_up}
 use Rattle.columns.specs.Laws.{place_cases, place_found_lem, places_up_at, places_up_none}
 use Rattle.columns.specs.Sheet.{sheet_of, column_of, claim_at, claims_in, id_column, parent_column}
@@ -26,9 +26,9 @@ use Rattle.lookup.specs.Finding.{place_number, asked, earlier_places}
 use Rattle.lookup.specs.Laws.{tabled_length, earlier_at}
 use Rattle.lookup.specs.Walks.{above_natural, sheet_few, sheet_at, sheet_numbered}
 use Rattle.gate_rules.specs.Places.{latest_split}
-use Rattle.gate_rules.specs.Coverage.{sound_place}
-use Rattle.gate_rules.specs.Trace.{place_hops_most}
-use Rattle.coverage_table.specs.Remarks.{world_around}
+use Rattle.gate_rules.proofs.Coverage.{sound_place}
+use Rattle.gate_rules.proofs.Trace.{place_hops_most}
+use Rattle.coverage_table.proofs.Remarks.{world_around}
 use Rattle.paper.specs.Paper.{claim_stands}
 use Rattle.paper.specs.Laws.{claim_in_lem}
 

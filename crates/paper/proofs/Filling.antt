@@ -13,7 +13,7 @@ use Rattle.register.specs.Register.{path_of}
 use Rattle.register.specs.declared.Resource.{Resource}
 use Rattle.register.specs.declared.Resources.{Resources}
 use Rattle.paths.specs.Containment.{contained, reached, reach_between}
-use Rattle.paths.specs.Laws.{reached_written}
+use Rattle.paths.proofs.Laws.{reached_written}
 use Rattle.paths.specs.declared.Reach.TheVariants.{Outside, Inside}
 use Rattle.paper.specs.Cells.{cell_limit, cell_at, resource_at, number_over, RowEntered, RowsEntered}
 

@@ -27,9 +27,8 @@ use Rattle.columns.specs.declared.Place.TheVariants.{At}
 use Rattle.lookup.specs.Walks.{sheet_few}
 use Rattle.gate_rules.specs.Gate.{contains}
 use Rattle.coverage_table.specs.Table.{Entry, nothing, openly, claimed, is_open, open_entry, speaks, keeps_off, entry_after}
-use Rattle.coverage_table.specs.Remarks.{remark_among}
-use Rattle.coverage_table.specs.Filling.{heard}
-use Rattle.coverage_table.specs.Walking.{heard_next, resource_stands, entered_natural}
+use Rattle.coverage_table.specs.Hearing.{remark_among, heard}
+use Rattle.coverage_table.proofs.Walking.{heard_next, resource_stands, entered_natural}
 use Rattle.paper.specs.Cells.{cell_at, first_number, resource_at, number_over, OpenCells, RowsEntered, EnteredFrom, ClaimEntered}
 use Rattle.paper.specs.Paper.{claim_stands, CellTells, entry_by, Filled}
 use Rattle.paper.specs.Laws.{row_stands, row_found, row_absent, claims_counted, claim_in_lem}

@@ -13,7 +13,7 @@ use Rattle.register.specs.declared.Resource.{Resource}
 use Rattle.register.specs.declared.Claim.{Claim}
 use Rattle.register.specs.declared.Register.{Register}
 use Rattle.soundness_rules.specs.Sound.{sound}
-use Rattle.soundness_rules.specs.Registers.{sound_out}
+use Rattle.soundness_rules.proofs.Registers.{sound_out}
 use Rattle.columns.specs.Columns.{resource_id, resources_to, latest_place}
 use Rattle.columns.specs.declared.Place.{Place}
 use Rattle.columns.specs.declared.Place.TheVariants.{At, Nowhere}
@@ -21,11 +21,11 @@ use Rattle.columns.specs.Laws.{up_to_at, up_to_first, place_found_lem, nowhere_n
 use Rattle.actions.specs.declared.Usage.{Usage}
 use Rattle.gate_rules.specs.Gate.{first_of}
 use Rattle.gate_rules.specs.Places.{place_any, first_none, first_found}
-use Rattle.gate_rules.specs.Trace.{distinct_place}
+use Rattle.gate_rules.proofs.Trace.{distinct_place}
 use Rattle.gate_rules.specs.Authority.{IsIn}
 use Rattle.coverage_table.specs.Table.{Entry, open_entry, cover_table, looked_up}
-use Rattle.coverage_table.specs.Remarks.{remark_among}
-use Rattle.coverage_table.specs.Filling.{table_by, heard, table_heard, added_sound, lookup_there, lookup_past, lookup_absent}
+use Rattle.coverage_table.specs.Hearing.{remark_among, heard}
+use Rattle.coverage_table.proofs.Filling.{table_by, table_heard, added_sound, lookup_there, lookup_past, lookup_absent}
 use Rattle.paper.specs.Cells.{past_resource, resource_at, cell_in}
 use Rattle.paper.specs.Paper.{claim_stands, CellTells, entry_by, Filled}
 

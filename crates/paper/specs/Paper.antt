@@ -12,8 +12,7 @@ use Rattle.columns.specs.Columns.{resource_id, resources_to}
 use Rattle.columns.specs.Sheet.{sheet_of, column_of, id_column, parent_column}
 use Rattle.lookup.specs.Finding.{earlier_places}
 use Rattle.coverage_table.specs.Table.{Entry, nothing, openly, claimed, open_entry}
-use Rattle.coverage_table.specs.Remarks.{remark_among}
-use Rattle.coverage_table.specs.Filling.{heard}
+use Rattle.coverage_table.specs.Hearing.{remark_among, heard}
 use Rattle.paper.specs.Cells.{cell_limit, cell_at, first_number, resource_at}
 use Rattle.paper.specs.declared.Page.{Page}
 

@@ -5,6 +5,8 @@
 // public, and from 2 on a claim, by 256 times the length of its resource's trimmed path and the
 // claim's place. So a cell below the first number of a length has no claim with a path as long or
 // longer.
+#![tactic(auto)]
+
 ghost use Rattle.std.specs.Prelude.{◌≡◌, true, false, cond, ◌+◌, ◌<◌, ◌≤◌, ltb, length, get_or};
 ghost use Rattle.register.specs.Limits.{resource_limit, claim_limit, hop_limit, path_limit};
 ghost use Rattle.register.specs.Register.{path_of};
@@ -29,7 +31,7 @@ pub const PUBLIC: u16 = 1;
 pub const CLAIM: usize = 2;
 
 // What is on the paper after the last claim: the hop count of each claim and whether it lives, and the tables of the actor and of its owner.
-#[derive(Drop)]
+#[derive(Clone, Copy)]
 pub struct Page {
     pub hops: [u16; Register::CLAIMS],
     pub lives: [bool; Register::CLAIMS],

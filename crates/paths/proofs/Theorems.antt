@@ -10,8 +10,8 @@ use Rattle.lists.specs.Same.{same_sound, same_complete}
 use Rattle.paths.specs.Containment.{slash, is_empty, components, climbing, trimmed, contained, reached, reach_between, is_inside, length_of}
 use Rattle.paths.specs.Components.{components_natural}
 use Rattle.paths.specs.Trimming.{trimmed_twice}
-use Rattle.paths.specs.Laws.{contained_clean, contained_sound, contained_complete, contained_refl, contained_trans, contained_not_trans, contained_antisym, contained_trimmed, trimmed_natural}
-use Rattle.paths.specs.Laws as laws
+use Rattle.paths.proofs.Laws.{contained_clean, contained_sound, contained_complete, contained_refl, contained_trans, contained_not_trans, contained_antisym, contained_trimmed, trimmed_natural}
+use Rattle.paths.proofs.Laws as laws
 use Rattle.paths.specs.Readings.{written, unslashed, Under}
 
 -- 1. A path contains itself exactly when it has no `..` component.

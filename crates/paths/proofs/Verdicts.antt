@@ -10,7 +10,7 @@ use lib.Seq.{length-take-le, take_all}
 use Rattle.lists.specs.Tests.{cases}
 use Rattle.paths.specs.Containment.{is_empty, slashed, climbing, trimmed, starting, contained, reach_between}
 use Rattle.paths.specs.Trimming.{reach_beneath}
-use Rattle.paths.specs.Laws.{contained_parts, beneath_clean, reached_yes}
+use Rattle.paths.proofs.Laws.{contained_parts, beneath_clean, reached_yes}
 use Rattle.paths.specs.declared.Reach.TheVariants.{Outside, Inside}
 use Rattle.paths.specs.Lent.{beneath}
 use Rattle.paths.proofs.Walks.{starting_short}

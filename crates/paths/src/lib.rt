@@ -2,6 +2,8 @@
 // Any length and any bytes are taken, and nothing is copied: the outer path is trimmed by its
 // length, and the inner path's tail from that length on is handed as a part to the judgement of
 // what follows. All tests must hold, so the cheap ones are made first and `..` is looked for last.
+#![tactic(auto)]
+
 ghost use Rattle.std.specs.Prelude.{◌≡◌, ◌&&◌, ◌||◌, cond, ◌+◌, ◌≤◌, eqb, ltb, length, take};
 ghost use Rattle.paths.specs.Containment.{dot, climbing, trimmed, starting, is_empty, slashed, reach_between};
 ghost use Rattle.paths.specs.Trimming.{reach_beneath};
@@ -12,7 +14,7 @@ const SLASH: u8 = 47;
 const DOT: u8 = 46;
 
 // Whether an outer path contains an inner one and, with a yes, the length of the trimmed outer path. That may be 0.
-#[derive(Drop)]
+#[derive(Clone, Copy)]
 pub enum Reach {
     Outside,
     Inside(usize),

@@ -13,7 +13,7 @@ use Rattle.register.specs.Limits.{claim_limit}
 use Rattle.register.specs.declared.Register.{Register}
 use Rattle.soundness_rules.specs.Sound.{sound}
 use Rattle.refusals.specs.Refusals.{outcome_of}
-use Rattle.refusals.specs.Laws.{outcome_pass, outcome_fail}
+use Rattle.refusals.proofs.Laws.{outcome_pass, outcome_fail}
 use Rattle.refusals.specs.declared.Outcome.{Outcome}
 use Rattle.refusals.specs.declared.Outcome.TheVariants.{Accepted, Refused as RefusedFor}
 use Rattle.refusals.specs.declared.Refusal.{Refusal}
@@ -33,9 +33,9 @@ use Rattle.actions.specs.declared.Judgement.TheVariants.{Permitted as Agreed, Re
 use Rattle.actions.specs.declared.Verdict.{Verdict}
 use Rattle.actions.specs.declared.Violation.{Violation}
 use Rattle.gate_rules.specs.Gate.{listed, padded, decided, action_tests, gate_tests}
-use Rattle.gate_rules.specs.Laws.{Fit}
+use Rattle.gate_rules.specs.Fitting.{Fit}
 use Rattle.gate_rules.specs.Plans.{actions_of, judged, runs, halts, first_halt, halt_of, held, stopped}
-use Rattle.gate_rules.specs.Cancelling.{halt_runs}
+use Rattle.gate_rules.proofs.Cancelling.{halt_runs}
 use Rattle.gate.specs.Judged.{lent_tests}
 use Rattle.gate.specs.Laws.{decided_natural}
 use Rattle.plans.specs.Stops.{stop_of, halt_by}

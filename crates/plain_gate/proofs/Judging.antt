@@ -16,7 +16,7 @@ use Rattle.actions.specs.Actions.{use_limit}
 use Rattle.actions.specs.declared.Action.{Action}
 use Rattle.actions.specs.declared.Violations.{Violations}
 use Rattle.gate_rules.specs.Gate.{listed, padded}
-use Rattle.gate_rules.specs.Laws.{Fit}
+use Rattle.gate_rules.specs.Fitting.{Fit}
 use Rattle.violations.specs.Pushed.{besides, pushed_all}
 use Rattle.coverage_table.specs.Table.{plain_violations, plain_hops}
 use Rattle.paper.specs.Paper.{Walkable, Written}

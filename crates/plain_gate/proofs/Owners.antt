@@ -15,7 +15,7 @@ use Rattle.register.specs.Register.{actors_of, no_actor}
 use Rattle.register.specs.declared.Actor.{Actor}
 use Rattle.register.specs.declared.Register.{Register}
 use Rattle.soundness_rules.specs.Sound.{human, is_machine, actor_fits, sound}
-use Rattle.soundness_rules.specs.Registers.{sound_out, actor_fits_out}
+use Rattle.soundness_rules.proofs.Registers.{sound_out, actor_fits_out}
 use Rattle.columns.specs.Columns.{actor_id, actor_kind, actor_owner, actors_to, latest_place, beside}
 use Rattle.columns.specs.Laws.{up_to_first, among_natural, beside_natural}
 use Rattle.columns.specs.declared.Place.{Place}

@@ -15,7 +15,7 @@ use Rattle.register.specs.Limits.{resource_limit, claim_limit}
 use Rattle.register.specs.Register.{actors_of}
 use Rattle.register.specs.declared.Register.{Register}
 use Rattle.soundness_rules.specs.Sound.{is_machine, sound}
-use Rattle.soundness_rules.specs.Registers.{sound_out}
+use Rattle.soundness_rules.proofs.Registers.{sound_out}
 use Rattle.columns.specs.Columns.{resource_id, resources_to}
 use Rattle.actions.specs.Actions.{no_use, use_limit, violation_limit, uses_of, governs_of, action_fits}
 use Rattle.actions.specs.declared.Usage.{Usage}
@@ -24,13 +24,13 @@ use Rattle.actions.specs.declared.Violation.{Violation}
 use Rattle.actions.specs.declared.Violation.TheVariants.{NotCovered, OwnerNotCovering}
 use Rattle.actions.specs.declared.Violations.{Violations}
 use Rattle.gate_rules.specs.Gate.{flags_set, governed, listed, padded}
-use Rattle.gate_rules.specs.Laws.{action_fits_out}
-use Rattle.gate_rules.specs.Bounds.{violations_most}
+use Rattle.gate_rules.proofs.Laws.{action_fits_out}
+use Rattle.gate_rules.proofs.Bounds.{violations_most}
 use Rattle.violations.specs.Pushed.{besides, pushed_all}
 use Rattle.violations.specs.PushedLaws.{pushed_all_natural, pushed_all_append}
 use Rattle.coverage_table.specs.Table.{cover_table, looked_up, is_nothing, entry_hops, table_owner, tables_of, plain_use, plain_uses, plain_violations, plain_hops}
-use Rattle.coverage_table.specs.Uses.{lookup_answers, owner_lacks_lem}
-use Rattle.coverage_table.specs.Sameness.{plain_violations_same}
+use Rattle.coverage_table.proofs.Uses.{lookup_answers, owner_lacks_lem}
+use Rattle.coverage_table.proofs.Sameness.{plain_violations_same}
 use Rattle.paper.specs.Paper.{Filled, Written}
 use Rattle.paper.specs.Laws.{cell_looked_up}
 use Rattle.paper.specs.declared.Page.{Page}

@@ -3,9 +3,11 @@
 // uses are looked up there (02, T-06). Tests 2 and 3, the flags, the owner and the governed entries
 // are the gate's own. Its answers are those of the gate (`plain_gate_same` and `plain_plan_same` of
 // coverage_table).
+#![tactic(auto)]
+
 ghost use Rattle.std.specs.Prelude.{◌≡◌, false, cond};
 ghost use Rattle.gate_rules.specs.Gate.{listed, padded};
-ghost use Rattle.gate_rules.specs.Laws.{Fit};
+ghost use Rattle.gate_rules.specs.Fitting.{Fit};
 ghost use Rattle.gate_rules.specs.Plans.{actions_of, judged, held, halt_of, runs};
 ghost use Rattle.violations.specs.Pushed.{pushed_all};
 ghost use Rattle.coverage_table.specs.Table.{plain_violations, plain_hops, plainly_gated, plain_judgements, plainly_planned};
@@ -18,7 +20,7 @@ use register::{Actor, Register};
 use soundness::Findings;
 
 // The violations of an action and the hop counts of its uses; 0 past the uses.
-#[derive(Drop)]
+#[derive(Clone, Copy)]
 struct PlainlyJudged {
     violations: Violations,
     hops: [usize; Action::USES],

@@ -8,7 +8,7 @@ use native.Mathlib.Omega.{arith}
 use lib.ListN.{length}
 use Rattle.register.specs.declared.Register.{Register}
 use Rattle.refusals.specs.Refusals.{number_of}
-use Rattle.refusals.specs.Laws.{outcome_clash}
+use Rattle.refusals.proofs.Laws.{outcome_clash}
 use Rattle.refusals.specs.declared.Outcome.TheVariants.{Accepted, Refused as RefusedFor}
 use Rattle.refusals.specs.declared.Refusal.{Refusal}
 use Rattle.refusals.specs.declared.Refusal.TheVariants.{Absent}
@@ -17,7 +17,7 @@ use Rattle.actions.specs.declared.Judged.{Judged}
 use Rattle.actions.specs.declared.Judgement.{Judgement}
 use Rattle.actions.specs.declared.Judgement.TheVariants.{Permitted}
 use Rattle.gate_rules.specs.Plans.{judgements, Halt, runs, halts}
-use Rattle.gate_rules.specs.Cancelling.{judgements_length}
+use Rattle.gate_rules.proofs.Cancelling.{judgements_length}
 use Rattle.lines.specs.Lines.{decimal_line}
 use Rattle.text_rules.specs.Records.{texts}
 use Rattle.text_rules.specs.Registers.{register_read}

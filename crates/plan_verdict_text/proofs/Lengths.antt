@@ -13,7 +13,7 @@ use Rattle.lists.specs.Lists.{All}
 use Rattle.register.specs.declared.Register.{Register}
 use Rattle.soundness_rules.specs.Sound.{sound}
 use Rattle.refusals.specs.Refusals.{number_of}
-use Rattle.refusals.specs.Laws.{number_bounds}
+use Rattle.refusals.proofs.Laws.{number_bounds}
 use Rattle.refusals.specs.declared.Refusal.{Refusal}
 use Rattle.refusals.specs.declared.Refusal.TheVariants.{Unsound, Range}
 use Rattle.actions.specs.Actions.{violation_limit}
@@ -24,15 +24,15 @@ use Rattle.actions.specs.declared.Judgement.{Judgement}
 use Rattle.actions.specs.declared.Judgement.TheVariants.{Permitted, Cancelled}
 use Rattle.gate_rules.specs.Gate.{violations_of}
 use Rattle.gate_rules.specs.Plans.{judged, judgements, Halt, runs, halts, first_halt}
-use Rattle.gate_rules.specs.Laws.{Fit}
-use Rattle.gate_rules.specs.Bounds.{violations_most}
-use Rattle.gate_rules.specs.Cancelling.{judgements_nil, judgements_cons, judgements_length, first_halt_runs}
+use Rattle.gate_rules.specs.Fitting.{Fit}
+use Rattle.gate_rules.proofs.Bounds.{violations_most}
+use Rattle.gate_rules.proofs.Cancelling.{judgements_nil, judgements_cons, judgements_length, first_halt_runs}
 use Rattle.decimals.specs.Walk.{length_under}
 use Rattle.lines.specs.Lines.{decimal_line}
-use Rattle.lines.specs.Laws.{decimal_line_length}
+use Rattle.lines.proofs.Laws.{decimal_line_length}
 use Rattle.lines.specs.Reading.{State, going, failed}
 use Rattle.text_rules.specs.Records.{texts}
-use Rattle.text_rules.specs.Lengths.{texts_length}
+use Rattle.text_rules.proofs.Lengths.{texts_length}
 use Rattle.steps.specs.Steps.{Steps, actions_in, text_action_limit}
 use Rattle.steps.specs.Nesting.{plan_of}
 use Rattle.steps.specs.Judging.{held_text, stopped_plan, verdicts_in, halt_under, text_verdict, flat_judged, plan_text_verdict, plan_text_judged}

@@ -1,5 +1,7 @@
 // The answer for a plan text as text: the lines that its program prints.
 // Of a register's text and a plan's, put into a lent buffer whole or not at all.
+#![tactic(auto)]
+
 ghost use Rattle.std.specs.Prelude.{◌≡◌, ◌+◌, ◌≤◌, length};
 ghost use Rattle.lists.specs.Lists.{splice};
 ghost use Rattle.steps.specs.Steps.{text_action_limit};

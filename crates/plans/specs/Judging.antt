@@ -12,8 +12,8 @@ use Rattle.actions.specs.declared.Judgement.TheVariants.{Cancelled}
 use Rattle.actions.specs.declared.Plan.{Plan}
 use Rattle.actions.specs.declared.PlanVerdict.{PlanVerdict}
 use Rattle.gate_rules.specs.Plans.{actions_of, runs, halt_of, held, planned}
-use Rattle.gate_rules.specs.Cancelling.{halt_runs, planned_runs}
-use Rattle.gate_rules.specs.Sameness.{planned_same}
+use Rattle.gate_rules.proofs.Cancelling.{halt_runs, planned_runs}
+use Rattle.gate_rules.proofs.Sameness.{planned_same}
 use Rattle.gate.specs.Judged.{Lent, lent_in, lent_judged}
 use Rattle.gate.specs.Sheets.{sheeted, sheeted_same}
 use Rattle.plans.specs.Judgements.{judged_as, judgements_by}

@@ -13,9 +13,9 @@ use Rattle.actions.specs.declared.Action.{Action}
 use Rattle.actions.specs.declared.Violation.{Violation}
 use Rattle.actions.specs.declared.Judgement.TheVariants.{Permitted as Agreed, Refused as Denied, Cancelled}
 use Rattle.gate_rules.specs.Gate.{violations_of}
-use Rattle.gate_rules.specs.Laws.{Fit}
+use Rattle.gate_rules.specs.Fitting.{Fit}
 use Rattle.gate_rules.specs.Plans.{judged, judgements, runs, halts, first_halt}
-use Rattle.gate_rules.specs.Cancelling.{judgements_nil, judgements_cons}
+use Rattle.gate_rules.proofs.Cancelling.{judgements_nil, judgements_cons}
 use Rattle.gate.specs.Judged.{Lent, lent_in, lent_tests, lent_judged}
 use Rattle.gate.specs.Sheets.{sheeted, sheeted_shaped}
 use Rattle.gate.specs.Laws.{tests_natural, lent_natural, judged_natural}

@@ -13,7 +13,7 @@ use Rattle.actions.specs.Actions.{action_limit}
 use Rattle.actions.specs.declared.Action.{Action}
 use Rattle.actions.specs.declared.Plan.{Plan}
 use Rattle.gate_rules.specs.Plans.{actions_of, halt_of, stopped, planned}
-use Rattle.gate_rules.specs.Cancelling.{planned_stopped}
+use Rattle.gate_rules.proofs.Cancelling.{planned_stopped}
 use Rattle.gate.specs.Judged.{Lent, lent_in, lent_tests}
 use Rattle.gate.specs.Sheets.{sheeted}
 use Rattle.plans.specs.Stops.{stop_of, halt_by}

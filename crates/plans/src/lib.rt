@@ -5,6 +5,8 @@
 // one: every action after the first with a flag set is cancelled, and any other is permitted, or
 // refused with its number of violations. Soundness is judged, and what is looked at of the register
 // is taken out of it, once for the whole plan; it is lent to each action.
+#![tactic(auto)]
+
 ghost use Rattle.std.specs.Prelude.{◌≡◌, false, cond, ◌≤◌};
 ghost use Rattle.actions.specs.Actions.{violation_limit};
 ghost use Rattle.gate_rules.specs.Plans.{actions_of, held, stopped, planned};
@@ -19,7 +21,7 @@ use register::Register;
 use soundness::Findings;
 
 // What stops a plan, and at which position; accepted, with position 0, where nothing does.
-#[derive(Drop)]
+#[derive(Clone, Copy)]
 pub struct Stop {
     pub outcome: Outcome,
     pub position: usize,

@@ -15,7 +15,7 @@ use Rattle.register.specs.declared.Claim.{Claim}
 use Rattle.columns.specs.Sheet.{sheet_limit, claim_put, claims_put, taken_apart, sheet_with}
 use Rattle.columns.specs.SheetLaws.{claims_put_nil, claims_put_first, taken_apart_put, sheet_with_put}
 use Rattle.soundness_rules.specs.Sound.{table_sound}
-use Rattle.soundness_rules.specs.Tables.{table_many}
+use Rattle.soundness_rules.proofs.Tables.{table_many}
 use Rattle.soundness.specs.Judged.{findings_by}
 use Rattle.soundness.specs.Laws.{table_judged}
 use Rattle.answers.specs.declared.Soundness.{Soundness}

@@ -1,7 +1,9 @@
 // The calls that the portal links.
-// `rt staticlib portal` exports them, and include/guvrendik.h declares them. Nothing is decided
+// The crate `portal_c` exports them, and include/guvrendik.h declares them. Nothing is decided
 // here: each call hands its arguments on, and gives the inner answer as a struct of numbers. No
 // call asks anything of its caller, and no answer whose numbers are all zero is a yes.
+#![tactic(auto)]
+
 ghost use Rattle.std.specs.Prelude.{◌≡◌};
 ghost use Rattle.soundness_rules.specs.Sound.{sound, table_sound};
 ghost use Rattle.register_bytes.specs.Bytes.{register_in};

@@ -2,7 +2,6 @@
 -- range; proposals that the check takes and refuses. On a register of version 2: a claim below another's. A path with `..`. All by computing. Assumes
 -- nothing.
 use mathlib.Core.Path.{◌≡◌, refl}
-use mathlib.Core.Bool.{true, false}
 use mathlib.Core.List.{◌∷◌, ◌++◌}
 use Prim.Native.Nat.{ℕ}
 use lib.ListN.{replicate}
@@ -12,7 +11,6 @@ use Rattle.rights.specs.Rights.{has_right, has_rights, bars_machine}
 use Rattle.paths.specs.Containment.{components, climbing, trimmed, starting, contained}
 use Rattle.register.specs.Register.{no_actor, no_resource, no_claim}
 use Rattle.register.specs.Chain.{chain, root_granted, circling}
-use Rattle.register.specs.declared.Actor.{Actor}
 use Rattle.register.specs.declared.Claim.{Claim}
 use Rattle.register.specs.declared.Register.{Register}
 use Rattle.soundness_rules.specs.Sound.{actor_fits, resource_fits, claim_fits, names_stand, root_kept, drawn_from, machine_may, over_chain, drawn, fresh, alone, over, acceptable, sound_claims, sound_actors, sound_resources, within_limits, sound}
@@ -25,7 +23,6 @@ use Rattle.actions.specs.declared.Usage.{Usage}
 use Rattle.gate_rules.specs.Gate.{public_read, contains, covering, covers, is_ownerless, owner_lacks, first_of, flags_set, governed, use_violation, use_violations, violations_of, action_tests, gate_tests, gated}
 use Rattle.proposals.specs.Proposals.{asks_fit, ask_tests, permits, of_form, helping, passing, free_from, no_grant, a_grant, proposes, unproposed, proposed, checked}
 use Rattle.proposals.specs.declared.Signers.{Signers}
-use Rattle.proposals.specs.declared.Proposal.{Proposal}
 use Rattle.proposals.specs.declared.Checked.TheVariants.{Passes, Fails, Stopped}
 
 abbrev claim : ℕ → ℕ → ℕ → ℕ → ℕ → ℕ → ℕ → ℕ → Claim

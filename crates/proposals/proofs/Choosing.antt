@@ -17,18 +17,18 @@ use Rattle.register.specs.Laws.{chain_zero, chain_id, all_chain}
 use Rattle.register.specs.declared.Claim.{Claim}
 use Rattle.register.specs.declared.Register.{Register}
 use Rattle.soundness_rules.specs.Sound.{stored}
-use Rattle.soundness_rules.specs.Laws.{acceptable_out, claim_fits_out, drawn_out}
-use Rattle.soundness_rules.specs.Places.{place_acceptable}
+use Rattle.soundness_rules.proofs.Laws.{acceptable_out, claim_fits_out, drawn_out}
+use Rattle.soundness_rules.proofs.Places.{place_acceptable}
 use Rattle.change_rules.specs.Changes.{world_in, standing, appended}
 use Rattle.actions.specs.declared.Usage.{Usage}
 use Rattle.gate_rules.specs.Gate.{covering}
 use Rattle.gate_rules.specs.Authority.{IsIn}
 use Rattle.gate_rules.specs.Places.{each_place, all_latest, place_any}
-use Rattle.gate_rules.specs.Coverage.{sound_place}
+use Rattle.gate_rules.proofs.Coverage.{sound_place}
 use Rattle.actions.specs.Actions.{one_use}
 use Rattle.proposals.specs.Proposals.{signers_of, permits, of_form, helping, passing_grant, least_free, candidate, signed_by, candidates}
 use Rattle.proposals.specs.declared.Signers.{Signers}
-use Rattle.change_rules.specs.Grants.{stored_passed}
+use Rattle.change_rules.proofs.Grants.{stored_passed}
 use Rattle.proposals.specs.Forms.{Formed, form_in, Helped, help_in}
 use Rattle.proposals.specs.Helping.{helped_covering, stead_permits}
 use Rattle.proposals.specs.Freeing.{least_free_least, least_free_greatest, least_free_alone}
@@ -41,7 +41,7 @@ any_candidates r x u p g [] h k = h
 any_candidates r x u p g (f ∷ gs) h k =
     any_append p (signed_by r x u f) (candidates r x u gs)
     ∙ cases (eqb g f)
-    (λ e. let same : g ≡ f = eqb-true g f e in let here : any p (signed_by r x u f) ≡ true = rw (← same) k in rw here)
+    (λ e. let same : g ≡ f = eqb-true g f e in let here : any p (signed_by r x u f) ≡ true = ap (λ d. any p (signed_by r x u d)) (sym same) ∙ k in rw here)
     (λ e. or_second (any p (signed_by r x u f)) (any p (candidates r x u gs))
     (any_candidates r x u p g gs (or_other (eqb g f) (any (eqb g) gs) h e) k))
 

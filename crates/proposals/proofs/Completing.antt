@@ -11,7 +11,7 @@ use Rattle.register.specs.declared.Claim.{Claim}
 use Rattle.register.specs.declared.Register.{Register}
 use Rattle.soundness_rules.specs.Sound.{sound}
 use Rattle.refusals.specs.Refusals.{number_of, outcome_of}
-use Rattle.refusals.specs.Laws.{outcome_cases, outcome_clash}
+use Rattle.refusals.proofs.Laws.{outcome_cases, outcome_clash}
 use Rattle.refusals.specs.declared.Refusal.{Refusal}
 use Rattle.refusals.specs.declared.Refusal.TheVariants.{Unsound, Range, Absent, NoProposal}
 use Rattle.refusals.specs.declared.Outcome.TheVariants.{Accepted, Refused}

@@ -1,3 +1,7 @@
+pub mod Exact
+pub mod Signing
+pub mod Planning
+pub mod Judging
 pub mod Asking
 pub mod Swapping
 pub mod Choosing

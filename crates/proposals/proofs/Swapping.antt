@@ -16,12 +16,12 @@ use Rattle.register.specs.Chain.{above, circling, current}
 use Rattle.register.specs.declared.Claim.{Claim}
 use Rattle.register.specs.declared.Register.{Register}
 use Rattle.soundness_rules.specs.Sound.{World, claim_fits, names_stand, root_kept, machine_may, drawn_from, fewer_left, over_chain, drawn, fresh, stored}
-use Rattle.soundness_rules.specs.Laws.{ranged_in, acceptable_out, acceptable_in}
+use Rattle.soundness_rules.proofs.Laws.{ranged_in, acceptable_out, acceptable_in}
 use Rattle.change_rules.specs.Changes.{world_in, standing, appended}
 use Rattle.actions.specs.declared.Usage.{Usage}
 use Rattle.gate_rules.specs.Gate.{contains, covering}
-use Rattle.gate_rules.specs.Coverage.{covering_out, covering_in}
-use Rattle.change_rules.specs.Grants.{GrantPassed, stored_passed}
+use Rattle.gate_rules.proofs.Coverage.{covering_out, covering_in}
+use Rattle.change_rules.proofs.Grants.{GrantPassed, stored_passed}
 use Rattle.proposals.specs.Appending.{new_above}
 use Rattle.proposals.specs.Hands.{fewer_in, fewer_hands}
 

@@ -12,16 +12,16 @@ use Rattle.register.specs.Chain.{above, latest}
 use Rattle.register.specs.declared.Claim.{Claim}
 use Rattle.register.specs.declared.Register.{Register}
 use Rattle.soundness_rules.specs.Sound.{sound}
-use Rattle.soundness_rules.specs.Laws.{drawn_stands}
-use Rattle.soundness_rules.specs.Places.{place_acceptable}
-use Rattle.soundness_rules.specs.Chains.{chain_earlier, place_above}
+use Rattle.soundness_rules.proofs.Laws.{drawn_stands}
+use Rattle.soundness_rules.proofs.Places.{place_acceptable}
+use Rattle.soundness_rules.proofs.Chains.{chain_earlier, place_above}
 use Rattle.change_rules.specs.Changes.{world_in, standing, appended}
 use Rattle.actions.specs.declared.Usage.{Usage}
 use Rattle.gate_rules.specs.Gate.{public_read, contains, covering, covers}
 use Rattle.gate_rules.specs.Authority.{IsIn}
 use Rattle.gate_rules.specs.Places.{each_place, latest_split}
-use Rattle.gate_rules.specs.Coverage.{covering_out, sound_place}
-use Rattle.change_rules.specs.Grants.{GrantPassed, appended_claims, appended_standing, appended_fitting}
+use Rattle.gate_rules.proofs.Coverage.{covering_out, sound_place}
+use Rattle.change_rules.proofs.Grants.{GrantPassed, appended_claims, appended_standing, appended_fitting}
 
 -- three tests joined either way round
 or_split : (p q x : Bool) → (p || q) || x ≡ p || (q || x)

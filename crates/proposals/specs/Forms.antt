@@ -10,7 +10,7 @@ use Rattle.register.specs.declared.Register.{Register}
 use Rattle.soundness_rules.specs.Sound.{stored}
 use Rattle.refusals.specs.Refusals.{is_accepted}
 use Rattle.change_rules.specs.Changes.{standing, appended, granted}
-use Rattle.change_rules.specs.Grants.{GrantPassed, grant_out, grant_in, granted_register}
+use Rattle.change_rules.proofs.Grants.{GrantPassed, grant_out, grant_in, granted_register}
 use Rattle.actions.specs.Actions.{one_use}
 use Rattle.actions.specs.declared.Usage.{Usage}
 use Rattle.proposals.specs.Proposals.{signers_of, permits, of_form, helping}

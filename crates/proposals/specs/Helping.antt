@@ -10,10 +10,10 @@ use Rattle.register.specs.declared.Register.{Register}
 use Rattle.change_rules.specs.Changes.{appended}
 use Rattle.actions.specs.declared.Usage.{Usage}
 use Rattle.gate_rules.specs.Gate.{covering, covers}
-use Rattle.gate_rules.specs.Coverage.{covering_out}
+use Rattle.gate_rules.proofs.Coverage.{covering_out}
 use Rattle.actions.specs.Actions.{one_use}
 use Rattle.proposals.specs.Proposals.{permits}
-use Rattle.change_rules.specs.Grants.{GrantPassed, appended_sound}
+use Rattle.change_rules.proofs.Grants.{GrantPassed, appended_sound}
 use Rattle.proposals.specs.Appending.{appended_covers, covers_kept}
 use Rattle.proposals.specs.Permitting.{permits_out, permits_in, lacks_carried, ownerless_carried}
 

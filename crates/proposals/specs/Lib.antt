@@ -8,8 +8,5 @@ pub mod Hands
 pub mod Forms
 pub mod Owners
 pub mod Ranges
-pub mod Exact
-pub mod Signing
 pub mod Proposing
-pub mod Planning
-pub mod Judging
+pub mod Asked

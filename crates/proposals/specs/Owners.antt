@@ -12,13 +12,13 @@ use Rattle.register.specs.declared.Actor.{Actor}
 use Rattle.register.specs.declared.Claim.{Claim}
 use Rattle.register.specs.declared.Register.{Register}
 use Rattle.soundness_rules.specs.Sound.{human, actor_fits, sound}
-use Rattle.soundness_rules.specs.Registers.{actor_fits_out, sound_out}
+use Rattle.soundness_rules.proofs.Registers.{actor_fits_out, sound_out}
 use Rattle.change_rules.specs.Changes.{appended}
 use Rattle.actions.specs.declared.Usage.{Usage}
 use Rattle.gate_rules.specs.Gate.{covers, owner_lacks}
 use Rattle.gate_rules.specs.Authority.{IsIn}
 use Rattle.gate_rules.specs.Places.{any_place, place_any, all_place, each_place, is_in_cases}
-use Rattle.change_rules.specs.Grants.{GrantPassed}
+use Rattle.change_rules.proofs.Grants.{GrantPassed}
 use Rattle.proposals.specs.Appending.{others_cover}
 
 -- with distinct ids, two at places with one id are one

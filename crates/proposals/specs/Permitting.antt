@@ -13,7 +13,7 @@ use Rattle.actions.specs.declared.Decision.{Decision}
 use Rattle.actions.specs.declared.Decision.TheVariants.{Permitted, Refused, Stopped}
 use Rattle.gate_rules.specs.Gate.{covers, is_ownerless, owner_lacks, flags_set, gated}
 use Rattle.gate_rules.specs.Authority.{Passed}
-use Rattle.gate_rules.specs.Laws.{permitted_out, permitted_in, use_violations_out, use_violations_in}
+use Rattle.gate_rules.proofs.Laws.{permitted_out, permitted_in, use_violations_out, use_violations_in}
 use Rattle.actions.specs.Actions.{one_use, is_permitted}
 use Rattle.proposals.specs.Proposals.{permits}
 

@@ -14,8 +14,8 @@ use Rattle.register.specs.declared.Actor.{Actor}
 use Rattle.register.specs.declared.Resource.{Resource}
 use Rattle.register.specs.declared.Register.{Register}
 use Rattle.soundness_rules.specs.Sound.{human, is_machine, actor_fits, resource_fits, sound}
-use Rattle.soundness_rules.specs.Laws.{ranged_in}
-use Rattle.soundness_rules.specs.Registers.{actor_fits_out, resource_fits_out, sound_out}
+use Rattle.soundness_rules.proofs.Laws.{ranged_in}
+use Rattle.soundness_rules.proofs.Registers.{actor_fits_out, resource_fits_out, sound_out}
 use Rattle.change_rules.specs.Changes.{world_in}
 use Rattle.gate_rules.specs.Places.{any_place, place_any, all_place}
 use Rattle.proposals.specs.Owners.{one_by_id}

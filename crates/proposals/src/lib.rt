@@ -1,6 +1,8 @@
 // Whose signature is missing: the proposals of a planner and their check: definitions and theorems.
 // Here are the willing signers, a proposal, what the planner and the check answer, and test 2 of both calls. In specs/ are the
 // definitions that the two calls are proved to equal, and what is proved of them.
+#![tactic(auto)]
+
 ghost use Rattle.std.specs.Prelude.{◌≡◌};
 ghost use Rattle.proposals.specs.Proposals.{asks_fit};
 
@@ -10,7 +12,7 @@ use register::Claim;
 
 // Up to eight actor numbers; entries past the count are ignored.
 #[repr(C)]
-#[derive(Drop)]
+#[derive(Clone, Copy)]
 pub struct Signers {
     pub list: [u32; Signers::MOST],
     pub count: usize,
@@ -22,7 +24,7 @@ impl Signers {
 
 // Kind 1 proposes no grant, kind 2 a grant of the claim. The kind is as wide as the claim's widest number, so that no byte lies between the two.
 #[repr(C)]
-#[derive(Drop)]
+#[derive(Clone, Copy)]
 pub struct Proposal {
     pub kind: u64,
     pub claim: Claim,
@@ -35,14 +37,14 @@ impl Proposal {
 }
 
 // The answer of the planner. Refused: kind 0 with a claim of zeros.
-#[derive(Drop)]
+#[derive(Clone, Copy)]
 pub struct Proposed {
     pub outcome: Outcome,
     pub proposal: Proposal,
 }
 
 // The answer of the check.
-#[derive(Drop)]
+#[derive(Clone, Copy)]
 pub enum Checked {
     // 1: the proposal passes.
     Passes,

@@ -26,8 +26,8 @@ use Rattle.lookup.specs.Finding.{asked, earlier_places}
 use Rattle.lookup.specs.Laws.{tabled_length}
 use Rattle.lookup.specs.Walks.{above_natural, sheet_numbered, sheet_few}
 use Rattle.soundness_rules.specs.Sound.{sound}
-use Rattle.soundness_rules.specs.Sameness.{sound_same}
-use Rattle.soundness_rules.specs.Chains.{place_above}
+use Rattle.soundness_rules.proofs.Sameness.{sound_same}
+use Rattle.soundness_rules.proofs.Chains.{place_above}
 use Rattle.change_rules.specs.Changes.{world_in, standing}
 use Rattle.actions.specs.declared.Usage.{Usage}
 use Rattle.gate_rules.specs.Gate.{first_of}

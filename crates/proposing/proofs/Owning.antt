@@ -22,7 +22,7 @@ use Rattle.columns.specs.declared.Place.{Place}
 use Rattle.columns.specs.declared.Place.TheVariants.{At, Nowhere}
 use Rattle.lookup.specs.Asked.{asked_at, asked_natural}
 use Rattle.soundness_rules.specs.Sound.{sound}
-use Rattle.soundness_rules.specs.Registers.{sound_out}
+use Rattle.soundness_rules.proofs.Registers.{sound_out}
 use Rattle.change_rules.specs.Changes.{world_in}
 use Rattle.actions.specs.Actions.{one_use, is_permitted}
 use Rattle.actions.specs.declared.Action.{Action}
@@ -38,9 +38,9 @@ use Rattle.claim_judging.specs.AloneLaws.{world_natural}
 use Rattle.coverage.specs.Gathering.{spot_in}
 use Rattle.uses.specs.Sights.{owner_at}
 use Rattle.proposals.specs.Proposals.{permits}
-use Rattle.proposals.specs.Exact.{Asked}
+use Rattle.proposals.specs.Asked.{Asked}
 use Rattle.proposals.specs.Owners.{one_by_id}
-use Rattle.proposals.specs.Judging.{unlike_lacks, owner_own_use}
+use Rattle.proposals.proofs.Judging.{unlike_lacks, owner_own_use}
 use Rattle.proposing.specs.Planned.{clean_at, owner_allows}
 
 -- ---- the owner

@@ -25,7 +25,7 @@ use Rattle.gate.specs.Judged.{sheet_ends}
 use Rattle.gate.specs.declared.Counts.{Counts}
 use Rattle.proposals.specs.Proposals.{least_free, a_grant}
 use Rattle.proposals.specs.Marks.{or_else}
-use Rattle.proposals.specs.Exact.{Asked}
+use Rattle.proposals.specs.Asked.{Asked}
 use Rattle.proposals.specs.declared.Proposal.{Proposal}
 
 -- the tests of the call by what was found out for each

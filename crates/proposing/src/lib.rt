@@ -4,6 +4,8 @@
 // claim, and the used path must have no `..`. Then the claims under which a claim of the actor may
 // be drawn are marked in one pass, whoever signs, and the signers are asked in their order: the
 // keeper signs a root, any other below his first marked claim. No grant is tried.
+#![tactic(auto)]
+
 ghost use Rattle.std.specs.Prelude.{◌≡◌, false, ◌≤◌, length, take};
 ghost use Rattle.register.specs.Limits.{claim_limit};
 ghost use Rattle.register.specs.Register.{path_of};

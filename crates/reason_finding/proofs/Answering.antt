@@ -12,11 +12,11 @@ use Rattle.register.specs.declared.Register.{Register}
 use Rattle.columns.specs.Laws.{up_to_first}
 use Rattle.columns.specs.Sheet.{sheet_of}
 use Rattle.soundness_rules.specs.Sound.{sound}
-use Rattle.soundness_rules.specs.Sameness.{sound_same}
+use Rattle.soundness_rules.proofs.Sameness.{sound_same}
 use Rattle.soundness.specs.Judged.{findings_by}
 use Rattle.soundness.specs.declared.Findings.{Findings}
 use Rattle.refusals.specs.Refusals.{outcome_of}
-use Rattle.refusals.specs.Laws.{outcome_pass, outcome_fail}
+use Rattle.refusals.proofs.Laws.{outcome_pass, outcome_fail}
 use Rattle.refusals.specs.declared.Outcome.{Outcome}
 use Rattle.refusals.specs.declared.Outcome.TheVariants.{Accepted, Refused}
 use Rattle.refusals.specs.declared.Refusal.{Refusal}
@@ -27,13 +27,13 @@ use Rattle.actions.specs.declared.Usage.{Usage}
 use Rattle.coverage.specs.Laid.{laid}
 use Rattle.coverage.specs.Gathering.{spot_in}
 use Rattle.gate_rules.specs.Gate.{gate_tests, action_tests}
-use Rattle.gate_rules.specs.Laws.{gate_tests_out}
+use Rattle.gate_rules.proofs.Laws.{gate_tests_out}
 use Rattle.gate.specs.Judged.{counts_of, sheet_ends, lent_in, lent_tests}
 use Rattle.gate.specs.Sheets.{sheeted, sheeted_same}
 use Rattle.gate.specs.Laws.{tests_natural}
-use Rattle.reasons.specs.HoldersLaws.{one_ranged}
+use Rattle.reasons.proofs.HoldersLaws.{one_ranged}
 use Rattle.reasons.specs.Uses.{refused_for, use_told_of, why_use}
-use Rattle.reasons.specs.UsesLaws.{why_accepted, why_refused}
+use Rattle.reasons.proofs.UsesLaws.{why_accepted, why_refused}
 use Rattle.reasons.specs.declared.UseTold.{UseTold}
 use Rattle.reason_finding.specs.Finding.{use_by}
 use Rattle.reason_finding.proofs.Reasoning.{use_natural}

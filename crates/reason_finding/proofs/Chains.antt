@@ -14,11 +14,11 @@ use Rattle.columns.specs.Columns.{claim_id, parent_of, places_up, chain_places}
 use Rattle.columns.specs.Laws.{chain_natural}
 use Rattle.lookup.specs.Laws.{places_up_natural}
 use Rattle.soundness_rules.specs.Sound.{sound}
-use Rattle.soundness_rules.specs.Registers.{sound_out}
-use Rattle.soundness_rules.specs.Places.{claim_numbered}
-use Rattle.soundness_rules.specs.Chains.{place_above}
+use Rattle.soundness_rules.proofs.Registers.{sound_out}
+use Rattle.soundness_rules.proofs.Places.{claim_numbered}
+use Rattle.soundness_rules.proofs.Chains.{place_above}
 use Rattle.gate_rules.specs.Places.{latest_split}
-use Rattle.gate_rules.specs.Trace.{place_hops_most}
+use Rattle.gate_rules.proofs.Trace.{place_hops_most}
 use Rattle.gate_rules.specs.Authority.{higher_than}
 use Rattle.uses.specs.Sights.{ups_of}
 use Rattle.uses.specs.Relying.{claim_standing}

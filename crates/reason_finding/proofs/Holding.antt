@@ -22,7 +22,7 @@ use Rattle.columns.specs.Columns.{resource_id, claimed_of, holder_of}
 use Rattle.columns.specs.declared.Place.{Place}
 use Rattle.columns.specs.declared.Place.TheVariants.{At, Nowhere}
 use Rattle.soundness_rules.specs.Sound.{sound}
-use Rattle.soundness_rules.specs.Registers.{sound_out}
+use Rattle.soundness_rules.proofs.Registers.{sound_out}
 use Rattle.actions.specs.declared.Usage.{Usage}
 use Rattle.gate_rules.specs.Gate.{contains, nearest_of}
 use Rattle.coverage.specs.Laid.{laid}

@@ -29,8 +29,8 @@ use Rattle.columns.specs.declared.Place.{Place}
 use Rattle.columns.specs.declared.Place.TheVariants.{At, Nowhere}
 use Rattle.lookup.specs.Finding.{place_number}
 use Rattle.soundness_rules.specs.Sound.{sound, human, actor_fits}
-use Rattle.soundness_rules.specs.Registers.{sound_out, actor_fits_out}
-use Rattle.soundness_rules.specs.Sameness.{sound_same}
+use Rattle.soundness_rules.proofs.Registers.{sound_out, actor_fits_out}
+use Rattle.soundness_rules.proofs.Sameness.{sound_same}
 use Rattle.soundness.specs.Judged.{findings_by}
 use Rattle.soundness.specs.declared.Findings.{Findings}
 use Rattle.refusals.specs.declared.Outcome.TheVariants.{Accepted}
@@ -48,7 +48,7 @@ use Rattle.uses.specs.Resources.{place_by, contains_natural, public_natural}
 use Rattle.uses.specs.Ends.{ends_natural}
 use Rattle.uses.specs.Relying.{claim_standing, claim_places, places_within}
 use Rattle.reasons.specs.Holders.{ask_fits, may_use, holders_of, who_held}
-use Rattle.reasons.specs.HoldersLaws.{held_asked}
+use Rattle.reasons.proofs.HoldersLaws.{held_asked}
 use Rattle.reasons.specs.declared.Holders.{Holders}
 use Rattle.reason_finding.specs.Covering.{containers_of, coverer_of, coverers_of, covers_by, may_by}
 use Rattle.reason_finding.proofs.Holding.{spot_natural}

@@ -42,7 +42,7 @@ use Rattle.uses.specs.Ends.{cover_natural}
 use Rattle.uses.specs.Relying.{only_at, claim_standing, nearest_natural}
 use Rattle.reasons.specs.Reasons.{Reason, relying, publicly, not_live, lacking, unheld, reason_from, reason_of, held_over, held_with, used_reach, telling, telling_of, telling_none, ended_on, first_id}
 use Rattle.reasons.specs.Uses.{machine_owner, first_owner, told_of, use_told_of, why_on}
-use Rattle.reasons.specs.UsesLaws.{owner_same}
+use Rattle.reasons.proofs.UsesLaws.{owner_same}
 use Rattle.reasons.specs.declared.Told.{Told}
 use Rattle.reason_finding.specs.declared.Ask.{Ask}
 use Rattle.reason_finding.specs.Finding.{chain_telling, chain_told, ended_by, held_place, always, whole, told_at, lacking_by, missing_by, reason_by, owner_for, use_by}

@@ -3,6 +3,8 @@
 // Who may: one walk over the claims finds the holders of those that cover the use, and each actor,
 // with the owner of a machine, is looked up among them.
 // Why: of the claims that an actor holds the nearest is looked for, among the live ones, then among all, then for any right.
+#![tactic(auto)]
+
 ghost use Rattle.std.specs.Prelude.{◌≡◌, false, [], map, length, take, get_or};
 ghost use Rattle.lists.specs.Lists.{filter};
 ghost use Rattle.paths.specs.Containment.{contained};
@@ -203,7 +205,7 @@ pub fn who(r: Register, usage: Usage, moment: u64) -> Holders
 }
 
 // What is asked for a reason: whose, for which right on the resource at which place, 64 for none, and when.
-#[derive(Drop)]
+#[derive(Clone, Copy)]
 struct Ask {
     actor: u32,
     right: u32,

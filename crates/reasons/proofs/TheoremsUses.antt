@@ -16,7 +16,7 @@ use Rattle.actions.specs.declared.Violation.TheVariants.{NotCovered, OwnerNotCov
 use Rattle.gate_rules.specs.Authority.{IsIn}
 use Rattle.gate_rules.specs.Gate.{relied, public_read, covers, use_violation}
 use Rattle.reasons.specs.Reasons.{held_over, reason_of, is_covering, telling, telling_of, owner_uncovered, relying, publicly, not_live, lacking, unheld, ReliesOn, EndedAt, LacksRight, HoldsNone}
-use Rattle.reasons.specs.ReasonsLaws as reasoning
+use Rattle.reasons.proofs.ReasonsLaws as reasoning
 
 -- 5a. The reason is a claim relied on or a public READ exactly where the actor covers the use.
 pub reason_covers : (r : Register) (moment x : ℕ) (u : Usage) → is_covering (reason_of r moment x u) ≡ covers r moment x u

@@ -21,9 +21,9 @@ use Rattle.gate_rules.specs.Gate.{gate_tests, gated}
 use Rattle.reasons.specs.Reasons.{reason_of, is_covering}
 use Rattle.reasons.specs.Holders.{may_use, who_may}
 use Rattle.reasons.specs.Uses.{why_use, why_on, tells_permitted}
-use Rattle.reasons.specs.UsesLaws as uses
+use Rattle.reasons.proofs.UsesLaws as uses
 use Rattle.reasons.proofs.Using as answering
-use Rattle.reasons.specs.HoldersLaws as holding
+use Rattle.reasons.proofs.HoldersLaws as holding
 
 -- 9a. A number is listed exactly where the action of that actor with the one use is permitted: whatever the register, the use, the moment and the number.
 pub who_exact : (r : Register) (u : Usage) (moment x : ℕ) → (any (eqb x) (who_may r u moment) ≡ true → (gated r (one_use x u moment)).decision ≡ Permitted)

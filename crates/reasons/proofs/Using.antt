@@ -11,19 +11,19 @@ use Rattle.register.specs.declared.Actor.{Actor}
 use Rattle.register.specs.declared.Register.{Register}
 use Rattle.soundness_rules.specs.Sound.{is_machine, sound}
 use Rattle.refusals.specs.Refusals.{outcome_of}
-use Rattle.refusals.specs.Laws.{outcome_cases}
+use Rattle.refusals.proofs.Laws.{outcome_cases}
 use Rattle.actions.specs.Actions.{one_use}
 use Rattle.actions.specs.declared.Usage.{Usage}
 use Rattle.actions.specs.declared.Decision.TheVariants.{Permitted}
 use Rattle.gate_rules.specs.Gate.{gate_tests, gated}
 use Rattle.gate_rules.specs.Authority.{IsIn}
 use Rattle.gate_rules.specs.Places.{any_place, place_any}
-use Rattle.gate_rules.specs.Laws.{permitted_out, gate_tests_in, gate_tests_out}
+use Rattle.gate_rules.proofs.Laws.{permitted_out, gate_tests_in, gate_tests_out}
 use Rattle.reasons.specs.Reasons.{Reason, relying, publicly, not_live, lacking, unheld, reason_of, is_covering, telling, telling_none}
 use Rattle.reasons.specs.Holders.{may_use}
 use Rattle.reasons.specs.Uses.{machine_owner, why_use, covering_kind, tells_permitted}
-use Rattle.reasons.specs.UsesLaws.{owner_same, why_accepted, why_refused}
-use Rattle.reasons.specs.HoldersLaws.{none_but, may_reasons, may_passed, permitted_may}
+use Rattle.reasons.proofs.UsesLaws.{owner_same, why_accepted, why_refused}
+use Rattle.reasons.proofs.HoldersLaws.{none_but, may_reasons, may_passed, permitted_may}
 
 kind_covering : (r : Register) (moment : ℕ) (w : Reason) → covering_kind (telling r moment w) ≡ is_covering w
 kind_covering r moment (relying c) = refl

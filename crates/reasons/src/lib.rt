@@ -1,10 +1,12 @@
 // Why an actor may make a use or may not, and who may: definitions and theorems.
 // Here are the types; in specs/ the definitions that the calls are proved to equal.
+#![tactic(auto)]
+
 use refusals::Outcome;
 use register::Register;
 
 // Who may make a use, by their ids in register order; zeros past the count, and all zeros where the call is refused.
-#[derive(Drop)]
+#[derive(Clone, Copy)]
 pub struct Holders {
     pub outcome: Outcome,
     pub ids: [u32; Register::ACTORS],
@@ -14,7 +16,7 @@ pub struct Holders {
 // The reason of an actor for a use: its kind; of the claim told the ids of its chain, from it up to its root, with their number, the grantor of
 // its root and, where it is not live, the first on its chain that is not current. It crosses to C as it is.
 #[repr(C)]
-#[derive(Drop)]
+#[derive(Clone, Copy)]
 pub struct Told {
     pub kind: u32,
     pub count: u32,
@@ -42,7 +44,7 @@ impl Told {
 }
 
 // Why an actor may make a use or may not: its reason and, of a machine with an owner, his number and his reason. Refused: zeros.
-#[derive(Drop)]
+#[derive(Clone, Copy)]
 pub struct UseTold {
     pub outcome: Outcome,
     pub actor: Told,

@@ -4,7 +4,7 @@ use mathlib.Core.Bool.{true, false}
 use mathlib.Core.List.{List, [], ◌∷◌, ◌++◌}
 use Rattle.lists.specs.Lists.{All}
 use Rattle.refusals.specs.Refusals.{Test, outcome_of}
-use Rattle.refusals.specs.Laws.{outcome_pass, outcome_fail}
+use Rattle.refusals.proofs.Laws.{outcome_pass, outcome_fail}
 use Rattle.refusals.specs.declared.Outcome.TheVariants.{Refused}
 
 pub first_decides : (before : List Test) (t : Test) (after : List Test) → All (λ b. b.passed ≡ true) before → t.passed ≡ false

@@ -1,10 +1,12 @@
 // Why a call is refused, with 01's numbers, and the outcome of ordered tests.
 // One list of refusals serves every call that can refuse.
+#![tactic(auto)]
+
 ghost use Rattle.std.specs.Prelude.{◌≡◌};
 ghost use Rattle.refusals.specs.Refusals.{number_of};
 
 // Why a call was refused: the first test that failed, in the order of 01's numbers.
-#[derive(Drop)]
+#[derive(Clone, Copy)]
 pub enum Refusal {
     // 1: the register is not sound.
     Unsound,
@@ -75,7 +77,7 @@ pub enum Refusal {
     BadKeeper,
 }
 
-#[derive(Drop)]
+#[derive(Clone, Copy)]
 pub enum Outcome {
     Accepted,
     Refused(Refusal),

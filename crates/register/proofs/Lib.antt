@@ -1,3 +1,4 @@
+pub mod Liveness
 pub mod Unasked
 pub mod Theorems
 pub mod Cases

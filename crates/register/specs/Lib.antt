@@ -2,4 +2,3 @@ pub mod Limits
 pub mod Register
 pub mod Chain
 pub mod Laws
-pub mod Liveness

@@ -3,6 +3,8 @@
 // number has a type that can say one out of range, and kinds are numbers: what is out of range
 // makes a register unsound, and is never cut down to something else. The structs cross to C as they
 // are, and have no bytes between or behind their fields.
+#![tactic(auto)]
+
 ghost use Rattle.std.specs.Prelude.{◌≡◌};
 ghost use Rattle.register.specs.Register.{no_claim, empty_register};
 ghost use Rattle.register.specs.Chain.{current};
@@ -29,7 +31,7 @@ pub const PATH_BYTE_LEAST: u8 = 33;
 pub const PATH_BYTE_GREATEST: u8 = 126;
 
 #[repr(C)]
-#[derive(Drop)]
+#[derive(Clone, Copy)]
 pub struct Actor {
     pub id: u32,
     pub kind: u32,
@@ -43,7 +45,7 @@ impl Actor {
 }
 
 #[repr(C)]
-#[derive(Drop)]
+#[derive(Clone, Copy)]
 pub struct Resource {
     pub id: u32,
     pub public: u32,
@@ -53,7 +55,7 @@ pub struct Resource {
 }
 
 #[repr(C)]
-#[derive(Drop)]
+#[derive(Clone, Copy)]
 pub struct Claim {
     pub id: u32,
     pub parent: u32,
@@ -67,28 +69,28 @@ pub struct Claim {
 }
 
 #[repr(C)]
-#[derive(Drop)]
+#[derive(Clone, Copy)]
 pub struct Actors {
     pub list: [Actor; Register::ACTORS],
     pub count: usize,
 }
 
 #[repr(C)]
-#[derive(Drop)]
+#[derive(Clone, Copy)]
 pub struct Resources {
     pub list: [Resource; Register::RESOURCES],
     pub count: usize,
 }
 
 #[repr(C)]
-#[derive(Drop)]
+#[derive(Clone, Copy)]
 pub struct Claims {
     pub list: [Claim; Register::CLAIMS],
     pub count: usize,
 }
 
 #[repr(C)]
-#[derive(Drop)]
+#[derive(Clone, Copy)]
 pub struct Register {
     pub actors: Actors,
     pub resources: Resources,

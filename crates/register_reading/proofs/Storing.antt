@@ -24,7 +24,7 @@ use Rattle.lookup.specs.Finding.{place_number, earlier_places, earlier_found}
 use Rattle.lookup.specs.declared.Found.{Found}
 use Rattle.lookup.specs.Laws.{earlier_at}
 use Rattle.soundness_rules.specs.Sound.{stored, each_stored}
-use Rattle.soundness_rules.specs.Alike.{each_stored_bare, stored_claims_next}
+use Rattle.soundness_rules.proofs.Alike.{each_stored_bare, stored_claims_next}
 use Rattle.claim_judging.specs.Over.{hands_at}
 use Rattle.register_reading.specs.Lefts.{hops_by, links_of, stored_in}
 use Rattle.register_reading.specs.declared.Links.{Links}

@@ -8,7 +8,7 @@ use Rattle.register.specs.Limits.{path_limit, tells_left}
 use Rattle.refusals.specs.declared.Refusal.{Refusal}
 use Rattle.refusals.specs.declared.Refusal.TheVariants.{Form}
 use Rattle.lines.specs.Reading.{State, going, failed, Read, LineForm, decimal, read_form}
-use Rattle.lines.specs.Laws.{form_bound}
+use Rattle.lines.proofs.Laws.{form_bound}
 use Rattle.lines.specs.Answers.{FieldSays, ScopeSays, state_of}
 use Rattle.lines.specs.declared.Cursor.{Cursor}
 use Rattle.lines.specs.declared.Field.{Field}

@@ -1,6 +1,8 @@
 // A register read from a lent text of any length and content.
 // In one pass: the first failing line decides, soundness comes last. The claims that are read tell
 // the hands that they have left, also in version 1, where the text does not.
+#![tactic(auto)]
+
 ghost use Rattle.std.specs.Prelude.{◌≡◌, ◌≤◌, length};
 ghost use Rattle.register.specs.Limits.{claim_limit};
 ghost use Rattle.register.specs.Register.{empty_register};
@@ -22,51 +24,51 @@ use rights::RIGHTS_LIMIT;
 use text_rules::{LAST_MOMENT, RegisterRead};
 
 // What was read of a kind, and where the reading then stands.
-#[derive(Drop)]
+#[derive(Clone, Copy)]
 struct ActorRead {
     actor: Actor,
     cursor: Cursor,
 }
 
-#[derive(Drop)]
+#[derive(Clone, Copy)]
 struct ResourceRead {
     resource: Resource,
     cursor: Cursor,
 }
 
-#[derive(Drop)]
+#[derive(Clone, Copy)]
 struct ClaimRead {
     claim: Claim,
     cursor: Cursor,
 }
 
-#[derive(Drop)]
+#[derive(Clone, Copy)]
 struct ActorsRead {
     actors: Actors,
     cursor: Cursor,
 }
 
-#[derive(Drop)]
+#[derive(Clone, Copy)]
 struct ResourcesRead {
     resources: Resources,
     cursor: Cursor,
 }
 
-#[derive(Drop)]
+#[derive(Clone, Copy)]
 struct ClaimsRead {
     claims: Claims,
     cursor: Cursor,
 }
 
 // Who is drawn from whom: the ids and the parents of the claims.
-#[derive(Drop)]
+#[derive(Clone, Copy)]
 struct Links {
     ids: [u32; Register::CLAIMS],
     parents: [u32; Register::CLAIMS],
 }
 
 // The register that a text's lines say, and where the reading then stands: at the end of the text, or where it failed.
-#[derive(Drop)]
+#[derive(Clone, Copy)]
 pub struct RegisterForm {
     pub register: Register,
     pub cursor: Cursor,

@@ -22,7 +22,7 @@ use Rattle.lines.specs.Reading.{form_line}
 use Rattle.text_rules.specs.Keys.{actors_key, resources_key, claims_key}
 use Rattle.text_rules.specs.Records.{section_text}
 use Rattle.soundness_rules.specs.Sound.{sound, human, resource_fits}
-use Rattle.soundness_rules.specs.Registers.{resource_fits_out, sound_out}
+use Rattle.soundness_rules.proofs.Registers.{resource_fits_out, sound_out}
 use Rattle.refusals.specs.declared.Refusal.TheVariants.{Unsound}
 use Rattle.buffers.specs.Buffers.{put}
 use Rattle.text_rules.specs.Registers.{actor_text, resource_text, claim_text, version_form, register_text}

@@ -1,6 +1,8 @@
 // The text of a register, written into a lent buffer.
 // The text is made in one pass, the claims from the sheet that they were judged on, in an array that
 // the text of every sound register fits, and then delivered whole or not at all.
+#![tactic(auto)]
+
 ghost use Rattle.std.specs.Prelude.{◌≡◌, true, cond, ◌+◌, ◌≤◌, length, take};
 ghost use Rattle.lists.specs.Lists.{splice};
 ghost use Rattle.register.specs.Limits.{actor_limit, resource_limit, claim_limit, path_limit, tells_left};

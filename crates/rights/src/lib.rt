@@ -1,6 +1,8 @@
 // The seventeen rights of 002 as one table, and the tests on rights numbers.
 // A rights number is a sum of worths: right b is worth 2^b. Every call answers on every number;
 // what is no right is worth 0, is had by nobody and may be granted by no machine.
+#![tactic(auto)]
+
 ghost use Rattle.std.specs.Prelude.{◌≡◌};
 ghost use Rattle.rights.specs.Rights.{worth_of, machine_grants, is_rights, has_right, has_rights, bars_machine};
 
@@ -39,7 +41,7 @@ pub const REGISTRY_MODIFY: u32 = 15;
 pub const POLICY_MODIFY: u32 = 16;
 
 // What a right is worth in a rights number, and whether a machine may grant it.
-#[derive(Drop)]
+#[derive(Clone, Copy)]
 pub struct Right {
     pub worth: u32,
     pub machine: bool,

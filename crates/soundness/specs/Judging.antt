@@ -23,7 +23,7 @@ use Rattle.lookup.specs.Finding.{places_of, both_places}
 use Rattle.lookup.specs.Laws.{places_at, first_places, second_places}
 use Rattle.lookup.specs.declared.Both.{Both}
 use Rattle.soundness_rules.specs.Sound.{World, world_of, alone, over, acceptable, sound_claims}
-use Rattle.soundness_rules.specs.Places.{sound_claims_nil, sound_claims_cons}
+use Rattle.soundness_rules.proofs.Places.{sound_claims_nil, sound_claims_cons}
 use Rattle.claim_judging.specs.Alone.{Found, place_in, found_in, named_at, alone_at}
 use Rattle.claim_judging.specs.AloneLaws.{alone_natural}
 use Rattle.claim_judging.specs.Over.{stand_over}

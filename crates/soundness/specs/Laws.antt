@@ -13,8 +13,8 @@ use Rattle.columns.specs.Sheet.{sheet_limit, sheet_with, sheet_of, column_of, id
 use Rattle.columns.specs.SheetLaws.{sheet_with_length, claims_with, sheet_long, sheet_claims}
 use Rattle.lookup.specs.Finding.{earlier_places}
 use Rattle.soundness_rules.specs.Sound.{sound, table_sound}
-use Rattle.soundness_rules.specs.Sameness.{sound_same}
-use Rattle.soundness_rules.specs.Tables.{table_register}
+use Rattle.soundness_rules.proofs.Sameness.{sound_same}
+use Rattle.soundness_rules.proofs.Tables.{table_register}
 use Rattle.soundness.specs.Judged.{register_by, findings_by}
 use Rattle.soundness.specs.Opened.{Opened}
 use Rattle.soundness.specs.declared.Findings.{Findings}

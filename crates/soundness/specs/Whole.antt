@@ -26,7 +26,7 @@ use Rattle.columns.specs.SheetLaws.{claims_in_length, column_natural, column_len
 use Rattle.lookup.specs.Finding.{asked, places_of, earlier_places, places_found, earlier_found}
 use Rattle.lookup.specs.declared.Found.{Found}
 use Rattle.soundness_rules.specs.Sound.{human, world_of, actor_fits, resource_fits, alone, sound_actors, sound_resources, within_limits, sound}
-use Rattle.soundness_rules.specs.Registers.{sound_out, within_limits_in}
+use Rattle.soundness_rules.proofs.Registers.{sound_out, within_limits_in}
 use Rattle.claim_judging.specs.Over.{stand_over}
 use Rattle.soundness.specs.World.{actors_fit, human_ids, beyond, resources_alone, keepers_fit}
 use Rattle.soundness.specs.WorldLaws.{actors_natural, resources_natural}

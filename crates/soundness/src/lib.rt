@@ -3,6 +3,8 @@
 // are humans of the register, paths of the right bytes, distinct ids, and every claim as it should
 // be. The claims stand in a sheet that is lent, and are judged one after the other in list order;
 // where what a claim names stands is found once for all claims.
+#![tactic(auto)]
+
 mod actors;
 mod claims;
 mod ranges;
@@ -23,7 +25,7 @@ use register::{Actors, Claims, Register, Resource, Resources};
 
 // What was found of a register: whether it is sound, the place of each claim's parent before it, the place of the resource that each claim is
 // to, and the columns of the actors and the resources.
-#[derive(Drop)]
+#[derive(Clone, Copy)]
 pub struct Findings {
     pub sound: bool,
     pub ups: [u16; Register::CLAIMS],
@@ -34,7 +36,7 @@ pub struct Findings {
 
 // What was looked up of claims: whether nothing is against soundness so far, the place of each claim's parent before it, and the place of the
 // resource that each claim is to.
-#[derive(Drop)]
+#[derive(Clone, Copy)]
 struct Looked {
     begun: bool,
     ups: [u16; Register::CLAIMS],

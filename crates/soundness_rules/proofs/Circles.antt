@@ -1,6 +1,6 @@
 -- (e) along a chain, in plain words: no two claims of it have one holder, and none but the root is
 -- held by who granted the root. Assumes nothing.
-use mathlib.Core.Path.{◌≡◌, refl, sym, ◌∙◌}
+use mathlib.Core.Path.{◌≡◌, refl, sym, ◌∙◌, subst⁻¹}
 use mathlib.Core.Bool.{true, false}
 use mathlib.Core.List.{List, [], ◌∷◌, ◌++◌, map}
 use Prim.Native.Nat.{ℕ}
@@ -13,9 +13,9 @@ use Rattle.register.specs.Chain.{chain, above, chain_of, root_granted, circling}
 use Rattle.register.specs.Laws.{chain_ind, chain_zero}
 use Rattle.register.specs.declared.Claim.{Claim}
 use Rattle.soundness_rules.specs.Sound.{World, sound_claims}
-use Rattle.soundness_rules.specs.Laws.{acceptable_out, drawn_out}
+use Rattle.soundness_rules.proofs.Laws.{acceptable_out, drawn_out}
 use Rattle.lists.specs.Distinct.{distinct_nil, distinct_cons}
-use Rattle.soundness_rules.specs.Places.{latest_acceptable, earlier_sound, prefix_sound}
+use Rattle.soundness_rules.proofs.Places.{latest_acceptable, earlier_sound, prefix_sound}
 use Rattle.soundness_rules.specs.Roots.{root_of}
 
 -- of a claim that is no root: not held by who granted the root
@@ -73,8 +73,8 @@ module _ (w : World) where
       → ((d : Claim) (H : List Claim) → above L c ≡ d ∷ H → All (Unreturned (root_of d H).grantor) (d ∷ H))
       → All (Unreturned (root_of c (above L c)).grantor) (c ∷ above L c)
   from_latest c L h ih = latest_cases c L h
-      (λ root none. rw none ((λ other same. other root), tt))
-      (λ p higher found free. rw found ((λ other same. granted_other p higher c.holder free same), ih p higher found))
+      (λ root none. subst⁻¹ (λ (H : List Claim). All (Unreturned (root_of c H).grantor) (c ∷ H)) none ((λ other same. other root), tt))
+      (λ p higher found free. subst⁻¹ (λ (H : List Claim). All (Unreturned (root_of c H).grantor) (c ∷ H)) found ((λ other same. granted_other p higher c.holder free same), ih p higher found))
 
   chain_unreturned : (L : List Claim) (p : ℕ) → sound_claims w L ≡ true → (d : Claim) (H : List Claim)
       → chain (λ d. d.id) (λ d. d.parent) L p ≡ d ∷ H → All (Unreturned (root_of d H).grantor) (d ∷ H)
@@ -83,7 +83,8 @@ module _ (w : World) where
       (λ p h d H none. cons_clash (sym none))
       (λ c L p e ih h d H same. let first : d ≡ c = cc in
       let rest : H ≡ above L c = cc in
-      rw (first, rest) (from_latest c L h (ih (earlier_sound w c L h))))
+      subst⁻¹ (λ (e : Claim). All (Unreturned (root_of e H).grantor) (e ∷ H)) first
+      (subst⁻¹ (λ (K : List Claim). All (Unreturned (root_of c K).grantor) (c ∷ K)) rest (from_latest c L h (ih (earlier_sound w c L h)))))
       (λ c L p e ih h. ih (earlier_sound w c L h))
 
   -- a claim at its place, with the earlier claims M

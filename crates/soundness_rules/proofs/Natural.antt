@@ -9,7 +9,7 @@ use Rattle.lists.specs.Each.{ands_out, any_map}
 use Rattle.lists.specs.Distinct.{distinct_nil, distinct_cons}
 use Rattle.register.specs.declared.Claim.{Claim}
 use Rattle.soundness_rules.specs.Sound.{World, claim_fits, names_stand, root_kept, machine_may, drawn, fresh, alone, over, acceptable, sound_claims}
-use Rattle.soundness_rules.specs.Places.{sound_claims_nil, sound_claims_cons}
+use Rattle.soundness_rules.proofs.Places.{sound_claims_nil, sound_claims_cons}
 use Rattle.soundness_rules.specs.Roots.{each_drawn}
 
 -- rules asked claim by claim are rules asked one after another

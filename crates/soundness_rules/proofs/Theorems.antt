@@ -14,10 +14,10 @@ use Rattle.register.specs.Chain.{latest, chain, above, hops_of, chain_of}
 use Rattle.register.specs.declared.Claim.{Claim}
 use Rattle.register.specs.declared.Register.{Register}
 use Rattle.soundness_rules.specs.Sound.{World, claim_fits, names_stand, root_kept, machine_may, acceptable, sound_claims, sound}
-use Rattle.soundness_rules.specs.Places as places
-use Rattle.soundness_rules.specs.Chains as chains
-use Rattle.soundness_rules.specs.Striking as striking
-use Rattle.soundness_rules.specs.Sameness as sameness
+use Rattle.soundness_rules.proofs.Places as places
+use Rattle.soundness_rules.proofs.Chains as chains
+use Rattle.soundness_rules.proofs.Striking as striking
+use Rattle.soundness_rules.proofs.Sameness as sameness
 use Rattle.soundness_rules.proofs.Natural as natural
 use Rattle.soundness_rules.proofs.Circles as circles
 use Rattle.soundness_rules.specs.Struck.{struck, strike}

@@ -11,7 +11,7 @@ use Rattle.register.specs.declared.Resources.{Resources}
 use Rattle.register.specs.declared.Claim.{Claim}
 use Rattle.register.specs.declared.Register.{Register}
 use Rattle.soundness_rules.specs.Sound.{sound, table_sound}
-use Rattle.soundness_rules.specs.Tables as tables
+use Rattle.soundness_rules.proofs.Tables as tables
 
 -- 9a. A table that holds the claims of a register, which are at most 256, is sound with its version, actors and resources exactly where the register is.
 pub table_natural : (r : Register) → Shaped r → r.claims.count ≤ claim_limit → table_sound r.version r.actors r.resources (claims_of r.claims) ≡ sound r

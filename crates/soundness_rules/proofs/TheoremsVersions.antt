@@ -13,9 +13,9 @@ use Rattle.register.specs.Chain.{latest, above, hops_of}
 use Rattle.register.specs.declared.Claim.{Claim}
 use Rattle.register.specs.declared.Register.{Register}
 use Rattle.soundness_rules.specs.Sound.{World, hands_left, fewer_left, acceptable, sound_claims, sound, stored}
-use Rattle.soundness_rules.specs.Places as places
-use Rattle.soundness_rules.specs.Alike as alike
-use Rattle.soundness_rules.specs.Sameness as sameness
+use Rattle.soundness_rules.proofs.Places as places
+use Rattle.soundness_rules.proofs.Alike as alike
+use Rattle.soundness_rules.proofs.Sameness as sameness
 use Rattle.soundness_rules.proofs.Versions as versions
 
 -- 8a. A sound register is of version 1 or of version 2.

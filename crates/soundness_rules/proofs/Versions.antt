@@ -13,8 +13,8 @@ use Rattle.register.specs.Limits.{hop_limit, left_limit, version_one, version_tw
 use Rattle.register.specs.declared.Claim.{Claim}
 use Rattle.register.specs.declared.Register.{Register}
 use Rattle.soundness_rules.specs.Sound.{fewer_left, sound}
-use Rattle.soundness_rules.specs.Laws.{ranged_least, ranged_greatest}
-use Rattle.soundness_rules.specs.Registers.{sound_out}
+use Rattle.soundness_rules.proofs.Laws.{ranged_least, ranged_greatest}
+use Rattle.soundness_rules.proofs.Registers.{sound_out}
 
 pub sound_version : (r : Register) → sound r ≡ true → (r.version ≡ version_one) ⊎ (r.version ≡ version_two)
 sound_version r h =

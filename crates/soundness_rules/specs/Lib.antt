@@ -1,11 +1,3 @@
 pub mod Sound
 pub mod Struck
 pub mod Roots
-pub mod Laws
-pub mod Registers
-pub mod Places
-pub mod Alike
-pub mod Chains
-pub mod Striking
-pub mod Sameness
-pub mod Tables

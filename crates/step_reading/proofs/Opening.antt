@@ -10,12 +10,12 @@ use lib.ListN.{length, drop}
 use Rattle.lists.specs.Tests.{and_left, and_right, clash}
 use Rattle.refusals.specs.declared.Refusal.TheVariants.{Form, TooDeep, TooManyActions}
 use Rattle.lines.specs.Lines.{Line, line, beyond, fault, action_step, plan_step, action_step_line, plan_step_line, parse_step}
-use Rattle.lines.specs.Laws.{word_read}
+use Rattle.lines.proofs.Laws.{word_read}
 use Rattle.lines.specs.Reading.{State, going, failed, taken}
 use Rattle.lines.specs.Answers.{FieldSays, state_of, read_step}
 use Rattle.lines.specs.declared.Cursor.{Cursor}
 use Rattle.lines.specs.declared.Field.{Field}
-use Rattle.text_rules.specs.Forms.{failed_going_clash}
+use Rattle.text_rules.proofs.Forms.{failed_going_clash}
 use Rattle.steps.specs.Nesting.{action_next, plan_next, barred, opening, opened}
 use Rattle.steps.specs.Laws.{opened_cases}
 use Rattle.steps.specs.Shrinking.{remaining, step_shrinks}

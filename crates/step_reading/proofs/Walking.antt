@@ -16,7 +16,7 @@ use Rattle.lines.specs.Answers.{FieldSays, state_of}
 use Rattle.lines.specs.declared.Cursor.{Cursor}
 use Rattle.lines.specs.declared.Field.{Field}
 use Rattle.text_rules.specs.Actions.{read_action}
-use Rattle.text_rules.specs.Forms.{failed_going_clash}
+use Rattle.text_rules.proofs.Forms.{failed_going_clash}
 use Rattle.text_rules.specs.Telling.{closed_going}
 use Rattle.steps.specs.Steps.{Steps, no_step, actions_in, level_limit, text_action_limit, plan_form}
 use Rattle.steps.specs.Nesting.{barred, opened, read_steps, read_plan, plan_of}

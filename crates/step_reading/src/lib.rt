@@ -1,6 +1,8 @@
 // A plan text read: where each of its actions begins.
 // The slice is lent, of any length and content, and read in one pass: the first failing line
 // decides. Reading steps and reading a plan call each other, with one level less at each plan.
+#![tactic(auto)]
+
 ghost use Rattle.std.specs.Prelude.{◌≡◌, ◌+◌, ◌-◌, ◌≤◌, ◌<◌, set};
 ghost use Rattle.lines.specs.Answers.{state_of};
 ghost use Rattle.text_rules.specs.Actions.{read_action};
@@ -13,7 +15,7 @@ use refusals::Refusal;
 use steps::TEXT_ACTIONS;
 
 // Where the actions of a plan text begin, in reading order, and where the reading stands.
-#[derive(Drop)]
+#[derive(Clone, Copy)]
 pub struct Places {
     pub list: [usize; TEXT_ACTIONS],
     pub count: usize,

@@ -6,7 +6,7 @@ use mathlib.Core.List.{List, ◌++◌}
 use native.Mathlib.Omega.{arith}
 use lib.ListN.{length, length-append, length-map}
 use Rattle.lists.specs.Lists.{All}
-use Rattle.soundness_rules.specs.Laws.{ranged_in}
+use Rattle.soundness_rules.proofs.Laws.{ranged_in}
 use Rattle.register.specs.declared.Register.{Register}
 use Rattle.refusals.specs.declared.Refusal.{Refusal}
 use Rattle.refusals.specs.declared.Refusal.TheVariants.{TooDeep, TooManyActions}
@@ -15,8 +15,8 @@ use Rattle.actions.specs.declared.Action.{Action}
 use Rattle.lines.specs.Lines.{action_step_line, plan_step_line}
 use Rattle.lines.specs.Reading.{State, going, failed, Read, read_form, form_line, closed}
 use Rattle.text_rules.specs.Actions.{ShapedAction, read_action, action_text}
-use Rattle.text_rules.specs.Forms.{form_reads}
-use Rattle.text_rules.specs.ActionTexts.{ReadFine, cleaned_action, cleaned_action_same, action_reads}
+use Rattle.text_rules.proofs.Forms.{form_reads}
+use Rattle.text_rules.proofs.ActionTexts.{ReadFine, cleaned_action, cleaned_action_same, action_reads}
 use Rattle.steps.specs.Steps.{Steps, no_step, action_then, plan_then, actions_in, step_count, Nested, step_limit, text_action_limit, plan_form, steps_text}
 use Rattle.steps.specs.Nesting.{barred, opened, read_steps, read_plan, plan_of}
 use Rattle.steps.specs.Judging.{plan_text_judged, stopped_plan}

@@ -9,7 +9,7 @@ use Rattle.actions.specs.declared.Action.{Action}
 use Rattle.lines.specs.Lines.{action_step_line, plan_step_line}
 use Rattle.lines.specs.Reading.{form_line}
 use Rattle.text_rules.specs.Actions.{ShapedAction, action_text}
-use Rattle.text_rules.specs.ActionTexts.{ReadFine, cleaned_action, cleaned_action_text, cleaned_action_same, cleaned_action_fine}
+use Rattle.text_rules.proofs.ActionTexts.{ReadFine, cleaned_action, cleaned_action_text, cleaned_action_same, cleaned_action_fine}
 use Rattle.gate_rules.specs.Plans.{SameActions}
 use Rattle.steps.specs.Steps.{Steps, no_step, action_then, plan_then, actions_in, step_count, Nested, step_limit, plan_form, steps_text, plan_text}
 

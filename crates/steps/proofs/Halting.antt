@@ -13,7 +13,7 @@ use Rattle.register.specs.Register.{actors_of}
 use Rattle.register.specs.declared.Register.{Register}
 use Rattle.soundness_rules.specs.Sound.{sound}
 use Rattle.refusals.specs.Refusals.{outcome_of}
-use Rattle.refusals.specs.Laws.{outcome_pass, outcome_fail, outcome_nil, outcome_clash}
+use Rattle.refusals.proofs.Laws.{outcome_pass, outcome_fail, outcome_nil, outcome_clash}
 use Rattle.refusals.specs.declared.Outcome.TheVariants.{Accepted, Refused}
 use Rattle.refusals.specs.declared.Refusal.{Refusal}
 use Rattle.refusals.specs.declared.Refusal.TheVariants.{Unsound, Range, Absent}
@@ -24,7 +24,7 @@ use Rattle.lines.specs.Reading.{failed}
 use Rattle.text_rules.specs.Telling.{Told}
 use Rattle.gate_rules.specs.Gate.{action_tests, violations_of}
 use Rattle.gate_rules.specs.Plans.{judged, judgements, Halt, runs, halts, first_halt}
-use Rattle.gate_rules.specs.Cancelling.{first_halt_pass, first_halt_fail, judgements_flagged}
+use Rattle.gate_rules.proofs.Cancelling.{first_halt_pass, first_halt_fail, judgements_flagged}
 use Rattle.steps.specs.Steps.{Steps, actions_in, plan_text, text_action_limit, PlanFits}
 use Rattle.steps.specs.Nesting.{plan_of}
 use Rattle.steps.specs.Judging.{PlanTextRead, plan_text_read, verdicts_in, halt_under, text_verdict, flat_judged, plan_text_judged}

@@ -10,7 +10,7 @@ use lib.Seq.{take-append_seam}
 use Rattle.lists.specs.Lists.{All}
 use Rattle.lists.specs.Each.{all_imp}
 use Rattle.register.specs.declared.Register.{Register}
-use Rattle.refusals.specs.Laws.{outcome_clash}
+use Rattle.refusals.proofs.Laws.{outcome_clash}
 use Rattle.refusals.specs.declared.Outcome.TheVariants.{Accepted, Refused}
 use Rattle.refusals.specs.declared.Refusal.{Refusal}
 use Rattle.actions.specs.Actions.{action_fits, action_limit}
@@ -22,7 +22,7 @@ use Rattle.actions.specs.declared.Judgement.TheVariants.{Permitted}
 use Rattle.lines.specs.Reading.{State, going, failed, Read, closed}
 use Rattle.text_rules.specs.Actions.{ShapedAction}
 use Rattle.text_rules.specs.Telling.{going_same, closed_going}
-use Rattle.text_rules.specs.ActionTexts.{ReadFine, cleaned_action}
+use Rattle.text_rules.proofs.ActionTexts.{ReadFine, cleaned_action}
 use Rattle.gate_rules.specs.Plans.{SameActions, actions_of, judgements, Halt, runs, halts, halt_of, plan_verdict, planned}
 use Rattle.steps.specs.Steps.{Steps, actions_in, plan_text, step_limit, level_limit, text_action_limit, PlanFits}
 use Rattle.steps.specs.Nesting.{plan_of, read_plan}

@@ -1,3 +1,4 @@
+pub mod Sameness
 pub mod Cases
 pub mod Reading
 pub mod Telling

@@ -8,7 +8,7 @@ use Rattle.actions.specs.Actions.{action_fits}
 use Rattle.lines.specs.Lines.{action_step_line, plan_step_line}
 use Rattle.lines.specs.Reading.{form_line}
 use Rattle.text_rules.specs.Actions.{ShapedAction, action_text}
-use Rattle.text_rules.specs.ActionTexts.{cleaned_action_same, same_action_sym, same_action_trans, same_action_text}
+use Rattle.text_rules.proofs.ActionTexts.{cleaned_action_same, same_action_sym, same_action_trans, same_action_text}
 use Rattle.steps.specs.Steps.{Steps, no_step, action_then, plan_then, actions_in, step_count, plan_form, steps_text, plan_text, SameSteps, PlanFits}
 use Rattle.steps.specs.Nesting.{plan_of}
 use Rattle.steps.proofs.Reading.{all_left, all_right}

@@ -6,15 +6,15 @@ use mathlib.Core.List.{List, [], ◌∷◌, ◌++◌, append_assoc}
 use native.Mathlib.Omega.{arith}
 use lib.ListN.{length, length-append}
 use Rattle.lists.specs.Lists.{All}
-use Rattle.soundness_rules.specs.Laws.{ranged_in, ranged_greatest}
+use Rattle.soundness_rules.proofs.Laws.{ranged_in, ranged_greatest}
 use Rattle.actions.specs.declared.Action.{Action}
 use Rattle.refusals.specs.declared.Refusal.TheVariants.{TooDeep}
 use Rattle.lines.specs.Lines.{action_step_line, plan_step_line}
 use Rattle.lines.specs.Reading.{State, going, failed, Read, read_form, form_line}
 use Rattle.text_rules.specs.Actions.{read_action, action_text}
 use Rattle.text_rules.specs.Things.{ReadsAs, Stood}
-use Rattle.text_rules.specs.Forms.{form_reads, form_stood, failed_going_clash}
-use Rattle.text_rules.specs.ActionTexts.{ReadFine, action_reads, action_stood}
+use Rattle.text_rules.proofs.Forms.{form_reads, form_stood, failed_going_clash}
+use Rattle.text_rules.proofs.ActionTexts.{ReadFine, action_reads, action_stood}
 use Rattle.steps.specs.Steps.{Steps, no_step, action_then, plan_then, actions_in, step_count, Nested, step_limit, plan_form, steps_text, plan_text}
 use Rattle.steps.specs.Nesting.{read_steps, read_plan}
 use Rattle.steps.specs.Laws.{opened_action, opened_plan, opened_cases, on_action, on_plan, steps_action, steps_plan, steps_barred, steps_none, plan_counted}

@@ -7,7 +7,7 @@ use Rattle.lists.specs.Tests.{cases}
 use Rattle.refusals.specs.declared.Refusal.{Refusal}
 use Rattle.refusals.specs.declared.Refusal.TheVariants.{Form, TooDeep, TooManyActions}
 use Rattle.lines.specs.Lines.{begins, parse_word, action_step_line, plan_step_line}
-use Rattle.lines.specs.Laws.{begins_append, begins_split}
+use Rattle.lines.proofs.Laws.{begins_append, begins_split}
 use Rattle.lines.specs.Reading.{State, going, failed, Read, read_form}
 use Rattle.text_rules.specs.Actions.{read_action}
 use Rattle.steps.specs.Steps.{Steps, no_step, action_then, plan_then, actions_in, plan_form}

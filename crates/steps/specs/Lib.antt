@@ -5,4 +5,3 @@ pub mod Answers
 pub mod Opens
 pub mod Laws
 pub mod Shrinking
-pub mod Sameness

@@ -4,8 +4,8 @@ use Rattle.std.proofs.Common.{sym, ap, subst, arith, length-append}
 use Rattle.lines.specs.Lines.{action_step_line, plan_step_line}
 use Rattle.lines.specs.Reading.{State, going, failed, Read, read_form, form_line}
 use Rattle.text_rules.specs.Actions.{read_action, action_text}
-use Rattle.text_rules.specs.Forms.{form_stood}
-use Rattle.text_rules.specs.ActionTexts.{action_stood}
+use Rattle.text_rules.proofs.Forms.{form_stood}
+use Rattle.text_rules.proofs.ActionTexts.{action_stood}
 use Rattle.steps.specs.Steps.{Steps, actions_in, plan_form}
 use Rattle.steps.specs.Nesting.{read_steps, read_plan}
 use Rattle.steps.specs.Laws.{opened_cases, steps_action, steps_plan, steps_barred, steps_none, plan_counted}

@@ -1,6 +1,8 @@
 // Plans inside plans: the steps of a plan text, read and judged: definitions and theorems.
 // Here is what a plan text is answered with; in specs/ the definitions that the call is proved to
 // equal.
+#![tactic(auto)]
+
 use actions::Judged;
 use refusals::Outcome;
 
@@ -15,7 +17,7 @@ pub const TEXT_ACTIONS: usize = 64;
 
 // The answer for a plan text. Refused: no verdicts; the failing line from 1 where the text is refused, and the position of the action that does
 // so where one stops the plan. Past the count the list holds permissions that say nothing.
-#[derive(Drop)]
+#[derive(Clone, Copy)]
 pub struct PlanTextVerdict {
     pub outcome: Outcome,
     pub line: usize,

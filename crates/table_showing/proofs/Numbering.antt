@@ -16,13 +16,13 @@ use Rattle.register.specs.Chain.{expired}
 use Rattle.register.specs.declared.Claim.{Claim}
 use Rattle.register.specs.declared.Register.{Register}
 use Rattle.soundness_rules.specs.Sound.{sound}
-use Rattle.soundness_rules.specs.Registers.{sound_out}
+use Rattle.soundness_rules.proofs.Registers.{sound_out}
 use Rattle.actions.specs.declared.Usage.{Usage}
 use Rattle.gate_rules.specs.Gate.{covering, covers, reach_of, relied}
 use Rattle.gate_rules.specs.Nearest.{nearest_found, nearest_none}
 use Rattle.gate_rules.specs.Authority.{IsIn}
 use Rattle.coverage_table.specs.Table.{Remark, Entry, nothing, openly, claimed, remark_of, lives_over, remark_on, cover_table, looked_up, is_nothing, entry_claim}
-use Rattle.coverage_table.specs.Uses.{lookup_answers}
+use Rattle.coverage_table.proofs.Uses.{lookup_answers}
 use Rattle.refusals.specs.Refusals.{outcome_of}
 use Rattle.refusals.specs.declared.Refusal.{Refusal}
 use Rattle.refusals.specs.declared.Outcome.TheVariants.{Accepted, Refused}

@@ -14,10 +14,10 @@ use Rattle.register.specs.Register.{actors_of}
 use Rattle.register.specs.declared.Actor.{Actor}
 use Rattle.register.specs.declared.Register.{Register}
 use Rattle.soundness_rules.specs.Sound.{human, actor_fits, sound}
-use Rattle.soundness_rules.specs.Registers.{sound_out, actor_fits_out}
+use Rattle.soundness_rules.proofs.Registers.{sound_out, actor_fits_out}
 use Rattle.gate_rules.specs.Gate.{first_of}
 use Rattle.gate_rules.specs.Places.{any_place, all_place, first_hit, first_miss, first_none, first_found}
-use Rattle.gate_rules.specs.Trace.{distinct_place}
+use Rattle.gate_rules.proofs.Trace.{distinct_place}
 use Rattle.coverage_table.specs.Table.{table_owner}
 use Rattle.table_showing.specs.Shown.{owner_shown}
 

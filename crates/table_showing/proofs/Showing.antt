@@ -20,17 +20,18 @@ use Rattle.register.specs.declared.Resource.{Resource}
 use Rattle.register.specs.declared.Claim.{Claim}
 use Rattle.register.specs.declared.Register.{Register}
 use Rattle.soundness_rules.specs.Sound.{sound}
-use Rattle.soundness_rules.specs.Laws.{fresh_out}
-use Rattle.soundness_rules.specs.Places.{place_acceptable}
-use Rattle.soundness_rules.specs.Registers.{sound_out}
+use Rattle.soundness_rules.proofs.Laws.{fresh_out}
+use Rattle.soundness_rules.proofs.Places.{place_acceptable}
+use Rattle.soundness_rules.proofs.Registers.{sound_out}
 use Rattle.gate_rules.specs.Places.{all_latest}
-use Rattle.gate_rules.specs.Coverage.{sound_place}
+use Rattle.gate_rules.proofs.Coverage.{sound_place}
 use Rattle.gate_rules.specs.Authority.{IsIn}
 use Rattle.lookup.specs.Laws.{counted_number}
 use Rattle.refusals.specs.declared.Outcome.TheVariants.{Accepted}
 use Rattle.coverage_table.specs.Table.{Remark, Entry, nothing, openly, claimed, Cell, cover_table, table_owner}
-use Rattle.coverage_table.specs.Remarks.{world_around, remark_among}
-use Rattle.coverage_table.specs.Filling.{row_by, table_by, remarks_standing}
+use Rattle.coverage_table.proofs.Remarks.{world_around}
+use Rattle.coverage_table.specs.Hearing.{remark_among}
+use Rattle.coverage_table.proofs.Filling.{row_by, table_by, remarks_standing}
 use Rattle.paper.specs.Cells.{cell_limit, cell_at, past_resource, resource_at}
 use Rattle.paper.specs.Paper.{claim_stands, CellTells, entry_by, Filled, Written}
 use Rattle.paper.specs.Laws.{resources_counted, claims_counted, claim_in_lem, table_whole}

@@ -12,7 +12,7 @@ use Rattle.register.specs.Limits.{id_limit, moment_end}
 use Rattle.register.specs.Chain.{current, expired}
 use Rattle.register.specs.declared.Claim.{Claim}
 use Rattle.refusals.specs.Refusals.{outcome_of}
-use Rattle.refusals.specs.Laws.{outcome_pass, outcome_fail, outcome_nil}
+use Rattle.refusals.proofs.Laws.{outcome_pass, outcome_fail, outcome_nil}
 use Rattle.refusals.specs.declared.Outcome.{Outcome}
 use Rattle.refusals.specs.declared.Outcome.TheVariants.{Accepted, Refused}
 use Rattle.refusals.specs.declared.Refusal.TheVariants.{Unsound, Range, Absent}
@@ -39,18 +39,18 @@ module _ (moment : ℕ) (c : Claim) (lives : Bool) where
   current_weighing some = rw (lt-ltb 0 c.weight (omega (arith, some)))
 
   module _ (some : c.weight ≡ 0 → ⊥) {here : Bool} (told : here ≡ current moment c) where
-    pub state_expired : not here ≡ true → 3 ≡ state_number moment c lives
+    pub state_expired : here ≡ false → 3 ≡ state_number moment c lives
     state_expired gone =
-        let past : expired moment c ≡ true = not-false (expired moment c) (sym (current_weighing some) ∙ sym told ∙ not-true here gone) in
+        let past : expired moment c ≡ true = not-false (expired moment c) (sym (current_weighing some) ∙ sym told ∙ gone) in
         rw (ne_eqb c.weight 0 some, past)
 
-    lasting : not here ≡ false → expired moment c ≡ false
-    lasting stays = not-true (expired moment c) (sym (current_weighing some) ∙ sym told ∙ not-false here stays)
+    lasting : here ≡ true → expired moment c ≡ false
+    lasting stays = not-true (expired moment c) (sym (current_weighing some) ∙ sym told ∙ stays)
 
-    pub state_live : not here ≡ false → lives ≡ true → 1 ≡ state_number moment c lives
+    pub state_live : here ≡ true → lives ≡ true → 1 ≡ state_number moment c lives
     state_live stays living = rw (ne_eqb c.weight 0 some, lasting stays, living)
 
-    pub state_dead : not here ≡ false → lives ≡ false → 4 ≡ state_number moment c lives
+    pub state_dead : here ≡ true → lives ≡ false → 4 ≡ state_number moment c lives
     state_dead stays dead = rw (ne_eqb c.weight 0 some, lasting stays, dead)
 
 -- ---- the tests

@@ -7,7 +7,7 @@ use Rattle.register.specs.Limits.{claim_limit}
 use Rattle.register.specs.Register.{no_actor}
 use Rattle.register.specs.declared.Register.{Register}
 use Rattle.refusals.specs.Refusals.{outcome_of}
-use Rattle.refusals.specs.Laws.{outcome_accepted}
+use Rattle.refusals.proofs.Laws.{outcome_accepted}
 use Rattle.refusals.specs.declared.Outcome.{Outcome}
 use Rattle.refusals.specs.declared.Outcome.TheVariants.{Accepted, Refused}
 use Rattle.refusals.specs.declared.Refusal.{Refusal}

@@ -1,6 +1,8 @@
 // The cover table of an actor shown as numbers: what stands on the paper.
 // Tests 1, 2 and 3 come first. Then of each claim its hop count, and whether it lives or why not;
 // and for the actor and its owner, each resource and right, the place of the claim that speaks.
+#![tactic(auto)]
+
 ghost use Rattle.std.specs.Prelude.{◌≡◌, Bool, true, false, cond, ◌*◌, ◌≤◌, eqb, length, get_or};
 ghost use Rattle.lists.specs.Fills.{filled_by};
 ghost use Rattle.rights.specs.Rights.{right_count};
@@ -33,7 +35,7 @@ pub const NOTHING: u32 = 257;
 
 // What is shown of a register for an actor and a moment: the owner that is asked, 0 for none; of each claim its hop count and its state, 0 past the
 // claims; and the cells of the actor and of its owner, seventeen to a resource, with nothing past the resources and where there is no owner.
-#[derive(Drop)]
+#[derive(Clone, Copy)]
 pub struct TableShown {
     pub outcome: Outcome,
     pub owner: u32,

@@ -9,8 +9,8 @@ use Rattle.refusals.specs.declared.Outcome.TheVariants.{Accepted, Refused}
 use Rattle.refusals.specs.declared.Refusal.{Refusal}
 use Rattle.lines.specs.Reading.{State, going, Read, closed}
 use Rattle.text_rules.specs.Actions.{ShapedAction, read_action, action_of, action_text, action_read, action_ending}
-use Rattle.text_rules.specs.ActionCodec.{ActionLists, action_parts, action_holding, action_lists_of, reads_parts, text_parts, parts_fit, holding_same, action_lines_out}
-use Rattle.text_rules.specs.ActionTexts.{action_stood}
+use Rattle.text_rules.proofs.ActionCodec.{ActionLists, action_parts, action_holding, action_lists_of, reads_parts, text_parts, parts_fit, holding_same, action_lines_out}
+use Rattle.text_rules.proofs.ActionTexts.{action_stood}
 use Rattle.text_rules.specs.Telling.{going_same, closed_going}
 use Rattle.text_rules.specs.declared.ActionRead.{ActionRead}
 use Rattle.text_rules.proofs.Answering.{accepted_action, refused_action}

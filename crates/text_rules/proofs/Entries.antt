@@ -17,9 +17,9 @@ use Rattle.lines.specs.Lines.{held_path}
 use Rattle.text_rules.specs.Keys.{claims_key}
 use Rattle.text_rules.specs.Records.{values, passed, texts, section_text}
 use Rattle.text_rules.specs.Registers.{actor_forms, actor_numbers, actor_from, resource_forms, resource_numbers, resource_from, resource_text, claim_forms, claim_numbers, claim_from, claim_text}
-use Rattle.text_rules.specs.Fitting.{ResourceLines, lines_fit}
+use Rattle.text_rules.proofs.Fitting.{ResourceLines, lines_fit}
 use Rattle.text_rules.specs.Things.{Codec, Pair, pair_codec, made_codec}
-use Rattle.text_rules.specs.Forms.{scope_codec, lines_codec}
+use Rattle.text_rules.proofs.Forms.{scope_codec, lines_codec}
 
 -- an actor: numbers in lines
 pub actor_back : (st : State) → actor_numbers (actor_from (values actor_forms st)) ≡ values actor_forms st

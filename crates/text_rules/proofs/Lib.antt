@@ -1,3 +1,8 @@
+pub mod Fitting
+pub mod Lengths
+pub mod Forms
+pub mod ActionCodec
+pub mod ActionTexts
 pub mod Entries
 pub mod Answering
 pub mod RegisterLaws

@@ -19,10 +19,10 @@ use Rattle.register.specs.declared.Resource.{Resource}
 use Rattle.register.specs.declared.Claim.{Claim}
 use Rattle.register.specs.declared.Register.{Register}
 use Rattle.soundness_rules.specs.Sound.{sound, human, resource_fits, each_stored}
-use Rattle.soundness_rules.specs.Alike.{stored_claims_as, stored_claims_length}
-use Rattle.soundness_rules.specs.Sameness.{sound_same}
-use Rattle.soundness_rules.specs.Registers.{sound_out, resource_fits_out}
-use Rattle.refusals.specs.Laws.{outcome_cases}
+use Rattle.soundness_rules.proofs.Alike.{stored_claims_as, stored_claims_length}
+use Rattle.soundness_rules.proofs.Sameness.{sound_same}
+use Rattle.soundness_rules.proofs.Registers.{sound_out, resource_fits_out}
+use Rattle.refusals.proofs.Laws.{outcome_cases}
 use Rattle.refusals.specs.declared.Outcome.TheVariants.{Accepted, Refused}
 use Rattle.refusals.specs.declared.Refusal.{Refusal}
 use Rattle.lines.specs.Reading.{State, going, Read, closed}
@@ -30,9 +30,9 @@ use Rattle.text_rules.specs.Keys.{actors_key, resources_key, claims_key}
 use Rattle.text_rules.specs.Records.{texts, section_text}
 use Rattle.text_rules.specs.Registers.{actor_forms, actor_numbers, resource_text, claim_forms, claim_numbers, held_actors, held_resources, held_claims, read_actors, read_resources, read_claims, version_form, register_from, register_text, register_read, register_ending}
 use Rattle.text_rules.specs.declared.RegisterRead.{RegisterRead}
-use Rattle.text_rules.specs.Fitting.{ResourceLines, RegisterLines, register_lines_fit, lines_fit}
+use Rattle.text_rules.proofs.Fitting.{ResourceLines, RegisterLines, register_lines_fit, lines_fit}
 use Rattle.text_rules.specs.Things.{Codec, Pair, decided_codec, pair_codec}
-use Rattle.text_rules.specs.Forms.{form_codec, section_codec}
+use Rattle.text_rules.proofs.Forms.{form_codec, section_codec}
 use Rattle.text_rules.proofs.Entries.{actor, actor_fits_lem, claim, claim_fits_lem, claims_as_text, claims_text, resource, cleaned, cleaned_fits, cleaned_text, cleaned_standing}
 use Rattle.text_rules.specs.Holding.{held_entries}
 use Rattle.text_rules.specs.Telling.{going_same, closed_going}

@@ -17,8 +17,8 @@ use Rattle.text_rules.specs.Keys.{actors_key, resources_key, claims_key}
 use Rattle.text_rules.specs.Records.{lines_text, texts, section_text}
 use Rattle.text_rules.specs.Registers.{actor_text, resource_forms, resource_text, claim_text, version_form, register_text, register_read}
 use Rattle.text_rules.specs.Actions.{ShapedAction, action_text, action_read}
-use Rattle.text_rules.specs.ActionCodec.{pieces_same}
-use Rattle.text_rules.specs.ActionTexts.{same_action_sym, same_action_trans}
+use Rattle.text_rules.proofs.ActionCodec.{pieces_same}
+use Rattle.text_rules.proofs.ActionTexts.{same_action_sym, same_action_trans}
 use Rattle.text_rules.proofs.Entries.{claims_as_text}
 use Rattle.text_rules.proofs.RegisterLaws.{read_written}
 use Rattle.text_rules.proofs.ActionLaws as actions

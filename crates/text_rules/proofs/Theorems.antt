@@ -17,7 +17,7 @@ use Rattle.refusals.specs.declared.Outcome.TheVariants.{Accepted, Refused}
 use Rattle.lines.specs.Reading.{failed}
 use Rattle.text_rules.specs.Registers.{register_from, register_text, register_read, text_limit}
 use Rattle.text_rules.specs.Actions.{action_of, action_read}
-use Rattle.text_rules.specs.Lengths as lengths
+use Rattle.text_rules.proofs.Lengths as lengths
 use Rattle.text_rules.proofs.RegisterLaws as registers
 use Rattle.text_rules.proofs.ActionLaws as actions
 use Rattle.text_rules.proofs.Sameness as sameness

@@ -8,7 +8,7 @@ use Rattle.actions.specs.Actions.{action_fits, SameAction}
 use Rattle.actions.specs.declared.Action.{Action}
 use Rattle.refusals.specs.declared.Outcome.TheVariants.{Accepted}
 use Rattle.text_rules.specs.Actions.{ShapedAction, action_text, action_read}
-use Rattle.text_rules.specs.ActionTexts as texts
+use Rattle.text_rules.proofs.ActionTexts as texts
 use Rattle.text_rules.proofs.ActionLaws as actions
 use Rattle.text_rules.proofs.Sameness as sameness
 

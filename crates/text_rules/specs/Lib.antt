@@ -3,12 +3,7 @@ pub mod Records
 pub mod Registers
 pub mod Actions
 pub mod Laws
-pub mod Fitting
-pub mod Lengths
 pub mod Things
-pub mod Forms
 pub mod Holding
-pub mod ActionCodec
-pub mod ActionTexts
 pub mod Telling
 pub mod FirstLines

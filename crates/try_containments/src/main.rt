@@ -12,6 +12,8 @@
 //   "dropping all slashes at its end"         rows `/` and `//` are alike, so are `site` and `site/`, and `site/a` and `site/a/`
 //   "must begin with a slash"                 `site` contains `site/` and all below it; `site/a` contains `site/a/` and `site/a/b` and not
 //                                             `site/ab`; `/` contains `/` and `//` and not `x`
+#![tactic(auto)]
+
 use paths::Reach;
 
 fn main() {

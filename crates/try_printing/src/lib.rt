@@ -1,6 +1,8 @@
 // Standard output for the programs that only test.
 // A write that fails is not told to the caller: what is printed is then short, and the comparison
 // with what is expected fails.
+#![tactic(auto)]
+
 const STANDARD_OUTPUT: i32 = 1;
 
 // Writes the bytes as they are.

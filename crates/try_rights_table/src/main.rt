@@ -11,6 +11,8 @@
 //   "rights, 1 to 131,071" (the register)       `in_range` is 1 at both ends, and 0 at 0 and at 131072
 //   "contains every right of the claim" (b)     `has_all`: 1 lacks WRITE and DELEGATE of 19; 3 is READ and WRITE, which neither 1 nor 2 has
 //                                               by itself; who is asked for nothing has it
+#![tactic(auto)]
+
 fn main() {
     table();
     right(17);

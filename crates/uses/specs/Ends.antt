@@ -12,9 +12,9 @@ use Rattle.register.specs.declared.Register.{Register}
 use Rattle.columns.specs.Columns.{claim_id, parent_of, holder_of, weight_of, expiry_of, chain_places, current_at}
 use Rattle.columns.specs.Laws.{current_natural}
 use Rattle.soundness_rules.specs.Sound.{sound}
-use Rattle.soundness_rules.specs.Registers.{sound_out}
-use Rattle.soundness_rules.specs.Places.{claim_numbered}
-use Rattle.soundness_rules.specs.Chains.{place_above}
+use Rattle.soundness_rules.proofs.Registers.{sound_out}
+use Rattle.soundness_rules.proofs.Places.{claim_numbered}
+use Rattle.soundness_rules.proofs.Chains.{place_above}
 use Rattle.gate_rules.specs.Places.{latest_split}
 use Rattle.lookup.specs.Finding.{asked, earlier_places}
 use Rattle.lookup.specs.Laws.{tabled_length}

@@ -22,11 +22,11 @@ use Rattle.columns.specs.Columns.{resource_id, public_of, claimed_of, rights_of}
 use Rattle.columns.specs.declared.Place.{Place}
 use Rattle.columns.specs.declared.Place.TheVariants.{At, Nowhere}
 use Rattle.soundness_rules.specs.Sound.{sound}
-use Rattle.soundness_rules.specs.Registers.{sound_out}
+use Rattle.soundness_rules.proofs.Registers.{sound_out}
 use Rattle.actions.specs.declared.Usage.{Usage}
 use Rattle.gate_rules.specs.Gate.{contains, covering, covers, relied, nearest_of, reach_of}
 use Rattle.gate_rules.specs.Nearest.{nearer_from, nearest_walked}
-use Rattle.gate_rules.specs.Coverage.{covering_out}
+use Rattle.gate_rules.proofs.Coverage.{covering_out}
 use Rattle.coverage.specs.Laid.{laid}
 use Rattle.coverage.specs.LaidLaws.{part_laid}
 use Rattle.lookup.specs.Finding.{asked, places_of, place_number}

@@ -20,11 +20,11 @@ use Rattle.columns.specs.declared.Place.TheVariants.{At, Nowhere}
 use Rattle.lookup.specs.Finding.{place_number}
 use Rattle.lookup.specs.Asked.{asked_at, asked_natural}
 use Rattle.soundness_rules.specs.Sound.{sound}
-use Rattle.soundness_rules.specs.Registers.{sound_out}
+use Rattle.soundness_rules.proofs.Registers.{sound_out}
 use Rattle.actions.specs.declared.Usage.{Usage}
 use Rattle.gate_rules.specs.Gate.{public_read, contains, path_by, reach_of}
 use Rattle.gate_rules.specs.Places.{any_place, place_any}
-use Rattle.gate_rules.specs.Reaching.{path_natural}
+use Rattle.gate_rules.proofs.Reaching.{path_natural}
 use Rattle.coverage.specs.Gathering.{spot_of, spot_in}
 use Rattle.coverage.specs.Laws.{containing}
 use Rattle.uses.specs.Uses.{open_to}

@@ -19,15 +19,15 @@ use Rattle.columns.specs.declared.Place.{Place}
 use Rattle.columns.specs.declared.Place.TheVariants.{At, Nowhere}
 use Rattle.lookup.specs.Asked.{asked_at, asked_natural}
 use Rattle.soundness_rules.specs.Sound.{World, world_of, sound_claims, sound}
-use Rattle.soundness_rules.specs.Registers.{sound_out}
-use Rattle.soundness_rules.specs.Places.{claim_numbered}
-use Rattle.soundness_rules.specs.Chains.{place_hops_whole}
+use Rattle.soundness_rules.proofs.Registers.{sound_out}
+use Rattle.soundness_rules.proofs.Places.{claim_numbered}
+use Rattle.soundness_rules.proofs.Chains.{place_hops_whole}
 use Rattle.lookup.specs.Laws.{hop_count_natural}
 use Rattle.actions.specs.declared.Usage.{Usage}
 use Rattle.gate_rules.specs.Gate.{covers, owner_lacks, use_violation, hops_in, hops_for}
 use Rattle.gate_rules.specs.Places.{latest_split}
-use Rattle.gate_rules.specs.Coverage.{sound_place}
-use Rattle.gate_rules.specs.Trace.{place_hops_most}
+use Rattle.gate_rules.proofs.Coverage.{sound_place}
+use Rattle.gate_rules.proofs.Trace.{place_hops_most}
 use Rattle.gate_rules.specs.Authority.{IsIn}
 use Rattle.coverage.specs.Laws.{nearest_any}
 use Rattle.uses.specs.Uses.{open_to, hops_from, covered_by, relied_on, use_faults, use_hops, steps_told}

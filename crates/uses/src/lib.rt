@@ -4,6 +4,8 @@
 // are put behind those of a list. What a pass finds stands at the use's place; of a claim it is its
 // place, 256 for none. That a use is judged so as 01 says, where the columns are those of a sound
 // register, is proved in specs/SightsLaws.
+#![tactic(auto)]
+
 ghost use Rattle.std.specs.Prelude.{◌≡◌, take};
 ghost use Rattle.violations.specs.Pushed.{pushed_all};
 ghost use Rattle.uses.specs.Uses.{open_to, steps_told};
@@ -17,7 +19,7 @@ use register::Register;
 const NO_SPOT: u16 = Register::RESOURCES as u16;
 
 // The uses of an action as columns: the right of each, and the place of its resource, 64 for none; 0 and 64 past the count.
-#[derive(Drop)]
+#[derive(Clone, Copy)]
 pub struct Uses {
     pub rights: [u32; Action::USES],
     pub spots: [u16; Action::USES],
@@ -25,7 +27,7 @@ pub struct Uses {
 }
 
 // The violations with those of the uses, and the hop counts; 0 past the uses.
-#[derive(Drop)]
+#[derive(Clone, Copy)]
 pub struct UsesJudged {
     pub violations: Violations,
     pub hops: [usize; Action::USES],

@@ -7,7 +7,7 @@ use native.Mathlib.Omega.{arith}
 use lib.ListN.{length, get_or}
 use Rattle.lists.specs.Bytes.{bytes}
 use Rattle.refusals.specs.Refusals.{outcome_of}
-use Rattle.refusals.specs.Laws.{outcome_cases}
+use Rattle.refusals.proofs.Laws.{outcome_cases}
 use Rattle.refusals.specs.declared.Outcome.TheVariants.{Accepted, Refused as RefusedFor}
 use Rattle.refusals.specs.declared.Refusal.{Refusal}
 use Rattle.actions.specs.declared.Violation.{Violation}
@@ -16,7 +16,7 @@ use Rattle.actions.specs.declared.Decision.{Decision}
 use Rattle.actions.specs.declared.Decision.TheVariants.{Permitted, Refused, Stopped}
 use Rattle.actions.specs.declared.Verdict.{Verdict}
 use Rattle.gate_rules.specs.Gate.{violations_of, gate_tests, listed, decided, gated}
-use Rattle.gate_rules.specs.Laws.{gate_tests_in, gated_judged, gated_stopped, permitted_out, violations_none_in}
+use Rattle.gate_rules.proofs.Laws.{gate_tests_in, gated_judged, gated_stopped, permitted_out, violations_none_in}
 use Rattle.decimals.specs.Decimals.{digits, digits_with}
 use Rattle.lines.specs.Lines.{decimal_line}
 use Rattle.text_rules.specs.Records.{texts}

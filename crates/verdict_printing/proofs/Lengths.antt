@@ -16,7 +16,7 @@ use Rattle.register.specs.Register.{actors_of}
 use Rattle.register.specs.declared.Register.{Register}
 use Rattle.soundness_rules.specs.Sound.{is_machine}
 use Rattle.refusals.specs.Refusals.{number_of, outcome_of}
-use Rattle.refusals.specs.Laws.{number_bounds, outcome_cases}
+use Rattle.refusals.proofs.Laws.{number_bounds, outcome_cases}
 use Rattle.refusals.specs.declared.Outcome.{Outcome}
 use Rattle.refusals.specs.declared.Outcome.TheVariants.{Accepted, Refused as RefusedFor}
 use Rattle.refusals.specs.declared.Refusal.{Refusal}
@@ -31,17 +31,17 @@ use Rattle.actions.specs.declared.Decision.{Decision}
 use Rattle.actions.specs.declared.Decision.TheVariants.{Permitted, Refused, Stopped}
 use Rattle.gate_rules.specs.Gate.{covers, is_ownerless, owner_lacks, flags_set, governed, use_violation, use_violations, violations_of, gate_tests, listed, decided, gated}
 use Rattle.gate_rules.specs.Kinds.{kinds_five}
-use Rattle.gate_rules.specs.Laws.{action_fits_out, gate_tests_out, gated_judged, gated_stopped, governed_nil, governed_cons, use_violations_nil, use_violations_cons}
-use Rattle.gate_rules.specs.Bounds.{violations_most}
+use Rattle.gate_rules.proofs.Laws.{action_fits_out, gate_tests_out, gated_judged, gated_stopped, governed_nil, governed_cons, use_violations_nil, use_violations_cons}
+use Rattle.gate_rules.proofs.Bounds.{violations_most}
 use Rattle.decimals.specs.Walk.{length_small, length_under}
 use Rattle.lines.specs.Lines.{decimal_line}
-use Rattle.lines.specs.Laws.{decimal_line_length}
+use Rattle.lines.proofs.Laws.{decimal_line_length}
 use Rattle.lines.specs.Reading.{State, going, failed, closed}
 use Rattle.json_rules.specs.Actions.{json_read}
 use Rattle.text_rules.specs.Records.{texts}
 use Rattle.text_rules.specs.Registers.{register_read}
 use Rattle.text_rules.specs.Actions.{action_read}
-use Rattle.text_rules.specs.Lengths.{texts_length}
+use Rattle.text_rules.proofs.Lengths.{texts_length}
 use Rattle.verdict_printing.specs.Printed.{permitted_line, refused_line, stopped_line, violations_key, violation_key, at_key, refusal_key, violations_in, pair_text, list_text, stopped_text, verdict_lines, verdict_text, unless_refused, printed, printed_limit, clock_read, clock_lines, json_printed}
 
 -- a violation names a number of 16 bits

@@ -1,6 +1,8 @@
 // The verdict as text: the lines that 01's program prints.
 // Of the two texts that it reads, and those that the program for JSON actions prints of the three
 // that it reads, put into a lent buffer whole or not at all.
+#![tactic(auto)]
+
 ghost use Rattle.std.specs.Prelude.{◌≡◌, ◌+◌, ◌≤◌, length};
 ghost use Rattle.lists.specs.Lists.{splice};
 ghost use Rattle.actions.specs.Actions.{violation_limit};

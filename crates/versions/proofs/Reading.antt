@@ -10,7 +10,7 @@ use Rattle.actions.specs.declared.Action.{Action}
 use Rattle.actions.specs.declared.Plan.{Plan}
 use Rattle.gate_rules.specs.Gate.{gated}
 use Rattle.gate_rules.specs.Plans.{planned}
-use Rattle.gate_rules.specs.Sameness.{gated_same, gated_alike, planned_same, planned_alike}
+use Rattle.gate_rules.proofs.Sameness.{gated_same, gated_alike, planned_same, planned_alike}
 use Rattle.text_rules.specs.Registers.{register_text, register_read}
 use Rattle.text_rules.proofs.Theorems.{register_accepted, register_read_written}
 use Rattle.versions.specs.Versions.{as_two}

@@ -19,8 +19,8 @@ use Rattle.register.specs.Laws.{bare}
 use Rattle.register.specs.declared.Claim.{Claim}
 use Rattle.register.specs.declared.Register.{Register}
 use Rattle.soundness_rules.specs.Sound.{world_of, sound_claims, sound_actors, sound_resources, within_limits, sound, each_stored}
-use Rattle.soundness_rules.specs.Alike.{each_stored_bare, stored_claims_length, sound_claims_two}
-use Rattle.soundness_rules.specs.Sameness.{Alike}
+use Rattle.soundness_rules.proofs.Alike.{each_stored_bare, stored_claims_length, sound_claims_two}
+use Rattle.soundness_rules.proofs.Sameness.{Alike}
 use Rattle.versions.specs.Versions.{as_two}
 
 -- the first n of a list in whose place others were put, as many

@@ -12,10 +12,10 @@ use Rattle.actions.specs.declared.Action.{Action}
 use Rattle.actions.specs.declared.Plan.{Plan}
 use Rattle.gate_rules.specs.Gate.{gated}
 use Rattle.gate_rules.specs.Plans.{planned}
-use Rattle.gate_rules.specs.Sameness.{gated_alike, planned_alike}
+use Rattle.gate_rules.proofs.Sameness.{gated_alike, planned_alike}
 use Rattle.text_rules.specs.Registers.{register_text, register_read}
 use Rattle.steps.specs.Judging.{plan_text_judged}
-use Rattle.steps.specs.Sameness.{plan_text_alike}
+use Rattle.steps.proofs.Sameness.{plan_text_alike}
 use Rattle.versions.specs.Versions.{as_two}
 use Rattle.versions.proofs.Rewriting as rewriting
 use Rattle.versions.proofs.Reading as reading

@@ -2,6 +2,8 @@
 // The flags that are set, that a machine has no owner, and the entries that it governs, each put
 // behind those that are there. What is put where there is no place is dropped: an action in range
 // has places for all.
+#![tactic(auto)]
+
 ghost use Rattle.std.specs.Prelude.{◌≡◌, cond, [], eqb};
 ghost use Rattle.actions.specs.Actions.{governs_of};
 ghost use Rattle.gate_rules.specs.Gate.{flags_set, governed, listed, padded};

@@ -24,7 +24,7 @@ use Rattle.soundness.specs.Laws.{judged_sound, judged_ups}
 use Rattle.soundness.specs.Opened.{Opened}
 use Rattle.soundness.specs.declared.Findings.{Findings}
 use Rattle.refusals.specs.Refusals.{outcome_of}
-use Rattle.refusals.specs.Laws.{outcome_fail}
+use Rattle.refusals.proofs.Laws.{outcome_fail}
 use Rattle.refusals.specs.declared.Refusal.TheVariants.{Absent, NoClaim}
 use Rattle.change_rules.specs.Changes.{world_in, standing, revoke_tests}
 use Rattle.withdrawing.specs.Struck.{asked_tests}

@@ -30,7 +30,7 @@ use Rattle.lookup.specs.Laws.{counted_number}
 use Rattle.lookup.specs.Walks.{above_natural, sheet_few, sheet_numbered}
 use Rattle.refusals.specs.Refusals.{outcome_of}
 use Rattle.change_rules.specs.Changes.{Withdrawal, revoke, clear_resource, clear_expired, names, unstruck, revoke_tests, clear_resource_tests, clear_expired_tests, withdraw_tests, withdrawn}
-use Rattle.refusals.specs.Laws.{outcome_cases, outcome_accepted}
+use Rattle.refusals.proofs.Laws.{outcome_cases, outcome_accepted}
 use Rattle.refusals.specs.declared.Outcome.{Outcome}
 use Rattle.refusals.specs.declared.Outcome.TheVariants.{Accepted}
 use Rattle.withdrawing.specs.Struck.{goes_at, gone_by, staying, spared, struck_claims, struck_of}

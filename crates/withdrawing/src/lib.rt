@@ -6,6 +6,8 @@
 // their order, every place behind them holds the zero claim, and the answer says how many went,
 // which of a clearing may be none; refused, the claims are handed back as they came. Marking and
 // striking are shared by the three.
+#![tactic(auto)]
+
 ghost use Rattle.std.specs.Prelude.{◌≡◌, false, eqb, get_or, ◌∷◌};
 ghost use Rattle.lists.specs.Lists.{any};
 ghost use Rattle.refusals.specs.Refusals.{outcome_of};
@@ -21,7 +23,7 @@ use refusals::{Outcome, Refusal};
 use register::{Actor, Claim, Claims, Register};
 
 // The claims that are left and how many went, beside the outcome. Refused: the claims as they came, and none.
-#[derive(Drop)]
+#[derive(Clone, Copy)]
 pub struct Struck {
     pub claims: Claims,
     pub removed: usize,

@@ -1,6 +1,8 @@
 // Words for the numbers of refusals, violations, rights and flags.
 // Refusals and kinds of violation in 01's and 02's words, rights and flags by their names in the
 // builder's form. Every number is answered; one that stands for nothing has a text of its own.
+#![tactic(auto)]
+
 ghost use Rattle.std.specs.Prelude.{◌≡◌, [], min};
 ghost use Rattle.buffers.specs.Buffers.{put};
 ghost use Rattle.buffers.specs.Delivery.{delivered};

@@ -6,16 +6,16 @@ use Rattle.register_reading.specs.Runs.{stands_failed, stands_going}
 use Rattle.action_reading.proofs.answer.Statement.{statement}
 use Rattle.action_reading.proofs.answer.Tie as tie
 
-returns : tie.Need-returns
+returns : tie.Need-returns-then-not-goes_on
 returns c =
-    let args = c.before.before.before.before.args in
-    let halted = sym c.before.before.goes_on.ensures ∙ not-true _ c.before.if1.true in
-    rw (c.no-action.ensures, stands_failed args.s.now args.c halted)
+    let args = c.args in
+    let halted = sym c.goes_on.ensures ∙ c.if-not-goes_on.true in
+    rw (c.no_action-none.ensures, stands_failed args.s.now args.c halted)
 
-returns_2 : tie.Need-returns-2
+returns_2 : tie.Need-returns
 returns_2 c =
-    let args = c.before.before.before.args in
-    let on = sym c.before.goes_on.ensures ∙ not-false _ c.if1.false in
+    let args = c.args in
+    let on = sym c.goes_on.ensures ∙ c.if-not-goes_on.false in
     rw (stands_going args.s.now args.c on)
 
 pub answer_spec : {M : Type 1} → statement M

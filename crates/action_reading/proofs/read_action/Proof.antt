@@ -21,10 +21,10 @@ closing t st end a behind answer first reads e answered = answered ∙ rw (e, re
 
 returns : tie.Need-returns
 returns c =
-    let s = c.before.before.before.before.before.before.args.text.now in
-    let begun = c.before.before.before.before.start in
-    let form = c.before.before.before.read-lines in
-    let finished = c.before.finish in
+    let s = c.args.text.now in
+    let begun = c.start in
+    let form = c.read_lines-form in
+    let finished = c.finish-end in
     closing s (state_of s begun.result) (state_of s finished.result) form.result.action form.result.cursor c.answer.result
     (run_start s begun.result begun.ensures) form.ensures finished.ensures c.answer.ensures
 

@@ -33,18 +33,13 @@ joined s st moment actor flags used governed head usesEnd cursor uses governs ru
 
 returns : tie.Need-returns
 returns c =
-    let fifth = c.before.before.before.before in
-    let fourth = fifth.before in
-    let third = fourth.before in
-    let second = third.before.before in
-    let first = second.before.before in
-    let args = first.before.before.before.args in
+    let args = c.args in
     let s = args.s.now in
-    let moment = first.read_number in
-    let actor = second.read-number2 in
-    let flags = third.read-number3 in
-    let uses = fourth.read_uses_lem in
-    let governs = fifth.read-governs in
+    let moment = c.read_number-moment in
+    let actor = c.read_number-actor in
+    let flags = c.read_number-flags in
+    let uses = c.read_uses-first in
+    let governs = c.read_governs-second in
     let end = state_of s flags.result.cursor in
     let run =
     run_next s (number now_key 0 (moment_end - 1)) _ (state_of s args.c) moment.result _ end moment.ensures
@@ -58,11 +53,8 @@ pub read_lines_spec : {M : Type 1} → statement M
 read_lines_spec =
     tie.close
     (tie.spec
-    (λ c. search rules)
     (λ c κs. search rules)
-    (λ c. search rules)
     (λ c κs. search rules)
-    (λ c. search rules)
     (λ c κs. search rules)
     (λ c κs. search rules)
     (λ c κs. search rules)

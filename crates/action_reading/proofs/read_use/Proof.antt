@@ -14,12 +14,10 @@ use Rattle.action_reading.proofs.read_use.Tie as tie
 
 returns : tie.Need-returns
 returns c =
-    let second = c.before in
-    let first = second.before.before in
-    let args = first.before.before.before.args in
+    let args = c.args in
     let s = args.s.now in
-    let resource = first.read_number in
-    let right = second.read-number2 in
+    let resource = c.read_number-resource in
+    let right = c.read_number-right in
     let end = state_of s right.result.cursor in
     let run =
     run_next s (number use_key 0 id_limit) _ (state_of s args.c) resource.result _ end resource.ensures
@@ -29,4 +27,7 @@ returns c =
 pub read_use_spec : {M : Type 1} → statement M
 read_use_spec =
     tie.close
-    (tie.spec (λ c. search rules) (λ c κs. search rules) (λ c. search rules) (λ c κs. search rules) returns)
+    (tie.spec
+    (λ c κs. search rules)
+    (λ c κs. search rules)
+    returns)

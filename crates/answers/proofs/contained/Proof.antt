@@ -3,11 +3,11 @@ use borrow.Author.Rules.{rules}
 use Rattle.answers.proofs.contained.Statement.{statement}
 use Rattle.answers.proofs.contained.Tie as tie
 
-returns : tie.Need-returns
-returns c = rw (c.before.enum_told.given.1, c.yes.ensures)
+returns : tie.Need-returns-in-Outside
+returns c = rw (c.in-Outside.is, c.yes.ensures)
 
-returns_2 : tie.Need-returns-2
-returns_2 c = rw (c.before.before.w.given.1, c.yes2.ensures)
+returns_2 : tie.Need-returns-in-Inside
+returns_2 c = rw (c.in-Inside.is, c.yes-in-Inside.ensures)
 
 pub contained_spec : {M : Type 1} → statement M
 contained_spec =

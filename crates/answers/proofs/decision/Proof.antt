@@ -5,14 +5,14 @@ use Rattle.answers.specs.Answers.{decision_number}
 use Rattle.answers.proofs.decision.Statement.{statement}
 use Rattle.answers.proofs.decision.Tie as tie
 
-returns : tie.Need-returns
-returns c = sym (ap decision_number c.enum_told.given.1)
+returns : tie.Need-returns-in-Permitted
+returns c = sym (ap decision_number c.in-Permitted.is)
 
-returns_2 : tie.Need-returns-2
-returns_2 c = sym (ap decision_number c.enum-told2.given.1)
+returns_2 : tie.Need-returns-in-Refused
+returns_2 c = sym (ap decision_number c.in-Refused.is)
 
-returns_3 : tie.Need-returns-3
-returns_3 c = sym (ap decision_number c.enum-told3.given.1)
+returns_3 : tie.Need-returns-in-Stopped
+returns_3 c = sym (ap decision_number c.in-Stopped.is)
 
 pub decision_spec : {M : Type 1} → statement M
 decision_spec = tie.close (tie.spec (λ c. search rules) (λ c. search rules) (λ c. search rules) returns returns_2 returns_3)

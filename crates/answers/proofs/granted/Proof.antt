@@ -11,36 +11,33 @@ use Rattle.answers.proofs.granted.Statement.{statement}
 use Rattle.answers.proofs.granted.Tie as tie
 
 -- there is room
-room : (e : tie.Then1) → e.before.before.before.before.before.before.before.args.r.claims.count < claim_limit
+room : (e : tie.Then-accepted-at) → e.args.r.claims.count < claim_limit
 room e =
-    let numbered = e.before.before.before.before.before.before in
-    let n = numbered.before.args.r.claims.count in
-    ltb-true n claim_limit (and_right (eqb numbered.accepted.result 1) (ltb n claim_limit) e.if1.true)
+    let n = e.args.r.claims.count in
+    ltb-true n claim_limit (and_right (eqb e.accepted-accepted.result 1) (ltb n claim_limit) e.if-accepted-at.true)
 
-mul_c : tie.Need-overflow-mul-c
+mul_c : tie.Need-offset_bounds-answer-at
 mul_c c =
     let inside = room c in
     search rules
 
-element_set_from_c : tie.Need-element-set-from-c
+element_set_from_c : tie.Need-bounds-answer-at
 element_set_from_c c = room c
 
-add_answer : tie.Need-overflow-add-answer
+add_answer : tie.Need-overflow_add-answer
 add_answer c =
     let inside = room c in
     search rules
 
-returns : tie.Need-returns
+returns : tie.Need-returns-then-accepted-at
 returns c =
-    let numbered = c.before.before.before.before.before.before in
-    let given = numbered.before.args in
-    grant_put given.r given.c given.outcome numbered.accepted.ensures c.before.refusal.ensures c.if1.true
+    let given = c.args in
+    grant_put given.r given.c given.outcome c.accepted-accepted.ensures c.refusal.ensures c.if-accepted-at.true
 
-returns_2 : tie.Need-returns-2
+returns_2 : tie.Need-returns-else-accepted-at
 returns_2 c =
-    let numbered = c.before.before.before.before.before.before in
-    let given = numbered.before.args in
-    grant_kept given.r given.c given.outcome numbered.accepted.ensures c.before.refusal.ensures c.if1.false
+    let given = c.args in
+    grant_kept given.r given.c given.outcome c.accepted-accepted.ensures c.refusal.ensures c.if-accepted-at.false
 
 pub granted_spec : {M : Type 1} → statement M
 granted_spec =

@@ -3,14 +3,14 @@ use borrow.Author.Rules.{rules}
 use Rattle.answers.proofs.stop.Statement.{statement}
 use Rattle.answers.proofs.stop.Tie as tie
 
-returns : tie.Need-returns
-returns c = rw c.enum_told.given.1
+returns : tie.Need-returns-in-Permitted
+returns c = rw c.in-Permitted.is
 
-returns_2 : tie.Need-returns-2
-returns_2 c = rw c.enum-told2.given.1
+returns_2 : tie.Need-returns-in-Refused
+returns_2 c = rw c.in-Refused.is
 
-returns_3 : tie.Need-returns-3
-returns_3 c = rw c.before.before.d.given.1 c.number.ensures
+returns_3 : tie.Need-returns-in-Stopped
+returns_3 c = rw c.in-Stopped.is c.number.ensures
 
 pub stop_spec : {M : Type 1} → statement M
 stop_spec =

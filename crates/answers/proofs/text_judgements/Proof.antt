@@ -10,20 +10,20 @@ use Rattle.answers.proofs.Filling.{Filling, filling_start, filling_next, filling
 use Rattle.answers.proofs.text_judgements.Statement.{statement}
 use Rattle.answers.proofs.text_judgements.Tie as tie
 
-abbrev invariant_loop : tie.invariant-loop
+abbrev invariant_loop : tie.invariant-loop-i
 invariant_loop v top list₀ i₀ list i = Filling (λ e. judgement_numbers e.what) no_judgement text_action_limit v.count v.list top list i
 
-abbrev decreases_loop : tie.decreases-loop
+abbrev decreases_loop : tie.decreases-loop-i
 decreases_loop v top list₀ i₀ list i = top - i
 
-loop_holds : tie.Need-loop-init invariant_loop decreases_loop
-loop_holds c = filling_start (search (rules, length_mapped)) c.least.ensures refl
+loop_holds : tie.Need-loop-i-init invariant_loop decreases_loop
+loop_holds c = filling_start (search (rules, length_mapped)) c.least-top.ensures refl
 
-loop_again : tie.Need-loop-preserved invariant_loop decreases_loop
-loop_again c = filling_next c.before.before.before.loop.invariant _ c.before.before.loop-test.true c.judgement.ensures
+loop_again : tie.Need-loop-i-preserved invariant_loop decreases_loop
+loop_again c = filling_next c.loop-i.invariant _ c.loop-i-test.true c.judgement.ensures
 
 returns : tie.Need-returns invariant_loop decreases_loop
-returns c = filling_done c.before.loop.invariant c.loop-test.false
+returns c = filling_done c.loop-i.invariant c.loop-i-test.false
 
 pub text_judgements_spec : {M : Type 1} → statement M
 text_judgements_spec =

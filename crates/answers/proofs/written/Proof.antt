@@ -4,7 +4,7 @@ use Rattle.answers.proofs.written.Statement.{statement}
 use Rattle.answers.proofs.written.Tie as tie
 
 returns : tie.Need-returns
-returns c = rw (c.before.accepted.ensures, c.refusal.ensures)
+returns c = rw (c.accepted.ensures, c.refusal.ensures)
 
 pub written_spec : {M : Type 1} → statement M
 written_spec = tie.close (tie.spec (λ c κs. search rules) (λ c κs. search rules) returns)

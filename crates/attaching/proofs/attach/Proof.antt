@@ -17,32 +17,32 @@ use Rattle.attaching.proofs.attach.Tie as tie
 places : (s : tie.Start) → length s.args.b.entries ≡ place_limit
 places s = search (rules, length_mapped)
 
-abbrev start : tie.After-settle → tie.Start
+abbrev start : tie.After-settle-outcome → tie.Start
 start c = c.before.before.before
 
 -- the first tests, of this book and this action
-settled : (c : tie.After-settle) → c.settle.result
+settled : (c : tie.After-settle-outcome) → c.settle-outcome.result
     ≡ outcome_of (book_tests (book_fits (start c).args.b) (start c).args.r (attaching (start c).args.actor (start c).args.resource (start c).args.moment))
 settled c =
-    c.settle.ensures
-    ∙ ap (λ (at : Spot). outcome_of (book_tests at.fits (start c).args.r c.before.one-use.result)) c.before.before.entry-spot.ensures
-    ∙ ap (λ (a : Action). outcome_of (book_tests (book_fits (start c).args.b) (start c).args.r a)) c.before.one-use.ensures
+    c.settle-outcome.ensures
+    ∙ ap (λ (at : Spot). outcome_of (book_tests at.fits (start c).args.r c.one_use.result)) c.entry_spot-at.ensures
+    ∙ ap (λ (a : Action). outcome_of (book_tests (book_fits (start c).args.b) (start c).args.r a)) c.one_use.ensures
 
-returns : tie.Need-returns
+returns : tie.Need-returns-in-Refused
 returns c =
-    let settling = c.before.before.before in
+    let settling = c.before in
     let s = start settling in
-    sym (attach_stopped s.args.b s.args.r s.args.actor s.args.resource s.args.moment (places s) s.args.fingerprint c.before.outcome.given.0.0
-    (sym (settled settling) ∙ c.before.outcome.given.1))
+    sym (attach_stopped s.args.b s.args.r s.args.actor s.args.resource s.args.moment (places s) s.args.fingerprint c.in-Refused.why
+    (sym (settled settling) ∙ c.in-Refused.is))
 
-returns_2 : tie.Need-returns-2
+returns_2 : tie.Need-returns-in-Accepted
 returns_2 c =
-    let settling = c.before.before.before in
+    let settling = c.before.before in
     let s = start settling in
-    c.put-at.ensures
-    ∙ ap (λ (at : Spot). put_at s.args.b at.place (entry s.args.resource s.args.fingerprint)) settling.before.before.entry-spot.ensures
+    c.put_at.ensures
+    ∙ ap (λ (at : Spot). put_at s.args.b at.place (entry s.args.resource s.args.fingerprint)) settling.entry_spot-at.ensures
     ∙ put_natural s.args.b s.args.r s.args.actor s.args.resource s.args.moment (places s) s.args.fingerprint
-    (sym (settled settling) ∙ c.before.enum_told.given.1)
+    (sym (settled settling) ∙ c.in-Accepted.is)
 
 pub attach_spec : {M : Type 1} → statement M
 attach_spec =

@@ -10,14 +10,14 @@ use Rattle.attaching.proofs.Columns.{Filled, filled_start, filled_next, filled_e
 use Rattle.attaching.proofs.numbers.Statement.{statement}
 use Rattle.attaching.proofs.numbers.Tie as tie
 
-abbrev invariant_loop : tie.invariant-loop
+abbrev invariant_loop : tie.invariant-loop-i
 invariant_loop b column₀ i₀ column i = Filled b.entries i column
 
-abbrev decreases_loop : tie.decreases-loop
+abbrev decreases_loop : tie.decreases-loop-i
 decreases_loop b column₀ i₀ column i = place_limit - i
 
 -- the array has the book's places
-places : (e : tie.Start invariant_loop decreases_loop) → length e.args.t1.entries ≡ place_limit
+places : (e : tie.Start invariant_loop decreases_loop) → length e.args.b.entries ≡ place_limit
 places e = search (rules, length_mapped)
 
 pub numbers_spec : {M : Type 1} → statement M
@@ -26,12 +26,12 @@ numbers_spec =
     (tie.spec
     invariant_loop
     decreases_loop
-    (λ c. filled_start c.args.t1.entries (places c))
+    (λ c. filled_start c.args.b.entries (places c))
     (λ c. omega arith)
     (λ c. omega arith)
     (λ c. omega arith)
     (λ c. omega arith)
     (λ c. omega arith)
     (λ c. omega arith)
-    (λ c. filled_next c.before.loop.invariant _ c.loop-test.true)
-    (λ c. filled_end c.before.loop.invariant c.loop-test.false))
+    (λ c. filled_next c.loop-i.invariant _ c.loop-i-test.true)
+    (λ c. filled_end c.loop-i.invariant c.loop-i-test.false))

@@ -14,5 +14,5 @@ print_at_spec =
     (λ c κs. search rules)
     (λ c. search rules)
     (λ c. omega arith)
-    (λ c. sym (print_within _ _ (omega (arith, c.before.before.if1.true, c.before.before.before.least.ensures))))
-    (λ c. sym (print_past _ _ (omega (arith, c.if1.false, c.before.least.ensures)))))
+    (λ c. sym (print_within _ _ (omega (arith, c.if-place-least.true, c.least.ensures))))
+    (λ c. sym (print_past _ _ (omega (arith, c.if-place-least.false, c.least.ensures)))))

@@ -11,9 +11,9 @@ pub put_at_spec : {M : Type 1} → statement M
 put_at_spec =
     tie.close
     (tie.spec
-    (λ c. sym (put_past _ _ _ c.if1.true))
+    (λ c. sym (put_past _ _ _ c.if-place-ge-PLACES.true))
     (λ c. search rules)
     (λ c. omega arith)
     (λ c. omega arith)
-    (λ c. sym (put_behind _ _ _ (omega (arith, c.before.if1.false)) c.if2.true))
-    (λ c. sym (put_over _ _ _ (omega (arith, c.before.if1.false)) c.if2.false)))
+    (λ c. sym (put_behind _ _ _ (omega (arith, c.if-place-ge-PLACES.false)) c.if-place-book.true))
+    (λ c. sym (put_over _ _ _ (omega (arith, c.if-place-ge-PLACES.false)) c.if-place-book.false)))

@@ -30,7 +30,7 @@ write_digits_below t =
 
 write_digits_cast_buf :
     (t : ℕ) →
-    write-digits-lts.Need-overflow-cast-buf
+    write-digits-lts.Need-overflow_cast-buf
     (write_digits_below t, write-digits.Post)
     (write_digits_at t)
     write-digits.Post
@@ -38,25 +38,25 @@ write_digits_cast_buf t c = omega arith
 
 write_digits_add_buf :
     (t : ℕ) →
-    write-digits-lts.Need-overflow-add-buf
+    write-digits-lts.Need-overflow_add-buf
     (write_digits_below t, write-digits.Post)
     (write_digits_at t)
     write-digits.Post
 write_digits_add_buf t c = omega arith
 
-write_digits_slice_write_buf : (t : ℕ) → write-digits-lts.Need-slice-write-buf (
+write_digits_slice_write_buf : (t : ℕ) → write-digits-lts.Need-bounds-buf-at (
   write_digits_below t,
   write-digits.Post,
 ) (write_digits_at t) write-digits.Post
-write_digits_slice_write_buf t c = omega (arith, length_small c.before.before.args.n c.if1.true)
+write_digits_slice_write_buf t c = omega (arith, length_small c.args.n c.if-n-lt10.true)
 
-write_digits_add_result : (t : ℕ) → write-digits-lts.Need-overflow-add-result (
+write_digits_add_result : (t : ℕ) → write-digits-lts.Need-overflow_add-result (
   write_digits_below t,
   write-digits.Post,
 ) (write_digits_at t) write-digits.Post
-write_digits_add_result t c = omega (arith, length_small c.before.before.args.n c.if1.true)
+write_digits_add_result t c = omega (arith, length_small c.args.n c.if-n-lt10.true)
 
-write_digits_same_length : (t : ℕ) → write-digits-lts.Need-same-length (
+write_digits_same_length : (t : ℕ) → write-digits-lts.Need-shape_of-buf-then-n-lt10 (
   write_digits_below t,
   write-digits.Post,
 ) (write_digits_at t) write-digits.Post
@@ -64,71 +64,71 @@ write_digits_same_length t c = simp length-set
 
 write_digits_returns :
     (t : ℕ) →
-    write-digits-lts.Need-returns
+    write-digits-lts.Need-returns-then-n-lt10
     (write_digits_below t, write-digits.Post)
     (write_digits_at t)
     write-digits.Post
 write_digits_returns t c =
-    let a = c.before.before.args in
+    let a = c.args in
     let e : a.n % 10 ≡ a.n = omega arith in
-    let one = length_small a.n c.if1.true in
-    (omega arith, rw (digits_small a.n c.if1.true, e) (splice_set a.at (48 + a.n) a.buf.now (omega arith)))
+    let one = length_small a.n c.if-n-lt10.true in
+    (omega arith, rw (digits_small a.n c.if-n-lt10.true, e) (splice_set a.at (48 + a.n) a.buf.now (omega arith)))
 
-write_digits_write_digits_requires : (t : ℕ) → write-digits-lts.Need-write-digits-requires (
+write_digits_write_digits_requires : (t : ℕ) → write-digits-lts.Need-write_digits-e-requires (
   write_digits_below t,
   write-digits.Post,
 ) (write_digits_at t) write-digits.Post
-write_digits_write_digits_requires t c κs = omega (arith, length_step c.before.before.before.args.n c.before.if1.false)
+write_digits_write_digits_requires t c κs = omega (arith, length_step c.args.n c.if-n-lt10.false)
 
-write_digits_cast_buf_2 : (t : ℕ) → write-digits-lts.Need-overflow-cast-buf-2 (
+write_digits_cast_buf_2 : (t : ℕ) → write-digits-lts.Need-overflow_cast-buf-2 (
   write_digits_below t,
   write-digits.Post,
 ) (write_digits_at t) write-digits.Post
 write_digits_cast_buf_2 t c = omega arith
 
-write_digits_add_buf_2 : (t : ℕ) → write-digits-lts.Need-overflow-add-buf-2 (
+write_digits_add_buf_2 : (t : ℕ) → write-digits-lts.Need-overflow_add-buf-2 (
   write_digits_below t,
   write-digits.Post,
 ) (write_digits_at t) write-digits.Post
 write_digits_add_buf_2 t c = omega arith
 
-write_digits_slice_write_buf_2 : (t : ℕ) → write-digits-lts.Need-slice-write-buf-2 (
+write_digits_slice_write_buf_2 : (t : ℕ) → write-digits-lts.Need-bounds-buf-e (
   write_digits_below t,
   write-digits.Post,
 ) (write_digits_at t) write-digits.Post
 write_digits_slice_write_buf_2 t c =
-    let a = c.before.before.before.before.before.before.args in
-    omega (arith, length_step a.n c.before.before.before.before.if1.false, c.before.before.write-digits.auto.0)
+    let a = c.args in
+    omega (arith, length_step a.n c.if-n-lt10.false, c.write_digits-e.auto.buf)
 
-write_digits_add_result_2 : (t : ℕ) → write-digits-lts.Need-overflow-add-result-2 (
+write_digits_add_result_2 : (t : ℕ) → write-digits-lts.Need-overflow_add-result-2 (
   write_digits_below t,
   write-digits.Post,
 ) (write_digits_at t) write-digits.Post
 write_digits_add_result_2 t c =
-    let a = c.before.before.before.before.before.before.args in
-    omega (arith, length_step a.n c.before.before.before.before.if1.false)
+    let a = c.args in
+    omega (arith, length_step a.n c.if-n-lt10.false)
 
-write_digits_same_length_2 : (t : ℕ) → write-digits-lts.Need-same-length-2 (
+write_digits_same_length_2 : (t : ℕ) → write-digits-lts.Need-shape_of-buf (
   write_digits_below t,
   write-digits.Post,
 ) (write_digits_at t) write-digits.Post
-write_digits_same_length_2 t c = simp length-set c.before.before.write-digits.auto.0
+write_digits_same_length_2 t c = simp length-set c.write_digits-e.auto.buf
 
-write_digits_returns_2 : (t : ℕ) → write-digits-lts.Need-returns-2 (
+write_digits_returns_2 : (t : ℕ) → write-digits-lts.Need-returns (
   write_digits_below t,
   write-digits.Post,
 ) (write_digits_at t) write-digits.Post
 write_digits_returns_2 t c =
-    let a = c.before.before.before.before.before.before.args in
-    let ge = c.before.before.before.before.if1.false in
+    let a = c.args in
+    let ge = c.if-n-lt10.false in
     let more = length_step a.n ge in
-    let call = c.before.before.write-digits in (
+    let call = c.write_digits-e in (
       omega arith,
-      rw (digits_step a.n ge) (splice_snoc a.at (digits (a.n / 10)) (48 + a.n % 10) a.buf.now call.new.0 call.result (omega arith) call.ensures.0 call.ensures.1),
+      rw (digits_step a.n ge) (splice_snoc a.at (digits (a.n / 10)) (48 + a.n % 10) a.buf.now call.new.buf call.result (omega arith) call.ensures.0 call.ensures.1),
     )
 
-pub +write-digits-spec : {M : Type 1} → statement M
-+write-digits-spec = close μ_write_digits λ t. write-digits-lts.spec (
+pub +write_digits_spec : {M : Type 1} → statement M
++write_digits_spec = close μ_write_digits λ t. write-digits-lts.spec (
   write_digits_below t,
   write-digits.Post,
 )

@@ -9,19 +9,19 @@ use Rattle.decimals.specs.Walk.{length_small, length_step, length_under}
 use Rattle.buffers.proofs.digit_count.Statement.{statement}
 use Rattle.buffers.proofs.digit_count.Tie as tie
 
-abbrev invariant_loop : tie.invariant-loop
+abbrev invariant_loop : tie.invariant-loop-m
 invariant_loop n m₀ k₀ m k = (k + m ≤ n + 1) × (k + length (digits m) ≡ 1 + length (digits n))
 
-abbrev decreases_loop : tie.decreases-loop
+abbrev decreases_loop : tie.decreases-loop-m
 decreases_loop n m₀ k₀ m k = m
 
-loop_again : tie.Need-loop-preserved invariant_loop decreases_loop
-loop_again c = omega (arith, length_step c.before.loop.m c.loop-test.true)
+loop_again : tie.Need-loop-m-preserved invariant_loop decreases_loop
+loop_again c = omega (arith, length_step c.loop-m.m c.loop-m-test.true)
 
 returns : tie.Need-returns invariant_loop decreases_loop
 returns c =
-    let n = c.before.before.args.n in
-    omega (arith, length_small c.before.loop.m c.loop-test.false, length_under 19 n (omega arith))
+    let n = c.args.n in
+    omega (arith, length_small c.loop-m.m c.loop-m-test.false, length_under 19 n (omega arith))
 
 pub digit_count_spec : {M : Type 1} → statement M
 digit_count_spec =

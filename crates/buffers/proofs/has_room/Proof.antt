@@ -18,15 +18,15 @@ room_left at n whole inside = elim (dec_le n (whole - at)) [
   | no short ↦ lt-leb n (whole - at) (omega arith) ∙ sym (lt-leb (at + n) whole (omega arith))
 ]
 
-returns : tie.Need-returns
+returns : tie.Need-returns-then-buf-at
 returns c =
-    let a = c.before.args in
+    let a = c.args in
     sym (lt-leb (a.at + a.n) (length a.buf.now) (omega arith))
 
-returns_2 : tie.Need-returns-2
+returns_2 : tie.Need-returns
 returns_2 c =
-    let a = c.before.args in
-    room_left a.at a.n (length a.buf.now) c.if1.false
+    let a = c.args in
+    room_left a.at a.n (length a.buf.now) c.if-buf-at.false
 
 pub has_room_spec : {M : Type 1} → statement M
 has_room_spec = tie.close (tie.spec returns (λ c. search rules) returns_2)

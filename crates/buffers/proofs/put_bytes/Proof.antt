@@ -7,20 +7,19 @@ use Rattle.buffers.proofs.put_bytes.Statement.{statement}
 use Rattle.buffers.proofs.put_bytes.Tie as tie
 
 -- no room
-returns : tie.Need-returns
+returns : tie.Need-returns-then-not-has_room
 returns c =
-    let short = sym c.before.has_room.ensures ∙ not-true _ c.if1.true in
+    let short = sym c.has_room.ensures ∙ c.if-not-has_room.true in
     rw short (refl, refl)
 
 copy_requires : tie.Need-copy-requires
-copy_requires c κs = leb-true _ _ (sym c.before.before.has_room.ensures ∙ not-false _ c.before.if1.false)
+copy_requires c κs = leb-true _ _ (sym c.has_room.ensures ∙ c.if-not-has_room.false)
 
-returns_2 : tie.Need-returns-2
+returns_2 : tie.Need-returns
 returns_2 c =
-    let call = c.before.before.copy in
-    let test = c.before.before.before.before in
-    let a = test.before.before.before.before.before.args in
-    let room = leb-true _ _ (sym test.before.has_room.ensures ∙ not-false _ test.if1.false) in
+    let call = c.copy in
+    let a = c.args in
+    let room = leb-true _ _ (sym c.has_room.ensures ∙ c.if-not-has_room.false) in
     let fit = put_fits a.at a.t.now a.buf.now room in
     (call.ensures.0 ∙ sym fit.1, call.ensures.1 ∙ sym fit.0)
 

@@ -7,28 +7,26 @@ use Rattle.buffers.proofs.put_kind.Statement.{statement}
 use Rattle.buffers.proofs.put_kind.Tie as tie
 
 -- a human
-returns : tie.Need-returns
+returns : tie.Need-returns-then-kind-eq-HUMAN
 unfolding word_line
 returns c =
-    let call = c.before.before.put-bytes in
-    rw (eq-eqb _ _ c.before.before.before.before.before.if1.true) (call.ensures.0, call.ensures.1)
+    let call = c.put_bytes in
+    rw (eq-eqb _ _ c.if-kind-eq-HUMAN.true) (call.ensures.0, call.ensures.1)
 
 -- any other kind
-returns_2 : tie.Need-returns-2
+returns_2 : tie.Need-returns
 unfolding word_line
 returns_2 c =
-    let call = c.before.before.put-bytes2 in
-    rw (ne_eqb _ _ c.before.before.before.before.before.if1.false) (call.ensures.0, call.ensures.1)
+    let call = c.put_bytes-2 in
+    rw (ne_eqb _ _ c.if-kind-eq-HUMAN.false) (call.ensures.0, call.ensures.1)
 
 pub put_kind_spec : {M : Type 1} → statement M
 put_kind_spec =
     tie.close
     (tie.spec
-    (λ c. search rules)
     (λ c κs. search rules)
     (λ c. search rules)
     returns
-    (λ c. search rules)
     (λ c κs. search rules)
     (λ c. search rules)
     returns_2)

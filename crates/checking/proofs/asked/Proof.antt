@@ -5,21 +5,19 @@ use borrow.Author.Tests.{eq-eqb, ne_eqb}
 use Rattle.checking.proofs.asked.Statement.{statement}
 use Rattle.checking.proofs.asked.Tie as tie
 
-returns : tie.Need-returns
-returns c = rw (c.before.enum_told.given.1, c.ranged.ensures)
+returns : tie.Need-returns-in-Permitted
+returns c = rw (c.in-Permitted.is, c.ranged.ensures)
 
-returns_2 : tie.Need-returns-2
-returns_2 c = rw (c.before.enum-told2.given.1, c.ranged2.ensures)
+returns_2 : tie.Need-returns-in-Refused
+returns_2 c = rw (c.in-Refused.is, c.ranged-in-Refused.ensures)
 
-returns_3 : tie.Need-returns-3
+returns_3 : tie.Need-returns-then-number-eq-UNSOUND
 returns_3 c =
-    let why = c.before.before.before in
-    rw (why.decided.given.1, eq-eqb _ 1 (sym c.before.number.ensures ∙ c.if1.true))
+    rw (c.in-Stopped.is, eq-eqb _ 1 (sym c.number.ensures ∙ c.if-number-eq-UNSOUND.true))
 
-returns_4 : tie.Need-returns-4
+returns_4 : tie.Need-returns-else-number-eq-UNSOUND
 returns_4 c =
-    let number = c.before.before in
-    rw (number.before.before.decided.given.1, c.ranged3.ensures, ne_eqb _ 1 (λ e. c.before.if1.false (number.number.ensures ∙ e)))
+    rw (c.in-Stopped.is, c.ranged-else-number-eq-UNSOUND.ensures, ne_eqb _ 1 (λ e. c.if-number-eq-UNSOUND.false (c.number.ensures ∙ e)))
 
 pub asked_spec : {M : Type 1} → statement M
 asked_spec =

@@ -10,23 +10,16 @@ use Rattle.checking.proofs.Passing.{permits_by, passing_by}
 use Rattle.checking.proofs.check.Statement.{statement}
 use Rattle.checking.proofs.check.Tie as tie
 
-returns : tie.Need-returns
+returns : tie.Need-returns-in-Refused
 returns c =
-    let tests = c.before.before.before in
-    let fit = tests.before in
-    let judged = fit.before in
-    let told = rw (tests.asked.ensures, fit.asks-fit.ensures, judged.decide.ensures, judged.before.one-use.ensures) at c.before.outcome.given.1 in
+    let told = rw (c.asked-outcome.ensures, c.asks_fit.ensures, c.decide-decided.ensures, c.one_use.ensures) at c.in-Refused.is in
     sym (checked_stopped _ _ _ _ _ _ _ told)
 
-returns_2 : tie.Need-returns-2
+returns_2 : tie.Need-returns-in-Accepted
 returns_2 c =
-    let already = c.before.before in
-    let tests = already.before.before.before in
-    let fit = tests.before in
-    let judged = fit.before in
-    let told = rw (tests.asked.ensures, fit.asks-fit.ensures, judged.decide.ensures, judged.before.one-use.ensures) at already.before.enum_told.given.1 in
-    let permitted = already.is_permitted_lem.ensures ∙ permits_by _ _ _ judged.decide.ensures ∙ ap (permits _) judged.before.one-use.ensures in
-    rw (c.told.ensures, c.before.passes.ensures)
+    let told = rw (c.asked-outcome.ensures, c.asks_fit.ensures, c.decide-decided.ensures, c.one_use.ensures) at c.in-Accepted.is in
+    let permitted = c.is_permitted-already.ensures ∙ permits_by _ _ _ c.decide-decided.ensures ∙ ap (permits _) c.one_use.ensures in
+    rw (c.told.ensures, c.passes.ensures)
     (ap (λ b. cond b Passes Fails) (passing_by _ _ _ _ _ _ _ permitted) ∙ sym (checked_passed _ _ _ _ _ _ told))
 
 pub check_spec : {M : Type 1} → statement M

@@ -6,8 +6,8 @@ use Rattle.checking.proofs.decide.Tie as tie
 
 returns : tie.Need-returns
 returns c =
-    let found = c.before.before.before.examine.ensures in
-    ap (λ v. v.decision) (c.gate-by.ensures.1 found.0 found.1)
+    let found = c.examine-found.ensures in
+    ap (λ v. v.decision) (c.gate_by-verdict.ensures.1 found.0 found.1)
 
 pub decide_spec : {M : Type 1} → statement M
 decide_spec =

@@ -6,22 +6,18 @@ use Rattle.checking.proofs.Passing.{unhelped, room_left, helped}
 use Rattle.checking.proofs.helps.Statement.{statement}
 use Rattle.checking.proofs.helps.Tie as tie
 
-with_claim_requires : tie.Need-with-claim-requires
+with_claim_requires : tie.Need-with_claim-after-requires
 with_claim_requires c κs =
-    let settled = c.before.before.before in
-    room_left _ _ _ (ap (λ y. y.outcome) (sym settled.grant_outcome_lem.ensures) ∙ c.enum-told2.given.1)
+    room_left _ _ _ (ap (λ y. y.outcome) (sym c.grant_outcome-settled.ensures) ∙ c.in-Accepted.is)
 
-returns : tie.Need-returns
+returns : tie.Need-returns-in-Refused
 returns c =
-    let settled = c.before.before.before in
-    sym (unhelped _ _ _ _ _ _ (ap (λ y. y.outcome) (sym settled.grant_outcome_lem.ensures) ∙ c.enum_told.given.1))
+    sym (unhelped _ _ _ _ _ _ (ap (λ y. y.outcome) (sym c.grant_outcome-settled.ensures) ∙ c.in-Refused.is))
 
-returns_2 : tie.Need-returns-2
+returns_2 : tie.Need-returns-in-Accepted
 returns_2 c =
-    let put = c.before.before in
-    let settled = put.before.before.before.before in
-    rw (c.permitted.ensures, c.before.one-use.ensures, put.with-claim.ensures, settled.grant_outcome_lem.ensures)
-    (sym (helped _ _ _ _ _ (ap (λ y. y.outcome) (sym settled.grant_outcome_lem.ensures) ∙ put.before.enum-told2.given.1)))
+    rw (c.permitted.ensures, c.one_use.ensures, c.with_claim-after.ensures, c.grant_outcome-settled.ensures)
+    (sym (helped _ _ _ _ _ (ap (λ y. y.outcome) (sym c.grant_outcome-settled.ensures) ∙ c.in-Accepted.is)))
 
 pub helps_spec : {M : Type 1} → statement M
 helps_spec =

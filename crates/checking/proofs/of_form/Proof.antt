@@ -6,22 +6,19 @@ use Rattle.checking.proofs.Passing.{holder_other, resource_other, rights_other, 
 use Rattle.checking.proofs.of_form.Statement.{statement}
 use Rattle.checking.proofs.of_form.Tie as tie
 
-returns : tie.Need-returns
-returns c = sym (holder_other _ _ _ _ c.if1.true)
+returns : tie.Need-returns-then-c-x
+returns c = sym (holder_other _ _ _ _ c.if-c-x.true)
 
-returns_2 : tie.Need-returns-2
-returns_2 c = sym (resource_other _ _ _ _ c.if2.true)
+returns_2 : tie.Need-returns-then-c-u
+returns_2 c = sym (resource_other _ _ _ _ c.if-c-u.true)
 
-returns_3 : tie.Need-returns-3
-returns_3 c = sym (rights_other _ _ _ _ (λ e. c.if3.true (e ∙ sym c.before.before.worth.ensures)))
+returns_3 : tie.Need-returns-then-c-worth
+returns_3 c = sym (rights_other _ _ _ _ (λ e. c.if-c-worth.true (e ∙ sym c.worth.ensures)))
 
-returns_4 : tie.Need-returns-4
+returns_4 : tie.Need-returns
 returns_4 c =
-    let rights = c.before.before.before.before in
-    let worth = rights.before.before in
-    let resource = worth.before in
     c.is_among.ensures
-    ∙ sym (grantor_decides _ _ _ _ resource.before.before.before.if1.false resource.if2.false (rights.if3.false ∙ worth.worth.ensures))
+    ∙ sym (grantor_decides _ _ _ _ c.if-c-x.false c.if-c-u.false (c.if-c-worth.false ∙ c.worth.ensures))
 
 pub of_form_spec : {M : Type 1} → statement M
 of_form_spec = tie.close (tie.spec returns returns_2 (λ c κs. search rules) returns_3 (λ c κs. search rules) returns_4)

@@ -2,29 +2,25 @@
 -- (Passing). Assumes nothing.
 use mathlib.Core.Path.{sym, ◌∙◌}
 use borrow.Author.Rules.{rules}
-use borrow.Author.Tests.{not-true, not-false}
 use Rattle.checking.proofs.Passing.{none_passes, neither_passes, grant_passes}
 use Rattle.checking.proofs.passes.Statement.{statement}
 use Rattle.checking.proofs.passes.Tie as tie
 
-returns : tie.Need-returns
-returns c = sym (none_passes _ _ _ c.if1.true)
+returns : tie.Need-returns-then-p-eq-NO_GRANT
+returns c = sym (none_passes _ _ _ c.if-p-eq-NO_GRANT.true)
 
-returns_2 : tie.Need-returns-2
-returns_2 c = sym (neither_passes _ _ _ c.before.before.if1.false c.if2.true)
+returns_2 : tie.Need-returns-then-p-ne-GRANT
+returns_2 c = sym (neither_passes _ _ _ c.if-p-eq-NO_GRANT.false c.if-p-ne-GRANT.true)
 
-returns_3 : tie.Need-returns-3
+returns_3 : tie.Need-returns-then-not-of_form
 returns_3 c =
-    let kind = c.before.before.before in
-    let unformed = sym c.before.of-form.ensures ∙ not-true c.before.of-form.result c.if3.true in
-    sym (grant_passes _ _ _ kind.if2.false ∙ rw unformed)
+    let unformed = sym c.of_form.ensures ∙ c.if-not-of_form.true in
+    sym (grant_passes _ _ _ c.if-p-ne-GRANT.false ∙ rw unformed)
 
-returns_4 : tie.Need-returns-4
+returns_4 : tie.Need-returns
 returns_4 c =
-    let form = c.before.before in
-    let kind = form.before.before in
-    let formed = sym form.of-form.ensures ∙ not-false form.of-form.result c.before.if3.false in
-    sym (grant_passes _ _ _ kind.if2.false ∙ rw formed (sym c.helps.ensures))
+    let formed = sym c.of_form.ensures ∙ c.if-not-of_form.false in
+    sym (grant_passes _ _ _ c.if-p-ne-GRANT.false ∙ rw formed (sym c.helps.ensures))
 
 pub passes_spec : {M : Type 1} → statement M
 passes_spec = tie.close (tie.spec returns returns_2 (λ c κs. search rules) returns_3 (λ c κs. search rules) returns_4)

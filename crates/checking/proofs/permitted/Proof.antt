@@ -6,7 +6,7 @@ use Rattle.checking.proofs.permitted.Statement.{statement}
 use Rattle.checking.proofs.permitted.Tie as tie
 
 returns : tie.Need-returns
-returns c = c.is_permitted_lem.ensures ∙ permits_by _ _ _ c.before.decide.ensures
+returns c = c.is_permitted.ensures ∙ permits_by _ _ _ c.decide.ensures
 
 pub permitted_spec : {M : Type 1} → statement M
 permitted_spec = tie.close (tie.spec (λ c κs. search rules) (λ c κs. search rules) returns)

@@ -2,11 +2,11 @@
 use Rattle.checking.proofs.ranged.Statement.{statement}
 use Rattle.checking.proofs.ranged.Tie as tie
 
-returns : tie.Need-returns
-returns c = rw c.if1.true
+returns : tie.Need-returns-then-inside
+returns c = rw c.if-inside.true
 
-returns_2 : tie.Need-returns-2
-returns_2 c = rw c.if1.false
+returns_2 : tie.Need-returns-else-inside
+returns_2 c = rw c.if-inside.false
 
 pub ranged_spec : {M : Type 1} → statement M
 ranged_spec = tie.close (tie.spec returns returns_2)

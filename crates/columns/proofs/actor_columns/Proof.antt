@@ -12,23 +12,23 @@ use Rattle.columns.proofs.Filling.{Filling, empty, fill, full}
 use Rattle.columns.proofs.actor_columns.Statement.{statement}
 use Rattle.columns.proofs.actor_columns.Tie as tie
 
-abbrev invariant_loop : tie.invariant-loop
+abbrev invariant_loop : tie.invariant-loop-i
 invariant_loop k top columns₀ i₀ columns i =
     Filling actor_id no_actor k.list top i columns.names
     × Filling actor_kind no_actor k.list top i columns.kinds
     × Filling actor_owner no_actor k.list top i columns.owners
 
-abbrev decreases_loop : tie.decreases-loop
+abbrev decreases_loop : tie.decreases-loop-i
 decreases_loop k top columns₀ i₀ columns i = top - i
 
 -- the array has the register's places
-places : (e : tie.Start invariant_loop decreases_loop) → length e.args.t1.list ≡ actor_limit
+places : (e : tie.Start invariant_loop decreases_loop) → length e.args.k.list ≡ actor_limit
 places e = search (rules, length_mapped)
 
-loop_holds : tie.Need-loop-init invariant_loop decreases_loop
+loop_holds : tie.Need-loop-i-init invariant_loop decreases_loop
 loop_holds c =
     let long = places c.before in
-    let room : c.least.result ≤ length c.before.args.t1.list = omega (arith, c.least.ensures, long) in (
+    let room : c.least-top.result ≤ length c.args.k.list = omega (arith, c.least-top.ensures, long) in (
       empty room long,
       empty room long,
       empty room long,
@@ -36,12 +36,12 @@ loop_holds c =
 
 returns : tie.Need-returns invariant_loop decreases_loop
 returns c =
-    let inv = c.before.loop.invariant in
-    let bound = c.before.before.least.ensures ∙ ap (min _) (sym (places c.before.before.before)) in
+    let inv = c.loop-i.invariant in
+    let bound = c.least-top.ensures ∙ ap (min _) (sym (places c.before.before.before)) in
     rw (
-      full inv.0 _ bound c.loop-test.false,
-      full inv.1 _ bound c.loop-test.false,
-      full inv.2 _ bound c.loop-test.false,
+      full inv.0 _ bound c.loop-i-test.false,
+      full inv.1 _ bound c.loop-i-test.false,
+      full inv.2 _ bound c.loop-i-test.false,
     )
 
 pub actor_columns_spec : {M : Type 1} → statement M
@@ -67,8 +67,8 @@ actor_columns_spec =
     (λ c. omega arith)
     (λ c. omega arith)
     (λ c. (
-      fill c.before.loop.invariant.0 _ c.loop-test.true,
-      fill c.before.loop.invariant.1 _ c.loop-test.true,
-      fill c.before.loop.invariant.2 _ c.loop-test.true,
+      fill c.loop-i.invariant.0 _ c.loop-i-test.true,
+      fill c.loop-i.invariant.1 _ c.loop-i-test.true,
+      fill c.loop-i.invariant.2 _ c.loop-i-test.true,
     ))
     returns)

@@ -11,38 +11,37 @@ use Rattle.columns.proofs.Sheets.{claim_short, claim_read}
 use Rattle.columns.proofs.claim_at.Statement.{statement}
 use Rattle.columns.proofs.claim_at.Tie as tie
 
-returns : tie.Need-returns
+returns : tie.Need-returns-then-sheet-lt-SHEET
 returns c =
-    let a = c.before.before.before.args in
-    c.none.ensures ∙ claim_short a.sheet.now a.i c.before.if1.true
+    let a = c.args in
+    c.none.ensures ∙ claim_short a.sheet.now a.i c.if-sheet-lt-SHEET.true
 
-returns_2 : tie.Need-returns-2
+returns_2 : tie.Need-returns-then-i-ge-CLAIMS
 returns_2 c =
-    let a = c.before.before.before.before.args in
-    c.none2.ensures ∙ sym (claim_past a.sheet.now a.i c.before.if2.true)
+    let a = c.args in
+    c.none-then-i-ge-CLAIMS.ensures ∙ sym (claim_past a.sheet.now a.i c.if-i-ge-CLAIMS.true)
 
-cast_low : tie.Need-overflow-cast-low
-cast_low c = Fits-widen tt (c.shared-slice-known2.given (7 * claim_limit + c.before.before.before.before.args.i))
+cast_low : tie.Need-overflow_cast-low
+cast_low c = Fits-widen tt (c.shared_slice_known-2-1.given (7 * claim_limit + c.args.i))
 
-cast_late : tie.Need-overflow-cast-late
-cast_late c = Fits-widen tt (c.shared-slice-known3.given (8 * claim_limit + c.before.before.before.before.before.args.i))
+cast_late : tie.Need-overflow_cast-late
+cast_late c = Fits-widen tt (c.shared_slice_known-3-1.given (8 * claim_limit + c.args.i))
 
-mul_t48 : tie.Need-overflow-mul-t48
+mul_t48 : tie.Need-overflow_mul-result-9
 mul_t48 c =
-    let a = c.before.before.before.before.before.before.before.before.before.before.before.before.before.args in
-    omega (arith, (c.shared-slice-known11.given (8 * claim_limit + a.i)).fits)
+    let a = c.args in
+    omega (arith, (c.shared_slice_known-11-1.given (8 * claim_limit + a.i)).fits)
 
-add_t49 : tie.Need-overflow-add-t49
+add_t49 : tie.Need-overflow_add-result-9
 add_t49 c =
-    let a = c.before.before.before.before.before.before.before.before.before.before.before.before.before.args in
-    let known = c.shared-slice-known11.given in
+    let a = c.args in
+    let known = c.shared_slice_known-11-1.given in
     omega (arith, (known (7 * claim_limit + a.i)).fits, (known (8 * claim_limit + a.i)).fits)
 
-returns_3 : tie.Need-returns-3
+returns_3 : tie.Need-returns
 returns_3 c =
-    let tests = c.before.before.before.before.before.before.before.before.before.before in
-    let a = tests.before.before.before.args in
-    claim_read a.sheet.now a.i tests.before.if1.false tests.if2.false
+    let a = c.args in
+    claim_read a.sheet.now a.i c.if-sheet-lt-SHEET.false c.if-i-ge-CLAIMS.false
 
 pub claim_at_spec : {M : Type 1} → statement M
 claim_at_spec =

@@ -5,20 +5,20 @@ use Rattle.columns.proofs.Sheets.{column_short, column_past, column_part}
 use Rattle.columns.proofs.column.Statement.{statement}
 use Rattle.columns.proofs.column.Tie as tie
 
-returns : tie.Need-returns
+returns : tie.Need-returns-then-sheet-lt-SHEET
 returns c =
-    let a = c.before.before.args in
-    sym (column_short a.sheet.now a.which c.before.if1.true)
+    let a = c.args in
+    sym (column_short a.sheet.now a.which c.if-sheet-lt-SHEET.true)
 
-returns_2 : tie.Need-returns-2
+returns_2 : tie.Need-returns-then-which-gt-LEFT
 returns_2 c =
-    let a = c.before.before.before.args in
-    sym (column_past a.sheet.now a.which c.before.if2.true)
+    let a = c.args in
+    sym (column_past a.sheet.now a.which c.if-which-gt-LEFT.true)
 
-returns_3 : tie.Need-returns-3
+returns_3 : tie.Need-returns
 returns_3 c =
-    let a = c.before.before.before.args in
-    column_part a.sheet.now a.which c.before.before.if1.false c.before.if2.false
+    let a = c.args in
+    column_part a.sheet.now a.which c.if-sheet-lt-SHEET.false c.if-which-gt-LEFT.false
 
 pub column_spec : {M : Type 1} → statement M
 column_spec =

@@ -10,28 +10,27 @@ use Rattle.columns.proofs.Walking.{Climbing, climbing_start, climbing_root, clim
 use Rattle.columns.proofs.hop_count.Statement.{statement}
 use Rattle.columns.proofs.hop_count.Tie as tie
 
-abbrev invariant_loop : tie.invariant-loop
+abbrev invariant_loop : tie.invariant-loop-steps
 invariant_loop ups from at₀ up₀ steps₀ at up steps = Climbing ups steps at up (steps_up (places_up ups from))
 
-abbrev decreases_loop : tie.decreases-loop
+abbrev decreases_loop : tie.decreases-loop-steps
 decreases_loop ups from at₀ up₀ steps₀ at up steps = hop_limit - steps
 
-loop_holds : tie.Need-loop-init invariant_loop decreases_loop
-loop_holds c = climbing_start _ _ c.place_above.ensures
+loop_holds : tie.Need-loop-steps-init invariant_loop decreases_loop
+loop_holds c = climbing_start _ _ c.place_above-up.ensures
 
-returns : tie.Need-returns invariant_loop decreases_loop
-returns c = sym (climbing_root c.before.before.loop.invariant c.if1.true)
+returns : tie.Need-returns-then-at-up invariant_loop decreases_loop
+returns c = sym (climbing_root c.loop-steps.invariant c.if-at-up.true)
 
-loop_again : tie.Need-loop-preserved invariant_loop decreases_loop
+loop_again : tie.Need-loop-steps-preserved invariant_loop decreases_loop
 loop_again c =
-    let turn = c.before.before.before in
-    climbing_next turn.loop.invariant (omega (arith, c.before.if1.false)) c.before.before.loop-test.true c.place-above2.ensures
+    climbing_next c.loop-steps.invariant (omega (arith, c.if-at-up.false)) c.loop-steps-test.true c.place_above-up-in-loop-steps.ensures
 
-returns_2 : tie.Need-returns-2 invariant_loop decreases_loop
-returns_2 c = sym (climbing_root c.before.before.loop.invariant c.if2.true)
+returns_2 : tie.Need-returns-then-at-up-2 invariant_loop decreases_loop
+returns_2 c = sym (climbing_root c.loop-steps.invariant c.if-at-up-2.true)
 
-returns_3 : tie.Need-returns-3 invariant_loop decreases_loop
-returns_3 c = sym (climbing_beyond c.before.before.loop.invariant (omega (arith, c.if2.false)) c.before.loop-test.false)
+returns_3 : tie.Need-returns invariant_loop decreases_loop
+returns_3 c = sym (climbing_beyond c.loop-steps.invariant (omega (arith, c.if-at-up-2.false)) c.loop-steps-test.false)
 
 pub hop_count_spec : {M : Type 1} → statement M
 hop_count_spec =

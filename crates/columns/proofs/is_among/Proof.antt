@@ -11,23 +11,22 @@ use Rattle.lists.specs.Loops.{Loop, start, turn, next, done}
 use Rattle.columns.proofs.is_among.Statement.{statement}
 use Rattle.columns.proofs.is_among.Tie as tie
 
-abbrev invariant_loop : tie.invariant-loop
+abbrev invariant_loop : tie.invariant-loop-i
 invariant_loop column n x top hit₀ i₀ hit i = Loop (λ at l. hit || any (eqb x) l) n column top i (any (eqb x) (take n column))
 
-abbrev decreases_loop : tie.decreases-loop
+abbrev decreases_loop : tie.decreases-loop-i
 decreases_loop column n x top hit₀ i₀ hit i = top - i
 
-loop_holds : tie.Need-loop-init invariant_loop decreases_loop
-loop_holds c = start c.least.ensures refl
+loop_holds : tie.Need-loop-i-init invariant_loop decreases_loop
+loop_holds c = start c.least-top.ensures refl
 
-loop_again : tie.Need-loop-preserved invariant_loop decreases_loop
+loop_again : tie.Need-loop-i-preserved invariant_loop decreases_loop
 loop_again c =
-    let loop = c.before.before in
-    next loop.loop.invariant c.before.loop-test.true
-    (turn loop.loop.invariant 0 c.before.loop-test.true ∙ sym (or_assoc loop.loop.hit _ _))
+    next c.loop-i.invariant c.loop-i-test.true
+    (turn c.loop-i.invariant 0 c.loop-i-test.true ∙ sym (or_assoc c.loop-i.hit _ _))
 
 returns : tie.Need-returns invariant_loop decreases_loop
-returns c = sym (done c.before.loop.invariant c.loop-test.false ∙ or-false c.before.loop.hit)
+returns c = sym (done c.loop-i.invariant c.loop-i-test.false ∙ or-false c.loop-i.hit)
 
 pub is_among_spec : {M : Type 1} → statement M
 is_among_spec =

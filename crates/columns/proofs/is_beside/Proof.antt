@@ -7,20 +7,20 @@ use Rattle.columns.proofs.Pairing.{Pairing, pairing_start, pairing_next, pairing
 use Rattle.columns.proofs.is_beside.Statement.{statement}
 use Rattle.columns.proofs.is_beside.Tie as tie
 
-abbrev invariant_loop : tie.invariant-loop
+abbrev invariant_loop : tie.invariant-loop-i
 invariant_loop column other n x y top hit₀ i₀ hit i = Pairing column other n x y top hit i
 
-abbrev decreases_loop : tie.decreases-loop
+abbrev decreases_loop : tie.decreases-loop-i
 decreases_loop column other n x y top hit₀ i₀ hit i = top - i
 
-loop_holds : tie.Need-loop-init invariant_loop decreases_loop
-loop_holds c = pairing_start (rw c.before.least.ensures at c.least2.ensures)
+loop_holds : tie.Need-loop-i-init invariant_loop decreases_loop
+loop_holds c = pairing_start (rw c.least.ensures at c.least-top.ensures)
 
-loop_again : tie.Need-loop-preserved invariant_loop decreases_loop
-loop_again c = pairing_next c.before.before.before.loop.invariant c.before.before.loop-test.true
+loop_again : tie.Need-loop-i-preserved invariant_loop decreases_loop
+loop_again c = pairing_next c.loop-i.invariant c.loop-i-test.true
 
 returns : tie.Need-returns invariant_loop decreases_loop
-returns c = sym (pairing_done c.before.loop.invariant c.loop-test.false)
+returns c = sym (pairing_done c.loop-i.invariant c.loop-i-test.false)
 
 pub is_beside_spec : {M : Type 1} → statement M
 is_beside_spec =

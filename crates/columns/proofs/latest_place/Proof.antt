@@ -10,41 +10,39 @@ use Rattle.columns.specs.Laws.{place_none, place_hit, place_miss, place_within}
 use Rattle.columns.proofs.latest_place.Statement.{statement}
 use Rattle.columns.proofs.latest_place.Tie as tie
 
-abbrev invariant_loop : tie.invariant-loop
+abbrev invariant_loop : tie.invariant-loop-i
 invariant_loop column n x i₀ i = (i ≤ length column) × (latest_place column n x ≡ latest_place column i x)
 
-abbrev decreases_loop : tie.decreases-loop
+abbrev decreases_loop : tie.decreases-loop-i
 decreases_loop column n x i₀ i = i
 
-loop_holds : tie.Need-loop-init invariant_loop decreases_loop
+loop_holds : tie.Need-loop-i-init invariant_loop decreases_loop
 loop_holds c =
-    let entry = c.before.before.args in
-    (omega arith, rw c.least.ensures (place_within entry.column.now entry.x entry.n))
+    let entry = c.args in
+    (omega arith, rw c.least-i.ensures (place_within entry.column.now entry.x entry.n))
 
-returns : tie.Need-returns invariant_loop decreases_loop
+returns : tie.Need-returns-then-column-i invariant_loop decreases_loop
 returns c =
-    let loop = c.before.before.before in
-    let entry = loop.before.before.before.args in
-    let below : loop.loop.i ≡ suc (loop.loop.i - 1) = omega arith in
+    let entry = c.args in
+    let below : c.loop-i.i ≡ suc (c.loop-i.i - 1) = omega arith in
     sym
-    (loop.loop.invariant.1 ∙ ap (λ i. latest_place entry.column.now i entry.x) below
-    ∙ place_hit entry.column.now entry.x (loop.loop.i - 1) (omega arith) c.if1.true)
+    (c.loop-i.invariant.1 ∙ ap (λ i. latest_place entry.column.now i entry.x) below
+    ∙ place_hit entry.column.now entry.x (c.loop-i.i - 1) (omega arith) c.if-column-i.true)
 
-loop_again : tie.Need-loop-preserved invariant_loop decreases_loop
+loop_again : tie.Need-loop-i-preserved invariant_loop decreases_loop
 loop_again c =
-    let loop = c.before.before.before in
-    let entry = loop.before.before.before.args in
-    let below : loop.loop.i ≡ suc (loop.loop.i - 1) = omega arith in (
+    let entry = c.args in
+    let below : c.loop-i.i ≡ suc (c.loop-i.i - 1) = omega arith in (
       omega arith,
-      loop.loop.invariant.1 ∙ ap (λ i. latest_place entry.column.now i entry.x) below
-          ∙ place_miss entry.column.now entry.x (loop.loop.i - 1) (omega arith) c.if1.false,
+      c.loop-i.invariant.1 ∙ ap (λ i. latest_place entry.column.now i entry.x) below
+          ∙ place_miss entry.column.now entry.x (c.loop-i.i - 1) (omega arith) c.if-column-i.false,
     )
 
-returns_2 : tie.Need-returns-2 invariant_loop decreases_loop
+returns_2 : tie.Need-returns invariant_loop decreases_loop
 returns_2 c =
-    let entry = c.before.before.before.before.args in
-    let none : c.before.loop.i ≡ 0 = omega arith in
-    sym (c.before.loop.invariant.1 ∙ rw none (place_none entry.column.now entry.x))
+    let entry = c.args in
+    let none : c.loop-i.i ≡ 0 = omega arith in
+    sym (c.loop-i.invariant.1 ∙ rw none (place_none entry.column.now entry.x))
 
 pub latest_place_spec : {M : Type 1} → statement M
 latest_place_spec =

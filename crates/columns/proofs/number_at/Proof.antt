@@ -5,8 +5,8 @@ use lib.ListN.{get_or-eq_default}
 use Rattle.columns.proofs.number_at.Statement.{statement}
 use Rattle.columns.proofs.number_at.Tie as tie
 
-returns_2 : tie.Need-returns-2
-returns_2 c = sym (get_or-eq_default c.before.args.column.now 0 c.if1.false)
+returns_2 : tie.Need-returns-else-at-column
+returns_2 c = sym (get_or-eq_default c.args.column.now 0 c.if-at-column.false)
 
 pub number_at_spec : {M : Type 1} → statement M
 number_at_spec = tie.close (tie.spec (λ c. search rules) (λ c. search rules) (λ c. search rules) returns_2)

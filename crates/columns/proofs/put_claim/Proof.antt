@@ -14,9 +14,9 @@ returns : tie.Need-returns
 unfolding claim_put
 returns c = refl
 
-same_length : tie.Need-same-length
+same_length : tie.Need-shape_of-sheet
 unfolding claim_put
-same_length c = let a = c.before.before.args in claim_put_length a.sheet.now a.i a.c
+same_length c = let a = c.args in claim_put_length a.sheet.now a.i a.c
 
 pub put_claim_spec : {M : Type 1} → statement M
 put_claim_spec =
@@ -54,15 +54,15 @@ put_claim_spec =
     (λ c. search rules)
     (λ c. search rules)
     (λ c. search rules)
-    (λ c. let a = c.before.args in inside_put (take 7 (numbers_of a.c)) a.sheet.now a.i 0 (omega (arith, c.before.requires)))
+    (λ c. let a = c.args in inside_put (take 7 (numbers_of a.c)) a.sheet.now a.i 0 (omega (arith, c.requires)))
     (λ c. search rules)
     (λ c. search rules)
     (λ c. search rules)
     (λ c. search rules)
-    (λ c. let a = c.before.before.args in inside_put (take 8 (numbers_of a.c)) a.sheet.now a.i 0 (omega (arith, c.before.before.requires)))
+    (λ c. let a = c.args in inside_put (take 8 (numbers_of a.c)) a.sheet.now a.i 0 (omega (arith, c.requires)))
     (λ c. search rules)
     (λ c. search rules)
     (λ c. search rules)
-    (λ c. let a = c.before.before.args in inside_put (take 9 (numbers_of a.c)) a.sheet.now a.i 0 (omega (arith, c.before.before.requires)))
+    (λ c. let a = c.args in inside_put (take 9 (numbers_of a.c)) a.sheet.now a.i 0 (omega (arith, c.requires)))
     same_length
     returns)

@@ -12,30 +12,29 @@ use Rattle.columns.proofs.Sheets.{sheet_with_kept, Putting, putting_start, putti
 use Rattle.columns.proofs.put_claims.Statement.{statement}
 use Rattle.columns.proofs.put_claims.Tie as tie
 
-abbrev invariant_loop : tie.invariant-loop
+abbrev invariant_loop : tie.invariant-loop-i
 invariant_loop sheet₀ k top i₀ sheet i = Putting k.count k.list top i sheet (sheet_with sheet₀ (claims_of k))
 
-abbrev decreases_loop : tie.decreases-loop
+abbrev decreases_loop : tie.decreases-loop-i
 decreases_loop sheet₀ k top i₀ sheet i = top - i
 
-loop_holds : tie.Need-loop-init invariant_loop decreases_loop
+loop_holds : tie.Need-loop-i-init invariant_loop decreases_loop
 loop_holds c =
-    let a = c.before.before.before.args in
-    let places : length a.t2.list ≡ claim_limit = search (rules, length_mapped) in
-    putting_start a.t2.count a.t2.list c.before.if1.true places c.least.ensures
+    let a = c.args in
+    let places : length a.k.list ≡ claim_limit = search (rules, length_mapped) in
+    putting_start a.k.count a.k.list c.if-sheet-eq-SHEET.true places c.least-top.ensures
 
-loop_again : tie.Need-loop-preserved invariant_loop decreases_loop
+loop_again : tie.Need-loop-i-preserved invariant_loop decreases_loop
 loop_again c =
-    let turn = c.before.before.before.before.before in
-    putting_next turn.before.loop.invariant turn.loop-test.true c.before.before.put-claim.ensures
+    putting_next c.loop-i.invariant c.loop-i-test.true c.put_claim.ensures
 
-returns : tie.Need-returns invariant_loop decreases_loop
-returns c = sym (putting_done c.before.loop.invariant c.loop-test.false)
+returns : tie.Need-returns-after-loop-i invariant_loop decreases_loop
+returns c = sym (putting_done c.loop-i.invariant c.loop-i-test.false)
 
-returns_2 : tie.Need-returns-2 invariant_loop decreases_loop
+returns_2 : tie.Need-returns-else-sheet-eq-SHEET invariant_loop decreases_loop
 returns_2 c =
-    let a = c.before.before.args in
-    sym (sheet_with_kept a.sheet.now (claims_of a.t2) c.if1.false)
+    let a = c.args in
+    sym (sheet_with_kept a.sheet.now (claims_of a.k) c.if-sheet-eq-SHEET.false)
 
 pub put_claims_spec : {M : Type 1} → statement M
 put_claims_spec =

@@ -11,32 +11,29 @@ use Rattle.decimals.specs.Walk.{after_digit, after_stop, after_end}
 use Rattle.decimals.proofs.digits_end.Statement.{statement}
 use Rattle.decimals.proofs.digits_end.Tie as tie
 
-abbrev invariant_loop : tie.invariant-loop
+abbrev invariant_loop : tie.invariant-loop-i
 invariant_loop s at i₀ i = (i ≤ length s) × (after (drop at s) ≡ after (drop i s))
 
-abbrev decreases_loop : tie.decreases-loop
+abbrev decreases_loop : tie.decreases-loop-i
 decreases_loop s at i₀ i = length s - i
 
-loop_holds : tie.Need-loop-init invariant_loop decreases_loop
+loop_holds : tie.Need-loop-i-init invariant_loop decreases_loop
 loop_holds c = (omega arith, refl)
 
-returns : tie.Need-returns invariant_loop decreases_loop
+returns : tie.Need-returns-then-not-is_digit invariant_loop decreases_loop
 returns c =
-    let l = c.before.before.before.before in
-    let s = l.before.before.args.s.now in
-    (l.loop.invariant.1 ∙ after_stop s l.loop.i c.before.before.before.loop-test.true (sym c.before.is_digit.ensures ∙ not-true _ c.if1.true), omega arith)
+    let s = c.args.s.now in
+    (c.loop-i.invariant.1 ∙ after_stop s c.loop-i.i c.loop-i-test.true (sym c.is_digit.ensures ∙ c.if-not-is_digit.true), omega arith)
 
-loop_again : tie.Need-loop-preserved invariant_loop decreases_loop
+loop_again : tie.Need-loop-i-preserved invariant_loop decreases_loop
 loop_again c =
-    let l = c.before.before.before.before in
-    let s = l.before.before.args.s.now in
-    (omega arith, l.loop.invariant.1 ∙ after_digit s l.loop.i c.before.before.before.loop-test.true (sym c.before.is_digit.ensures ∙ not-false _ c.if1.false))
+    let s = c.args.s.now in
+    (omega arith, c.loop-i.invariant.1 ∙ after_digit s c.loop-i.i c.loop-i-test.true (sym c.is_digit.ensures ∙ c.if-not-is_digit.false))
 
-returns_2 : tie.Need-returns-2 invariant_loop decreases_loop
+returns_2 : tie.Need-returns invariant_loop decreases_loop
 returns_2 c =
-    let l = c.before in
-    let s = l.before.before.args.s.now in
-    (l.loop.invariant.1 ∙ after_end s l.loop.i c.loop-test.false, omega arith)
+    let s = c.args.s.now in
+    (c.loop-i.invariant.1 ∙ after_end s c.loop-i.i c.loop-i-test.false, omega arith)
 
 pub digits_end_spec : {M : Type 1} → statement M
 digits_end_spec =

@@ -15,48 +15,48 @@ use Rattle.fault_finding.proofs.Parts.{actor_walked}
 use Rattle.fault_finding.proofs.actors_fault.Statement.{statement}
 use Rattle.fault_finding.proofs.actors_fault.Tie as tie
 
-abbrev invariant_loop : tie.invariant-loop
+abbrev invariant_loop : tie.invariant-loop-i
 invariant_loop a columns top i₀ i = Walk (actor_tests (human (actors_of a))) a.count a.list top i
 
-abbrev decreases_loop : tie.decreases-loop
+abbrev decreases_loop : tie.decreases-loop-i
 decreases_loop a columns top i₀ i = top - i
 
-loop_holds : tie.Need-loop-init invariant_loop decreases_loop
+loop_holds : tie.Need-loop-i-init invariant_loop decreases_loop
 loop_holds c =
-    let a = c.before.before.args.t1 in
+    let a = c.args.a in
     let room : length a.list ≡ actor_limit = search (rules, length_mapped) in
-    walk_start (actor_tests (human (actors_of a))) a.count a.list (c.least.ensures ∙ rw room)
+    walk_start (actor_tests (human (actors_of a))) a.count a.list (c.least-top.ensures ∙ rw room)
 
-returns : tie.Need-returns invariant_loop decreases_loop
+returns : tie.Need-returns-in-Refused invariant_loop decreases_loop
 returns c =
-    let a = c.before.before.before.before.before.before.before.before.before.before.before.before.before.before.before.before.before.before.before.before.args.t1 in
+    let a = c.args.a in
     let tests = actor_tests (human (actors_of a)) in
-    let loop = c.before.before.before.before.before.before.before.before.before.before.before.before.before.before.before.before.before.loop in
-    let inside = c.before.before.before.before.before.before.before.before.before.before.before.before.before.before.before.before.loop-test.true in
-    let why = c.before.before.why.given in
+    let loop = c.loop-i in
+    let inside = c.loop-i-test.true in
+    let refused = c.in-Refused in
     c.told.ensures
     ∙ sym
     (ap (λ l. fault_numbers (fault_from of_actor l no_fault))
-    (walk_fails tests a.count a.list loop.invariant no_actor inside why.0.0
-    (actor_walked a loop.i c.before.before.before.before.before.before.before.before.before.before.before.before.before.before.before.before.before.before.before.actor-columns.ensures _ (walk_below tests a.count a.list loop.invariant inside) c.before.before.before.before.before.before.before.before.before.is-beside.ensures c.before.before.before.before.before.is_among.ensures
-    c.before.before.before.before.actor-outcome.ensures ∙ why.1)))
+    (walk_fails tests a.count a.list loop.invariant no_actor inside refused.why
+    (actor_walked a loop.i c.actor_columns-columns.ensures _ (walk_below tests a.count a.list loop.invariant inside) c.is_beside-owned.ensures c.is_among-taken.ensures
+    c.actor_outcome.ensures ∙ refused.is)))
 
-loop_again : tie.Need-loop-preserved invariant_loop decreases_loop
+loop_again : tie.Need-loop-i-preserved invariant_loop decreases_loop
 loop_again c =
-    let a = c.before.before.before.before.before.before.before.before.before.before.before.before.before.before.before.before.before.before.args.t1 in
+    let a = c.args.a in
     let tests = actor_tests (human (actors_of a)) in
-    let loop = c.before.before.before.before.before.before.before.before.before.before.before.before.before.before.before.loop in
-    let inside = c.before.before.before.before.before.before.before.before.before.before.before.before.before.before.loop-test.true in
+    let loop = c.loop-i in
+    let inside = c.loop-i-test.true in
     walk_next tests a.count a.list loop.invariant no_actor inside
-    (actor_walked a loop.i c.before.before.before.before.before.before.before.before.before.before.before.before.before.before.before.before.before.actor-columns.ensures _ (walk_below tests a.count a.list loop.invariant inside) c.before.before.before.before.before.before.before.is-beside.ensures c.before.before.before.is_among.ensures
-    c.before.before.actor-outcome.ensures ∙ c.enum_told.given.1)
+    (actor_walked a loop.i c.actor_columns-columns.ensures _ (walk_below tests a.count a.list loop.invariant inside) c.is_beside-owned.ensures c.is_among-taken.ensures
+    c.actor_outcome.ensures ∙ c.in-Accepted.is)
 
-returns_2 : tie.Need-returns-2 invariant_loop decreases_loop
+returns_2 : tie.Need-returns invariant_loop decreases_loop
 returns_2 c =
-    let a = c.before.before.before.before.before.args.t1 in
-    c.no-fault.ensures
+    let a = c.args.a in
+    c.no_fault.ensures
     ∙ sym
-    (ap (λ l. fault_numbers (fault_from of_actor l no_fault)) (walk_done (actor_tests (human (actors_of a))) a.count a.list c.before.before.loop.invariant c.before.loop-test.false))
+    (ap (λ l. fault_numbers (fault_from of_actor l no_fault)) (walk_done (actor_tests (human (actors_of a))) a.count a.list c.loop-i.invariant c.loop-i-test.false))
 
 pub actors_fault_spec : {M : Type 1} → statement M
 actors_fault_spec =
@@ -77,7 +77,7 @@ actors_fault_spec =
     returns
     (λ c. search rules)
     (λ c. search rules)
-    (λ c. omega (arith, c.before.before.before.before.before.before.before.before.before.before.before.before.before.before.loop-test.true))
+    (λ c. omega (arith, c.loop-i-test.true))
     loop_again
     (λ c κs. search rules)
     returns_2)

@@ -21,43 +21,42 @@ use Rattle.fault_finding.proofs.Claims.{claim_unfit, claim_fit, higher_told, sta
 use Rattle.fault_finding.proofs.claim_outcome.Statement.{statement}
 use Rattle.fault_finding.proofs.claim_outcome.Tie as tie
 
-returns : tie.Need-returns
+returns : tie.Need-returns-then-not-claim_fits
 returns c =
-    let given = c.before.before.before.before.args in
+    let given = c.args in
     let s = given.sheet.now in
     sym
     (claim_unfit (world_of given.version (actors_of given.a) (resources_of given.o)) (latest (take given.n (claims_in s))) (claim_at s given.n)
-    (ap (claim_fits given.version) (sym c.before.before.claim-at.ensures) ∙ sym c.before.claim_fits_lem.ensures ∙ not-true _ c.if1.true))
+    (ap (claim_fits given.version) (sym c.claim_at-c.ensures) ∙ sym c.claim_fits.ensures ∙ c.if-not-claim_fits.true))
 
-returns_2 : tie.Need-returns-2
+returns_2 : tie.Need-returns
 returns_2 c =
-    let entry = c.before.before.before.before.before.before.before.before.before.before.before.before.before.before.before.before in
-    let given = entry.args in
+    let given = c.args in
     let version = given.version in
     let a = given.a in
     let o = given.o in
     let s = given.sheet.now in
     let n = given.n in
-    let asks = entry.requires in
-    let x = c.before.before.before.before.before.before.before.before.before.before.before.before.before.before.claim-at.result in
-    let found = c.before.before.before.before.before.before.before.before.before.before.before.examine-sheet in
-    let ids = c.before.before.before.before.before.before.before.before.before.before.column.ensures in
-    let place = c.before.before.before.before.before.before.before.before.latest-place.result in
-    let stands = c.before.before.before.before.before.before.before.before.before.is_among.result in
+    let asks = c.requires in
+    let x = c.claim_at-c.result in
+    let found = c.examine_sheet-found in
+    let ids = c.column-ids.ensures in
+    let place = c.latest_place-place.result in
+    let stands = c.is_among-stands.result in
     let ups = earlier_places (column_of id_column s) (column_of parent_column s) n in
     let earlier = latest (take n (claims_in s)) in
     c.then.ensures
-    ∙ decided_then _ _ (c.before.before.before.before.before.world-outcome.ensures
+    ∙ decided_then _ _ (c.world_outcome-world.ensures
     ∙ ap (λ w. outcome_of (told_tests w stands 0 x)) (world_natural 0 a o (ap (λ f. f.actors) found.ensures) (ap (λ f. f.resources) found.ensures))
     ∙ ap outcome_of (told_version 0 version (actors_of a) (resources_of o) stands 0 x))
-    c.before.higher-outcome.ensures
+    c.higher_outcome-higher.ensures
     ∙ claim_fit (world_of version (actors_of a) (resources_of o)) earlier x
-    (sym c.before.before.before.before.before.before.before.before.before.before.before.before.before.claim_fits_lem.ensures ∙ not-false _ c.before.before.before.before.before.before.before.before.before.before.before.before.if1.false)
-    (c.before.before.before.before.before.before.before.before.before.is_among.ensures ∙ ap (λ l. any (eqb x.id) (take n l)) ids ∙ stands_told version a o s n asks.0 asks.1 x)
+    (sym c.claim_fits.ensures ∙ c.if-not-claim_fits.false)
+    (c.is_among-stands.ensures ∙ ap (λ l. any (eqb x.id) (take n l)) ids ∙ stands_told version a o s n asks.0 asks.1 x)
     (ap (λ f. higher_asked version s f.ups place x) found.ensures
-    ∙ ap (λ q. higher_asked version s ups q x) (c.before.before.before.before.before.before.before.before.latest-place.ensures ∙ ap (λ l. latest_place l n x.parent) ids)
+    ∙ ap (λ q. higher_asked version s ups q x) (c.latest_place-place.ensures ∙ ap (λ l. latest_place l n x.parent) ids)
     ∙ higher_told version a o s n asks.0 asks.1 x)
-    ∙ ap (λ d. outcome_of (claim_tests (world_of version (actors_of a) (resources_of o)) earlier d)) c.before.before.before.before.before.before.before.before.before.before.before.before.before.before.claim-at.ensures
+    ∙ ap (λ d. outcome_of (claim_tests (world_of version (actors_of a) (resources_of o)) earlier d)) c.claim_at-c.ensures
 
 pub claim_outcome_spec : {M : Type 1} → statement M
 claim_outcome_spec =

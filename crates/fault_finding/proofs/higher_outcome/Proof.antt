@@ -13,28 +13,27 @@ use Rattle.fault_finding.proofs.Claims.{root_passes, parent_nowhere, parent_at, 
 use Rattle.fault_finding.proofs.higher_outcome.Statement.{statement}
 use Rattle.fault_finding.proofs.higher_outcome.Tie as tie
 
-returns : tie.Need-returns
+returns : tie.Need-returns-then-c-eq0
 returns c =
-    let given = c.before.before.before.before.args in
-    sym (root_passes given.version given.sheet.now given.ups.now given.place given.c c.if1.true)
+    let given = c.args in
+    sym (root_passes given.version given.sheet.now given.ups.now given.place given.c c.if-c-eq0.true)
 
-returns_2 : tie.Need-returns-2
+returns_2 : tie.Need-returns-in-Nowhere
 returns_2 c =
-    let given = c.before.before.before.before.before.before.args in
-    sym (parent_nowhere given.version given.sheet.now given.ups.now given.place given.c c.before.before.if1.false c.enum_told.given.1)
+    let given = c.args in
+    sym (parent_nowhere given.version given.sheet.now given.ups.now given.place given.c c.if-c-eq0.false c.in-Nowhere.is)
 
-returns_3 : tie.Need-returns-3
+returns_3 : tie.Need-returns-in-At
 returns_3 c =
-    let placed = c.before.before.before.before.before.before.before in
-    let given = c.before.before.before.before.before.before.before.before.before.before.before.before.before.args in
-    let l = places_up given.ups.now placed.place.given.0.0 in
+    let given = c.args in
+    let l = places_up given.ups.now c.in-At.at in
     c.then.ensures
-    ∙ decided_then _ _ c.before.before.before.before.drawn-outcome.ensures
+    ∙ decided_then _ _ c.drawn_outcome-drawn.ensures
     (chain_columns
-    (ltb (hands_at given.version (suc (length l)) given.c) (hands_at given.version (length l) c.before.before.before.before.before.claim-at.result))
-    (placed.place.given.0.0 ∷ l) given.c.holder c.before.before.before.column.ensures c.before.before.column2.ensures c.before.chain_outcome.ensures)
+    (ltb (hands_at given.version (suc (length l)) given.c) (hands_at given.version (length l) c.claim_at-p.result))
+    (c.in-At.at ∷ l) given.c.holder c.column-grantors.ensures c.column-holders.ensures c.chain_outcome-chained.ensures)
     ∙ sym
-    (parent_at given.version given.sheet.now given.ups.now given.place given.c c.before.before.before.before.before.before.before.before.before.if1.false placed.place.given.1 c.before.before.before.before.before.claim-at.ensures)
+    (parent_at given.version given.sheet.now given.ups.now given.place given.c c.if-c-eq0.false c.in-At.is c.claim_at-p.ensures)
 
 pub higher_outcome_spec : {M : Type 1} → statement M
 higher_outcome_spec =

@@ -5,43 +5,43 @@ use Rattle.fault_finding.proofs.Limiting.{before_one, behind_two, actors_many, r
 use Rattle.fault_finding.proofs.limits_fault.Statement.{statement}
 use Rattle.fault_finding.proofs.limits_fault.Tie as tie
 
-returns : tie.Need-returns
+returns : tie.Need-returns-then-version-lt-VERSION_ONE
 returns c =
-    let given = c.before.before.args in
-    c.told.ensures ∙ sym (before_one given.version given.h given.m given.n c.before.if1.true)
+    let given = c.args in
+    c.told.ensures ∙ sym (before_one given.version given.h given.m given.n c.if-version-lt-VERSION_ONE.true)
 
-returns_2 : tie.Need-returns-2
+returns_2 : tie.Need-returns-then-version-gt-VERSION_TWO
 returns_2 c =
-    let given = c.before.before.before.args in
-    c.told2.ensures ∙ sym (behind_two given.version given.h given.m given.n c.before.before.if1.false c.before.if2.true)
+    let given = c.args in
+    c.told-then-version-gt-VERSION_TWO.ensures ∙ sym (behind_two given.version given.h given.m given.n c.if-version-lt-VERSION_ONE.false c.if-version-gt-VERSION_TWO.true)
 
-returns_3 : tie.Need-returns-3
+returns_3 : tie.Need-returns-then-h-gt-ACTORS
 returns_3 c =
-    let given = c.before.before.before.before.args in
-    c.told3.ensures ∙ sym (actors_many given.version given.h given.m given.n c.before.before.before.if1.false c.before.before.if2.false c.before.if3.true)
+    let given = c.args in
+    c.told-then-h-gt-ACTORS.ensures ∙ sym (actors_many given.version given.h given.m given.n c.if-version-lt-VERSION_ONE.false c.if-version-gt-VERSION_TWO.false c.if-h-gt-ACTORS.true)
 
-returns_4 : tie.Need-returns-4
+returns_4 : tie.Need-returns-then-m-gt-RESOURCES
 returns_4 c =
-    let given = c.before.before.before.before.before.args in
-    c.told4.ensures
+    let given = c.args in
+    c.told-then-m-gt-RESOURCES.ensures
     ∙ sym
-    (resources_many given.version given.h given.m given.n c.before.before.before.before.if1.false c.before.before.before.if2.false c.before.before.if3.false c.before.if4.true)
+    (resources_many given.version given.h given.m given.n c.if-version-lt-VERSION_ONE.false c.if-version-gt-VERSION_TWO.false c.if-h-gt-ACTORS.false c.if-m-gt-RESOURCES.true)
 
-returns_5 : tie.Need-returns-5
+returns_5 : tie.Need-returns-then-n-gt-CLAIMS
 returns_5 c =
-    let given = c.before.before.before.before.before.before.args in
-    c.told5.ensures
+    let given = c.args in
+    c.told-then-n-gt-CLAIMS.ensures
     ∙ sym
-    (claims_many given.version given.h given.m given.n c.before.before.before.before.before.if1.false c.before.before.before.before.if2.false c.before.before.before.if3.false
-    c.before.before.if4.false c.before.if5.true)
+    (claims_many given.version given.h given.m given.n c.if-version-lt-VERSION_ONE.false c.if-version-gt-VERSION_TWO.false c.if-h-gt-ACTORS.false
+    c.if-m-gt-RESOURCES.false c.if-n-gt-CLAIMS.true)
 
-returns_6 : tie.Need-returns-6
+returns_6 : tie.Need-returns
 returns_6 c =
-    let given = c.before.before.before.before.before.before.args in
-    c.no-fault.ensures
+    let given = c.args in
+    c.no_fault.ensures
     ∙ sym
-    (limits_whole given.version given.h given.m given.n c.before.before.before.before.before.if1.false c.before.before.before.before.if2.false c.before.before.before.if3.false
-    c.before.before.if4.false c.before.if5.false)
+    (limits_whole given.version given.h given.m given.n c.if-version-lt-VERSION_ONE.false c.if-version-gt-VERSION_TWO.false c.if-h-gt-ACTORS.false
+    c.if-m-gt-RESOURCES.false c.if-n-gt-CLAIMS.false)
 
 pub limits_fault_spec : {M : Type 1} → statement M
 limits_fault_spec =

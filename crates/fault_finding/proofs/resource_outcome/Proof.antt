@@ -4,7 +4,7 @@ use Rattle.fault_finding.proofs.resource_outcome.Statement.{statement}
 use Rattle.fault_finding.proofs.resource_outcome.Tie as tie
 
 returns : tie.Need-returns
-returns c = rw (c.before.before.before.before.is-id.ensures, c.before.before.is-id2.ensures, c.before.path_fits.ensures) at c.record-outcome.ensures
+returns c = rw (c.is_id.ensures, c.is_id-2.ensures, c.path_fits.ensures) at c.record_outcome.ensures
 
 pub resource_outcome_spec : {M : Type 1} → statement M
 resource_outcome_spec =

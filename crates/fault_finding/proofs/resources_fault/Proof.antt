@@ -16,51 +16,51 @@ use Rattle.fault_finding.proofs.Parts.{resource_walked}
 use Rattle.fault_finding.proofs.resources_fault.Statement.{statement}
 use Rattle.fault_finding.proofs.resources_fault.Tie as tie
 
-abbrev invariant_loop : tie.invariant-loop
+abbrev invariant_loop : tie.invariant-loop-i
 invariant_loop a o people columns top i₀ i = Walk (resource_tests (human (actors_of a))) o.count o.list top i
 
-abbrev decreases_loop : tie.decreases-loop
+abbrev decreases_loop : tie.decreases-loop-i
 decreases_loop a o people columns top i₀ i = top - i
 
-loop_holds : tie.Need-loop-init invariant_loop decreases_loop
+loop_holds : tie.Need-loop-i-init invariant_loop decreases_loop
 loop_holds c =
-    let given = c.before.before.before.args in
-    let room : length given.t2.list ≡ resource_limit = search (rules, length_mapped) in
-    walk_start (resource_tests (human (actors_of given.a))) given.t2.count given.t2.list (c.least.ensures ∙ rw room)
+    let given = c.args in
+    let room : length given.o.list ≡ resource_limit = search (rules, length_mapped) in
+    walk_start (resource_tests (human (actors_of given.a))) given.o.count given.o.list (c.least-top.ensures ∙ rw room)
 
-returns : tie.Need-returns invariant_loop decreases_loop
+returns : tie.Need-returns-in-Refused invariant_loop decreases_loop
 returns c =
-    let a = c.before.before.before.before.before.before.before.before.before.before.before.before.before.before.before.before.before.before.before.before.before.args.a in
-    let o = c.before.before.before.before.before.before.before.before.before.before.before.before.before.before.before.before.before.before.before.before.before.args.t2 in
+    let a = c.args.a in
+    let o = c.args.o in
     let tests = resource_tests (human (actors_of a)) in
-    let loop = c.before.before.before.before.before.before.before.before.before.before.before.before.before.before.before.before.before.loop in
-    let inside = c.before.before.before.before.before.before.before.before.before.before.before.before.before.before.before.before.loop-test.true in
-    let why = c.before.before.why.given in
+    let loop = c.loop-i in
+    let inside = c.loop-i-test.true in
+    let refused = c.in-Refused in
     c.told.ensures
     ∙ sym
     (ap (λ l. fault_numbers (fault_from of_resource l no_fault))
-    (walk_fails tests o.count o.list loop.invariant beyond inside why.0.0
-    (resource_walked a loop.i c.before.before.before.before.before.before.before.before.before.before.before.before.before.before.before.before.before.before.before.before.actor-columns.ensures o c.before.before.before.before.before.before.before.before.before.before.before.before.before.before.before.before.before.before.before.resource-columns.ensures _ (walk_below tests o.count o.list loop.invariant inside)
-    c.before.before.before.before.before.before.before.before.before.is-beside.ensures c.before.before.before.before.before.is_among.ensures c.before.before.before.before.resource-outcome.ensures ∙ why.1)))
+    (walk_fails tests o.count o.list loop.invariant beyond inside refused.why
+    (resource_walked a loop.i c.actor_columns-people.ensures o c.resource_columns-columns.ensures _ (walk_below tests o.count o.list loop.invariant inside)
+    c.is_beside-kept.ensures c.is_among-taken.ensures c.resource_outcome.ensures ∙ refused.is)))
 
-loop_again : tie.Need-loop-preserved invariant_loop decreases_loop
+loop_again : tie.Need-loop-i-preserved invariant_loop decreases_loop
 loop_again c =
-    let a = c.before.before.before.before.before.before.before.before.before.before.before.before.before.before.before.before.before.before.before.args.a in
-    let o = c.before.before.before.before.before.before.before.before.before.before.before.before.before.before.before.before.before.before.before.args.t2 in
+    let a = c.args.a in
+    let o = c.args.o in
     let tests = resource_tests (human (actors_of a)) in
-    let loop = c.before.before.before.before.before.before.before.before.before.before.before.before.before.before.before.loop in
-    let inside = c.before.before.before.before.before.before.before.before.before.before.before.before.before.before.loop-test.true in
+    let loop = c.loop-i in
+    let inside = c.loop-i-test.true in
     walk_next tests o.count o.list loop.invariant beyond inside
-    (resource_walked a loop.i c.before.before.before.before.before.before.before.before.before.before.before.before.before.before.before.before.before.before.actor-columns.ensures o c.before.before.before.before.before.before.before.before.before.before.before.before.before.before.before.before.before.resource-columns.ensures _ (walk_below tests o.count o.list loop.invariant inside)
-    c.before.before.before.before.before.before.before.is-beside.ensures c.before.before.before.is_among.ensures c.before.before.resource-outcome.ensures ∙ c.enum_told.given.1)
+    (resource_walked a loop.i c.actor_columns-people.ensures o c.resource_columns-columns.ensures _ (walk_below tests o.count o.list loop.invariant inside)
+    c.is_beside-kept.ensures c.is_among-taken.ensures c.resource_outcome.ensures ∙ c.in-Accepted.is)
 
-returns_2 : tie.Need-returns-2 invariant_loop decreases_loop
+returns_2 : tie.Need-returns invariant_loop decreases_loop
 returns_2 c =
-    let given = c.before.before.before.before.before.before.args in
-    c.no-fault.ensures
+    let given = c.args in
+    c.no_fault.ensures
     ∙ sym
     (ap (λ l. fault_numbers (fault_from of_resource l no_fault))
-    (walk_done (resource_tests (human (actors_of given.a))) given.t2.count given.t2.list c.before.before.loop.invariant c.before.loop-test.false))
+    (walk_done (resource_tests (human (actors_of given.a))) given.o.count given.o.list c.loop-i.invariant c.loop-i-test.false))
 
 pub resources_fault_spec : {M : Type 1} → statement M
 resources_fault_spec =
@@ -82,7 +82,7 @@ resources_fault_spec =
     returns
     (λ c. search rules)
     (λ c. search rules)
-    (λ c. omega (arith, c.before.before.before.before.before.before.before.before.before.before.before.before.before.before.loop-test.true))
+    (λ c. omega (arith, c.loop-i-test.true))
     loop_again
     (λ c κs. search rules)
     returns_2)

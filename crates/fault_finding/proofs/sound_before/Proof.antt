@@ -8,41 +8,41 @@ use Rattle.fault_finding.proofs.Turns.{turning_up, turning_down, turning_done}
 use Rattle.fault_finding.proofs.sound_before.Statement.{statement}
 use Rattle.fault_finding.proofs.sound_before.Tie as tie
 
-abbrev invariant_loop : tie.invariant-loop
+abbrev invariant_loop : tie.invariant-loop-high
 invariant_loop version a o sheet n low₀ high₀ low high = Turning version a o sheet low high × (high ≤ n)
 
-abbrev decreases_loop : tie.decreases-loop
+abbrev decreases_loop : tie.decreases-loop-high
 decreases_loop version a o sheet n low₀ high₀ low high = high - low
 
-loop_holds : tie.Need-loop-init invariant_loop decreases_loop
-loop_holds c = (c.before.requires, omega arith)
+loop_holds : tie.Need-loop-high-init invariant_loop decreases_loop
+loop_holds c = (c.requires, omega arith)
 
-loop_again : tie.Need-loop-preserved invariant_loop decreases_loop
+loop_again : tie.Need-loop-high-preserved-then-sheet_sound invariant_loop decreases_loop
 loop_again c =
-    let given = c.before.before.before.before.before.args in
-    let turn = c.before.before.before.loop in
+    let given = c.args in
+    let turn = c.loop-high in
     let apart = turn.invariant.0.apart in (
       turning_up given.version given.a given.o given.sheet.now turn.low turn.high (turn.low + (turn.high - turn.low) / 2) turn.invariant.0
-          (omega (arith, c.before.before.loop-test.true, apart)) c.before.sheet-sound.ensures c.if1.true,
+          (omega (arith, c.loop-high-test.true, apart)) c.sheet_sound.ensures c.if-sheet_sound.true,
       turn.invariant.1,
     )
 
-loop_again_2 : tie.Need-loop-preserved-2 invariant_loop decreases_loop
+loop_again_2 : tie.Need-loop-high-preserved invariant_loop decreases_loop
 loop_again_2 c =
-    let given = c.before.before.before.before.before.args in
-    let turn = c.before.before.before.loop in
+    let given = c.args in
+    let turn = c.loop-high in
     let apart = turn.invariant.0.apart in (
       turning_down given.version given.a given.o given.sheet.now turn.low turn.high (turn.low + (turn.high - turn.low) / 2) turn.invariant.0
-          (omega (arith, c.before.before.loop-test.true, apart)) c.before.sheet-sound.ensures c.if1.false,
-      omega (arith, turn.invariant.1, c.before.before.loop-test.true, apart),
+          (omega (arith, c.loop-high-test.true, apart)) c.sheet_sound.ensures c.if-sheet_sound.false,
+      omega (arith, turn.invariant.1, c.loop-high-test.true, apart),
     )
 
 returns : tie.Need-returns invariant_loop decreases_loop
 returns c =
-    let given = c.before.before.before.args in
-    let turn = c.before.loop in
+    let given = c.args in
+    let turn = c.loop-high in
     let apart = turn.invariant.0.apart in (
-      turning_done given.version given.a given.o given.sheet.now turn.low turn.high turn.invariant.0 (omega (arith, c.loop-test.false, apart)),
+      turning_done given.version given.a given.o given.sheet.now turn.low turn.high turn.invariant.0 (omega (arith, c.loop-high-test.false, apart)),
       omega (arith, apart, turn.invariant.1),
     )
 
@@ -53,12 +53,12 @@ sound_before_spec =
     invariant_loop
     decreases_loop
     loop_holds
-    (λ c. omega (arith, c.loop.invariant.0.apart))
-    (λ c. omega (arith, c.before.loop.invariant.0.apart))
+    (λ c. omega (arith, c.loop-high.invariant.0.apart))
+    (λ c. omega (arith, c.loop-high.invariant.0.apart))
     (λ c. search rules)
     (λ c κs. search rules)
-    (λ c. omega (arith, c.before.before.loop-test.true, c.before.before.before.loop.invariant.0.apart))
+    (λ c. omega (arith, c.loop-high-test.true, c.loop-high.invariant.0.apart))
     loop_again
-    (λ c. omega (arith, c.before.before.loop-test.true, c.before.before.before.loop.invariant.0.apart))
+    (λ c. omega (arith, c.loop-high-test.true, c.loop-high.invariant.0.apart))
     loop_again_2
     returns)

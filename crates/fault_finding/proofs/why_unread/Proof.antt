@@ -8,18 +8,18 @@ use Rattle.fault_finding.proofs.Parts.{unread_failed, unread_going}
 use Rattle.fault_finding.proofs.why_unread.Statement.{statement}
 use Rattle.fault_finding.proofs.why_unread.Tie as tie
 
-returns : tie.Need-returns
+returns : tie.Need-returns-then-not-goes_on
 returns c =
-    let text = c.before.before.before.before.before.before.before.args.text.now in
-    let form = c.before.before.before.before.before.read-form in
-    let halted = sym c.before.before.goes_on.ensures ∙ not-true _ c.before.if1.true in
+    let text = c.args.text.now in
+    let form = c.read_form-form in
+    let halted = sym c.goes_on.ensures ∙ c.if-not-goes_on.true in
     c.failed.ensures ∙ sym (unread_failed text (sym form.ensures.1 ∙ stands_failed text form.result.cursor halted))
 
-returns_2 : tie.Need-returns-2
+returns_2 : tie.Need-returns
 returns_2 c =
-    let text = c.before.before.before.before.before.before.before.args.text.now in
-    let form = c.before.before.before.before.before.read-form in
-    let goes_on = sym c.before.before.goes_on.ensures ∙ not-false _ c.before.if1.false in
+    let text = c.args.text.now in
+    let form = c.read_form-form in
+    let goes_on = sym c.goes_on.ensures ∙ c.if-not-goes_on.false in
     c.why_unsound.ensures
     ∙ sym (unread_going text form.ensures.0 (sym form.ensures.1 ∙ stands_going text form.result.cursor goes_on))
 

@@ -17,53 +17,51 @@ use Rattle.fault_finding.proofs.why_unsound.Tie as tie
 places : (e : tie.Start) → length e.args.r.claims.list ≡ claim_limit
 places e = search (rules, length_mapped)
 
-returns : tie.Need-returns
+returns : tie.Need-returns-then-found
 returns c =
-    let r = c.before.before.before.before.before.args.r in
-    c.no-fault.ensures ∙ sound_faultless r (sym (judged_sound r (examined r c.before.before.before.examine.ensures) (places c.before.before.before.before.before)) ∙ c.before.if1.true)
+    let r = c.args.r in
+    c.no_fault.ensures ∙ sound_faultless r (sym (judged_sound r (examined r c.examine-found.ensures) (places c.before.before.before.before.before.before.before.before)) ∙ c.if-found.true)
 
-returns_2 : tie.Need-returns-2
+returns_2 : tie.Need-returns-then-limits-eq0
 returns_2 c =
-    let r = c.before.before.before.before.before.before.before.args.r in
-    let limits = c.before.before.limits-fault.ensures in
-    limits ∙ limits_told r (sym (ap (λ f. f.sound) limits) ∙ c.if2.true)
+    let r = c.args.r in
+    let limits = c.limits_fault-limits.ensures in
+    limits ∙ limits_told r (sym (ap (λ f. f.sound) limits) ∙ c.if-limits-eq0.true)
 
-returns_3 : tie.Need-returns-3
+returns_3 : tie.Need-returns-then-actors-eq0
 returns_3 c =
-    let r = c.before.before.before.before.before.before.before.before.before.before.args.r in
-    let actors = c.before.before.actors-fault.ensures in
-    let passed = limits_passed r (λ e. c.before.before.before.if2.false (ap (λ f. f.sound) c.before.before.before.before.before.limits-fault.ensures ∙ e)) in
-    actors ∙ actors_told r passed (sym (ap (λ f. f.sound) actors) ∙ c.if3.true)
+    let r = c.args.r in
+    let actors = c.actors_fault-actors.ensures in
+    let passed = limits_passed r (λ e. c.if-limits-eq0.false (ap (λ f. f.sound) c.limits_fault-limits.ensures ∙ e)) in
+    actors ∙ actors_told r passed (sym (ap (λ f. f.sound) actors) ∙ c.if-actors-eq0.true)
 
-returns_4 : tie.Need-returns-4
+returns_4 : tie.Need-returns-then-resources-eq0
 returns_4 c =
-    let r = c.before.before.before.before.before.before.before.before.before.before.before.before.before.args.r in
-    let resources = c.before.before.resources-fault.ensures in
-    let passed = limits_passed r (λ e. c.before.before.before.before.before.before.if2.false (ap (λ f. f.sound) c.before.before.before.before.before.before.before.before.limits-fault.ensures ∙ e)) in
-    let whole = actors_none r passed (λ e. c.before.before.before.if3.false (ap (λ f. f.sound) c.before.before.before.before.before.actors-fault.ensures ∙ e)) in
-    resources ∙ resources_told r passed whole (sym (ap (λ f. f.sound) resources) ∙ c.if4.true)
+    let r = c.args.r in
+    let resources = c.resources_fault-resources.ensures in
+    let passed = limits_passed r (λ e. c.if-limits-eq0.false (ap (λ f. f.sound) c.limits_fault-limits.ensures ∙ e)) in
+    let whole = actors_none r passed (λ e. c.if-actors-eq0.false (ap (λ f. f.sound) c.actors_fault-actors.ensures ∙ e)) in
+    resources ∙ resources_told r passed whole (sym (ap (λ f. f.sound) resources) ∙ c.if-resources-eq0.true)
 
 -- where nothing was told before the claims, the halving may begin
-abbrev told_requires : tie.Need-claims-fault-requires
+abbrev told_requires : tie.Need-claims_fault-requires
 told_requires c κs =
-    let entry = c.before.before.before.before.before.before.before.before.before.before.before.before.before.before in
-    let r = entry.args.r in
-    let opened = examined r c.before.before.before.before.before.before.before.before.before.before.before.before.examine.ensures in
-    let passed = limits_passed r (λ e. c.before.before.before.before.before.before.before.if2.false (ap (λ f. f.sound) c.before.before.before.before.before.before.before.before.before.limits-fault.ensures ∙ e)) in
-    let actors = actors_none r passed (λ e. c.before.before.before.before.if3.false (ap (λ f. f.sound) c.before.before.before.before.before.before.actors-fault.ensures ∙ e)) in
-    let resources = resources_none r passed (λ e. c.before.if4.false (ap (λ f. f.sound) c.before.before.before.resources-fault.ensures ∙ e)) in
+    let r = c.args.r in
+    let opened = examined r c.examine-found.ensures in
+    let passed = limits_passed r (λ e. c.if-limits-eq0.false (ap (λ f. f.sound) c.limits_fault-limits.ensures ∙ e)) in
+    let actors = actors_none r passed (λ e. c.if-actors-eq0.false (ap (λ f. f.sound) c.actors_fault-actors.ensures ∙ e)) in
+    let resources = resources_none r passed (λ e. c.if-resources-eq0.false (ap (λ f. f.sound) c.resources_fault-resources.ensures ∙ e)) in
     let turning : Turning r.version r.actors r.resources (sheet_of r.claims) 0 r.claims.count =
-    claims_turning r passed (places entry) actors resources (sym (judged_sound r opened (places entry)) ∙ c.before.before.before.before.before.before.before.before.before.before.if1.false) in
+    claims_turning r passed (places c.before.before.before.before.before.before.before.before.before.before.before.before.before.before.before.before.before.before.before.before.before.before) actors resources (sym (judged_sound r opened (places c.before.before.before.before.before.before.before.before.before.before.before.before.before.before.before.before.before.before.before.before.before.before)) ∙ c.if-found.false) in
     (rw opened.put turning, passed.within.claim_count)
 
-returns_5 : tie.Need-returns-5
+returns_5 : tie.Need-returns
 returns_5 c =
-    let entry = c.before.before.before.before.before.before.before.before.before.before.before.before.before.before.before in
-    let r = entry.args.r in
-    let opened = examined r c.before.before.before.before.before.before.before.before.before.before.before.before.before.examine.ensures in
-    c.claims-fault.ensures
+    let r = c.args.r in
+    let opened = examined r c.examine-found.ensures in
+    c.claims_fault.ensures
     ∙ ap (λ s. fault_of (register_by r.version r.actors r.resources s r.claims.count)) opened.put
-    ∙ sheet_fault r (places entry)
+    ∙ sheet_fault r (places c.before.before.before.before.before.before.before.before.before.before.before.before.before.before.before.before.before.before.before.before.before.before.before)
 
 pub why_unsound_spec : {M : Type 1} → statement M
 why_unsound_spec =

@@ -5,7 +5,7 @@ use Rattle.gate.proofs.claim_ends.Statement.{statement}
 use Rattle.gate.proofs.claim_ends.Tie as tie
 
 returns : tie.Need-returns
-returns c = c.ends.ensures ∙ rw (c.before.before.column.ensures, c.before.column2.ensures)
+returns c = c.ends.ensures ∙ rw (c.column-weights.ensures, c.column-expiries.ensures)
 
 pub claim_ends_spec : {M : Type 1} → statement M
 claim_ends_spec = tie.close (tie.spec (λ c κs. search rules) (λ c κs. search rules) (λ c κs. search rules) returns)

@@ -5,8 +5,8 @@ use Rattle.gate.proofs.gate.Tie as tie
 
 returns : tie.Need-returns
 returns c =
-    let found = c.before.before.before.examine.ensures in
-    c.gate-by.ensures.1 found.0 found.1
+    let found = c.examine-found.ensures in
+    c.gate_by.ensures.1 found.0 found.1
 
 pub gate_spec : {M : Type 1} → statement M
 gate_spec =

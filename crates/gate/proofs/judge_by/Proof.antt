@@ -11,27 +11,15 @@ use borrow.Author.Rules.{rules}
 use Rattle.gate.proofs.judge_by.Statement.{statement}
 use Rattle.gate.proofs.judge_by.Tie as tie
 
--- the arrays have their lengths, by their types
-reports_few : (s : tie.Start) → length s.args.t2.resources.reports ≤ resource_limit
-reports_few s = let long : length s.args.t2.resources.reports ≡ resource_limit = search rules in omega (arith, long)
-
-uses_long : (s : tie.Start) → length s.args.a.uses ≡ use_limit
-uses_long s = search (rules, length_mapped)
-
 returns : tie.Need-returns
 returns c =
-    let counting = c.before.before.before.before.before.before in
-    let covering = counting.before.before.before.before.before in
-    let asking = covering.before.before.before.before in
-    let relying = asking.before in
-    let used = relying.before.before.before.before in
-    let listed = used.before.before.before.before in
-    let owning = listed.before in
-    let begun = owning.before.before.before.before.before.before in
-    let s = begun.before.before.before.before.before.before.before.before.before.before in
-    judged_lent s.args.counts s.args.t2 s.args.lens.now s.args.ends.now s.args.sheet.now s.args.bytes.now s.args.a (reports_few s) (uses_long s)
-    begun.is-beside.ensures owning.owner_of.ensures listed.first-violations.ensures used.uses-of.ensures relying.relied-by.ensures
-    asking.owner_asked_lem.ensures covering.relied-by2.ensures counting.hop-counts.ensures c.put-faults.ensures
+    let a = c.args in
+    -- the arrays have their lengths, by their types
+    let few : length a.found.resources.reports ≤ resource_limit = let long : length a.found.resources.reports ≡ resource_limit = search rules in omega (arith, long) in
+    let long : length a.a.uses ≡ use_limit = search (rules, length_mapped) in
+    judged_lent a.counts a.found a.lens.now a.ends.now a.sheet.now a.bytes.now a.a few long
+    c.is_beside-machine.ensures c.owner_of-owner.ensures c.first_violations-vs.ensures c.uses_of-uses.ensures c.relied_by-relied.ensures
+    c.owner_asked-asked.ensures c.relied_by-covered.ensures c.hop_counts-hops.ensures c.put_faults-violations.ensures
 
 pub judge_by_spec : {M : Type 1} → statement M
 judge_by_spec =

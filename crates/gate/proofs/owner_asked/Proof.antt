@@ -2,11 +2,11 @@
 use Rattle.gate.proofs.owner_asked.Statement.{statement}
 use Rattle.gate.proofs.owner_asked.Tie as tie
 
-returns : tie.Need-returns
-returns c = rw c.if1.true
+returns : tie.Need-returns-then-owned
+returns c = rw c.if-owned.true
 
-returns_2 : tie.Need-returns-2
-returns_2 c = rw c.if1.false
+returns_2 : tie.Need-returns-else-owned
+returns_2 c = rw c.if-owned.false
 
 pub owner_asked_spec : {M : Type 1} → statement M
 owner_asked_spec = tie.close (tie.spec returns returns_2)

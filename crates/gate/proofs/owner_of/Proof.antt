@@ -3,11 +3,11 @@ use borrow.Author.Rules.{rules}
 use Rattle.gate.proofs.owner_of.Statement.{statement}
 use Rattle.gate.proofs.owner_of.Tie as tie
 
-returns : tie.Need-returns
-returns c = rw (← c.before.before.before.before.latest-place.ensures, c.before.before.place.given.1) c.number_at.ensures
+returns : tie.Need-returns-in-At
+returns c = rw (← c.latest_place-place.ensures, c.in-At.is) c.number_at.ensures
 
-returns_2 : tie.Need-returns-2
-returns_2 c = rw (← c.before.before.latest-place.ensures, c.enum_told.given.1)
+returns_2 : tie.Need-returns-in-Nowhere
+returns_2 c = rw (← c.latest_place-place.ensures, c.in-Nowhere.is)
 
 pub owner_of_spec : {M : Type 1} → statement M
 owner_of_spec =

@@ -6,10 +6,9 @@ use Rattle.gate.proofs.relied_by.Tie as tie
 
 returns : tie.Need-returns
 returns c =
-    let s = c.before.before.before.before.before.before.before.before.before.before.before.before in
-    relied_held s.args.who s.args.sheet.now s.args.ends.now s.args.spots.now s.args.bytes.now s.args.lens.now s.args.uses
-    c.before.before.before.before.before.before.column.ensures c.before.before.before.before.before.column2.ensures
-    c.before.before.before.before.gather.ensures c.relied-on.ensures
+    relied_held c.args.who c.args.sheet.now c.args.ends.now c.args.spots.now c.args.bytes.now c.args.lens.now c.args.uses
+    c.column-holders.ensures c.column-rights.ensures
+    c.gather-held.ensures c.relied_on.ensures
 
 pub relied_by_spec : {M : Type 1} → statement M
 relied_by_spec =

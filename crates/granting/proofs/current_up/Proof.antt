@@ -12,37 +12,34 @@ use Rattle.granting.proofs.Columns.{Walk, walk_fails, walk_root, walk_above}
 use Rattle.granting.proofs.current_up.Statement.{statement}
 use Rattle.granting.proofs.current_up.Tie as tie
 
-abbrev invariant_loop : tie.invariant-loop
+abbrev invariant_loop : tie.invariant-loop-up
 invariant_loop sheet ups from moment member₀ up₀ member up =
     Walk (λ j. current moment (claim_at sheet j)) ups member up (every (λ j. current moment (claim_at sheet j)) (from ∷ places_up ups from))
 
-abbrev decreases_loop : tie.decreases-loop
+abbrev decreases_loop : tie.decreases-loop-up
 decreases_loop sheet ups from moment member₀ up₀ member up = member
 
-loop_holds : tie.Need-loop-init invariant_loop decreases_loop
-loop_holds c = record { next = c.place_above.ensures; ahead = refl }
+loop_holds : tie.Need-loop-up-init invariant_loop decreases_loop
+loop_holds c = record { next = c.place_above-up.ensures; ahead = refl }
 
-returns : tie.Need-returns invariant_loop decreases_loop
+returns : tie.Need-returns-then-not-is_current invariant_loop decreases_loop
 returns c =
-    let turn = c.before.before.before.before in
-    let moment = turn.before.before.before.before.args.moment in
+    let moment = c.args.moment in
     sym
-    (walk_fails turn.loop.invariant
-    (ap (current moment) (sym c.before.before.claim-at.ensures) ∙ sym c.before.is-current.ensures ∙ not-true _ c.if1.true))
+    (walk_fails c.loop-up.invariant
+    (ap (current moment) (sym c.claim_at-c.ensures) ∙ sym c.is_current.ensures ∙ c.if-not-is_current.true))
 
-loop_again : tie.Need-loop-preserved invariant_loop decreases_loop
+loop_again : tie.Need-loop-up-preserved invariant_loop decreases_loop
 loop_again c =
-    let turn = c.before.before.before.before.before in
-    let moment = turn.before.before.before.before.args.moment in
-    walk_above turn.loop.invariant c.before.before.before.before.loop-test.true
-    (ap (current moment) (sym c.before.before.before.claim-at.ensures) ∙ sym c.before.before.is-current.ensures ∙ not-false _ c.before.if1.false)
-    c.place-above2.ensures
+    let moment = c.args.moment in
+    walk_above c.loop-up.invariant c.loop-up-test.true
+    (ap (current moment) (sym c.claim_at-c.ensures) ∙ sym c.is_current.ensures ∙ c.if-not-is_current.false)
+    c.place_above-up-in-loop-up.ensures
 
-returns_2 : tie.Need-returns-2 invariant_loop decreases_loop
+returns_2 : tie.Need-returns invariant_loop decreases_loop
 returns_2 c =
-    let turn = c.before.before.before in
-    let moment = turn.before.before.before.before.args.moment in
-    c.is-current2.ensures ∙ ap (current moment) c.before.claim-at2.ensures ∙ sym (walk_root turn.loop.invariant c.before.before.loop-test.false)
+    let moment = c.args.moment in
+    c.is_current-2.ensures ∙ ap (current moment) c.claim_at-root.ensures ∙ sym (walk_root c.loop-up.invariant c.loop-up-test.false)
 
 pub current_up_spec : {M : Type 1} → statement M
 current_up_spec =

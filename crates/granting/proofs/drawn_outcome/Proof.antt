@@ -6,74 +6,74 @@ use borrow.Author.Rules.{rules}
 use Rattle.granting.proofs.drawn_outcome.Statement.{statement}
 use Rattle.granting.proofs.drawn_outcome.Tie as tie
 
-returns : tie.Need-returns
+returns : tie.Need-returns-then-p-c
 returns c =
-    let given = c.before.before.before.args in
+    let given = c.args in
     sym
     (not_held given.lives given.p given.c
-    (ne_eqb _ _ c.if1.true))
+    (ne_eqb _ _ c.if-p-c.true))
 
-returns_2 : tie.Need-returns-2
+returns_2 : tie.Need-returns-then-p-c-2
 returns_2 c =
-    let given = c.before.before.before.before.before.before.args in
+    let given = c.args in
     sym
     (elsewhere given.lives given.p given.c
-    (eq-eqb _ _ c.before.before.before.if1.false)
-    (ne_eqb _ _ c.if2.true))
+    (eq-eqb _ _ c.if-p-c.false)
+    (ne_eqb _ _ c.if-p-c-2.true))
 
-returns_3 : tie.Need-returns-3
+returns_3 : tie.Need-returns-then-not-lives
 returns_3 c =
-    let given = c.before.before.before.before.before.before.before.args in
+    let given = c.args in
     sym
     (dead given.lives given.p given.c
-    (eq-eqb _ _ c.before.before.before.before.if1.false)
-    (eq-eqb _ _ c.before.if2.false)
-    (not-true _ c.if3.true))
+    (eq-eqb _ _ c.if-p-c.false)
+    (eq-eqb _ _ c.if-p-c-2.false)
+    (c.if-not-lives.true))
 
-returns_4 : tie.Need-returns-4
+returns_4 : tie.Need-returns-then-not-has
 returns_4 c =
-    let given = c.before.before.before.before.before.before.before.before.before.args in
+    let given = c.args in
     sym
     (no_delegate given.lives given.p given.c
-    (eq-eqb _ _ c.before.before.before.before.before.before.if1.false)
-    (eq-eqb _ _ c.before.before.before.if2.false)
-    (not-false _ c.before.before.if3.false)
-    (sym c.before.has.ensures ∙ not-true _ c.if4.true))
+    (eq-eqb _ _ c.if-p-c.false)
+    (eq-eqb _ _ c.if-p-c-2.false)
+    (c.if-not-lives.false)
+    (sym c.has.ensures ∙ c.if-not-has.true))
 
-returns_5 : tie.Need-returns-5
+returns_5 : tie.Need-returns-then-not-has_all
 returns_5 c =
-    let given = c.before.before.before.before.before.before.before.before.before.before.before.args in
+    let given = c.args in
     sym
     (right_lacking given.lives given.p given.c
-    (eq-eqb _ _ c.before.before.before.before.before.before.before.before.if1.false)
-    (eq-eqb _ _ c.before.before.before.before.before.if2.false)
-    (not-false _ c.before.before.before.before.if3.false)
-    (sym c.before.before.before.has.ensures ∙ not-false _ c.before.before.if4.false)
-    (sym c.before.Has-All.ensures ∙ not-true _ c.if5.true))
+    (eq-eqb _ _ c.if-p-c.false)
+    (eq-eqb _ _ c.if-p-c-2.false)
+    (c.if-not-lives.false)
+    (sym c.has.ensures ∙ c.if-not-has.false)
+    (sym c.has_all.ensures ∙ c.if-not-has_all.true))
 
-returns_6 : tie.Need-returns-6
+returns_6 : tie.Need-returns-then-p-c-3
 returns_6 c =
-    let given = c.before.before.before.before.before.before.before.before.before.before.before.before.before.before.args in
+    let given = c.args in
     sym
     (weight_above given.lives given.p given.c
-    (eq-eqb _ _ c.before.before.before.before.before.before.before.before.before.before.before.if1.false)
-    (eq-eqb _ _ c.before.before.before.before.before.before.before.before.if2.false)
-    (not-false _ c.before.before.before.before.before.before.before.if3.false)
-    (sym c.before.before.before.before.before.before.has.ensures ∙ not-false _ c.before.before.before.before.before.if4.false)
-    (sym c.before.before.before.before.Has-All.ensures ∙ not-false _ c.before.before.before.if5.false)
-    (lt-leb _ _ c.if6.true))
+    (eq-eqb _ _ c.if-p-c.false)
+    (eq-eqb _ _ c.if-p-c-2.false)
+    (c.if-not-lives.false)
+    (sym c.has.ensures ∙ c.if-not-has.false)
+    (sym c.has_all.ensures ∙ c.if-not-has_all.false)
+    (lt-leb _ _ c.if-p-c-3.true))
 
-returns_7 : tie.Need-returns-7
+returns_7 : tie.Need-returns
 returns_7 c =
-    let given = c.before.before.before.before.before.before.before.before.before.before.before.before.before.before.args in
+    let given = c.args in
     sym
     (drawn_well given.lives given.p given.c
-    (eq-eqb _ _ c.before.before.before.before.before.before.before.before.before.before.before.if1.false)
-    (eq-eqb _ _ c.before.before.before.before.before.before.before.before.if2.false)
-    (not-false _ c.before.before.before.before.before.before.before.if3.false)
-    (sym c.before.before.before.before.before.before.has.ensures ∙ not-false _ c.before.before.before.before.before.if4.false)
-    (sym c.before.before.before.before.Has-All.ensures ∙ not-false _ c.before.before.before.if5.false)
-    (le-leb _ _ c.if6.false))
+    (eq-eqb _ _ c.if-p-c.false)
+    (eq-eqb _ _ c.if-p-c-2.false)
+    (c.if-not-lives.false)
+    (sym c.has.ensures ∙ c.if-not-has.false)
+    (sym c.has_all.ensures ∙ c.if-not-has_all.false)
+    (le-leb _ _ c.if-p-c-3.false))
 
 pub drawn_outcome_spec : {M : Type 1} → statement M
 drawn_outcome_spec =

@@ -29,38 +29,31 @@ places e = search (rules, length_mapped)
 
 returns : tie.Need-returns
 returns c =
-    let hops = c.before.before.before in
-    let drawn = hops.before.before.before.before in
-    let world = drawn.before.before.before.before.before in
-    let first = world.before.before.before in
-    let placed = first.before in
-    let among = placed.before in
-    let asked = among.before.before.before.before in
-    let entry = asked.before.before.before.before.before in
+    let entry = c.before.before.before.before.before.before.before.before.before.before.before.before.before.before.before.before.before.before.before.before.before.before.before.before in
     let r = entry.args.r in
     let x = entry.args.c in
     let moment = entry.args.moment in
     let long = places entry in
-    let opened = examined r asked.examine.ensures in
-    let ids = among.before.column.ensures ∙ ap (column_of id_column) opened.put in
-    let place = placed.latest-place.result in
-    let place_of = placed.latest-place.ensures ∙ ap (λ l. latest_place l r.claims.count x.parent) ids in
+    let opened = examined r c.examine-found.ensures in
+    let ids = c.column-ids.ensures ∙ ap (column_of id_column) opened.put in
+    let place = c.latest_place-place.result in
+    let place_of = c.latest_place-place.ensures ∙ ap (λ l. latest_place l r.claims.count x.parent) ids in
     let ups = earlier_places (column_of id_column (sheet_of r.claims)) (column_of parent_column (sheet_of r.claims)) r.claims.count in
     settled_told r long x moment
-    (c.before.then2.ensures
-    ∙ decided_then _ _ first.first-outcome.ensures
-    (c.before.before.then.ensures
-    ∙ decided_then _ _ (world.world-outcome.ensures
-    ∙ ap (λ w. outcome_of (told_tests w among.is_among.result r.claims.count x)) (world_natural 0 r.actors r.resources (judged_actors r opened) (judged_resources r opened))
-    ∙ ap outcome_of (told_version 0 r.version (actors_of r.actors) (resources_of r.resources) among.is_among.result r.claims.count x))
-    drawn.parent-outcome.ensures)
+    (c.then-2.ensures
+    ∙ decided_then _ _ c.first_outcome-first.ensures
+    (c.then.ensures
+    ∙ decided_then _ _ (c.world_outcome-world.ensures
+    ∙ ap (λ w. outcome_of (told_tests w c.is_among-stands.result r.claims.count x)) (world_natural 0 r.actors r.resources (judged_actors r opened) (judged_resources r opened))
+    ∙ ap outcome_of (told_version 0 r.version (actors_of r.actors) (resources_of r.resources) c.is_among-stands.result r.claims.count x))
+    c.parent_outcome-parent.ensures)
     ∙ grant_asked r x moment (judged_sound r opened long)
-    (among.is_among.ensures ∙ ap (λ l. any (eqb x.id) (take r.claims.count l)) ids ∙ stands_asked r long x)
-    (λ whole. ap (λ l. parent_asked r.version l asked.examine.result.ups place x moment) opened.put
+    (c.is_among-stands.ensures ∙ ap (λ l. any (eqb x.id) (take r.claims.count l)) ids ∙ stands_asked r long x)
+    (λ whole. ap (λ l. parent_asked r.version l c.examine-found.result.ups place x moment) opened.put
     ∙ ap (λ l. parent_asked r.version (sheet_of r.claims) l place x moment) (judged_ups r opened)
     ∙ ap (λ q. parent_asked r.version (sheet_of r.claims) ups q x moment) place_of
     ∙ parent_asked_lem r long x moment whole))
-    (hops.hops-under.ensures
+    (c.hops_under-hops.ensures
     ∙ ap (λ l. min (length (up_from l place)) (suc hop_limit)) (judged_ups r opened)
     ∙ ap (λ q. min (length (up_from ups q)) (suc hop_limit)) place_of)
     c.settled.ensures

@@ -9,16 +9,14 @@ use Rattle.columns.specs.Columns.{places_up}
 use Rattle.granting.proofs.hops_under.Statement.{statement}
 use Rattle.granting.proofs.hops_under.Tie as tie
 
-returns : tie.Need-returns
-returns c = rw c.enum_told.given.1
+returns : tie.Need-returns-in-Nowhere
+returns c = rw c.in-Nowhere.is
 
-returns_2 : tie.Need-returns-2
+returns_2 : tie.Need-returns-in-At
 returns_2 c =
-    let walked = c.before in
-    let placed = walked.before.before in
-    let more : c.least.result + 1 ≡ min (suc (length (places_up placed.before.before.before.args.ups.now placed.place.given.0.0))) (suc hop_limit) =
-    omega (arith, c.least.ensures, walked.steps_up.ensures) in
-    rw placed.place.given.1 more
+    let more : c.least.result + 1 ≡ min (suc (length (places_up c.args.ups.now c.in-At.at))) (suc hop_limit) =
+    omega (arith, c.least.ensures, c.steps_up.ensures) in
+    rw c.in-At.is more
 
 pub hops_under_spec : {M : Type 1} → statement M
 hops_under_spec =

@@ -13,35 +13,31 @@ use Rattle.granting.specs.Drawn.{decided_then}
 use Rattle.granting.proofs.parent_outcome.Statement.{statement}
 use Rattle.granting.proofs.parent_outcome.Tie as tie
 
-returns : tie.Need-returns
+returns : tie.Need-returns-then-c-eq0
 returns c =
-    let given = c.before.before.before.before.args in
-    sym (root_passes given.version given.sheet.now given.ups.now given.place given.c given.moment c.if1.true)
+    let given = c.args in
+    sym (root_passes given.version given.sheet.now given.ups.now given.place given.c given.moment c.if-c-eq0.true)
 
-returns_2 : tie.Need-returns-2
+returns_2 : tie.Need-returns-in-Nowhere
 returns_2 c =
-    let asked = c.before.before in
-    let given = asked.before.before.before.before.args in
+    let given = c.args in
     sym
-    (parent_nowhere given.version given.sheet.now given.ups.now given.place given.c given.moment asked.if1.false c.enum_told.given.1)
+    (parent_nowhere given.version given.sheet.now given.ups.now given.place given.c given.moment c.if-c-eq0.false c.in-Nowhere.is)
 
-returns_3 : tie.Need-returns-3
+returns_3 : tie.Need-returns-in-At
 returns_3 c =
-    let lived = c.before.before.before.before.before in
-    let placed = lived.before.before.before in
-    let asked = placed.before.before in
-    let given = asked.before.before.before.before.args in
-    let l = places_up given.ups.now placed.place.given.0.0 in
+    let given = c.args in
+    let l = places_up given.ups.now c.in-At.at in
     c.then.ensures
-    ∙ decided_then _ _ c.before.before.before.before.drawn-outcome.ensures
+    ∙ decided_then _ _ c.drawn_outcome-drawn.ensures
     (chain_columns
-    (ltb (hands_at given.version (suc (length l)) given.c) (hands_at given.version (length l) lived.before.claim-at.result))
-    (placed.place.given.0.0 ∷ l) given.c.holder c.before.before.before.column.ensures
-    c.before.before.column2.ensures c.before.chain_outcome.ensures)
+    (ltb (hands_at given.version (suc (length l)) given.c) (hands_at given.version (length l) c.claim_at-p.result))
+    (c.in-At.at ∷ l) given.c.holder c.column-grantors.ensures
+    c.column-holders.ensures c.chain_outcome-chained.ensures)
     ∙ sym
-    (parent_at given.version given.sheet.now given.ups.now given.place given.c given.moment asked.if1.false
-    placed.place.given.1
-    lived.before.claim-at.ensures lived.current-up.ensures)
+    (parent_at given.version given.sheet.now given.ups.now given.place given.c given.moment c.if-c-eq0.false
+    c.in-At.is
+    c.claim_at-p.ensures c.current_up-lives.ensures)
 
 pub parent_outcome_spec : {M : Type 1} → statement M
 parent_outcome_spec =

@@ -3,11 +3,11 @@ use borrow.Author.Rules.{rules}
 use Rattle.granting.proofs.settled.Statement.{statement}
 use Rattle.granting.proofs.settled.Tie as tie
 
-returns : tie.Need-returns
-returns c = rw (c.before.enum_told.given.1, c.stored.ensures)
+returns : tie.Need-returns-in-Accepted
+returns c = rw (c.in-Accepted.is, c.stored.ensures)
 
-returns_2 : tie.Need-returns-2
-returns_2 c = rw c.before.outcome.given.1
+returns_2 : tie.Need-returns-in-Refused
+returns_2 c = rw c.in-Refused.is
 
 pub settled_spec : {M : Type 1} → statement M
 settled_spec = tie.close (tie.spec (λ c. search rules) (λ c κs. search rules) (λ c. search rules) returns returns_2)

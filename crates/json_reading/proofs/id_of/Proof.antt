@@ -11,32 +11,30 @@ use Rattle.json_reading.proofs.Fillings.{filled_next}
 use Rattle.json_reading.proofs.id_of.Statement.{statement}
 use Rattle.json_reading.proofs.id_of.Tie as tie
 
-abbrev invariant_loop : tie.invariant-loop
+abbrev invariant_loop : tie.invariant-loop-i
 invariant_loop s from len id₀ i₀ id i = (i ≤ len) × (id ≡ take i (drop from s) ++ replicate (id_length - i) 0)
 
-abbrev decreases_loop : tie.decreases-loop
+abbrev decreases_loop : tie.decreases-loop-i
 decreases_loop s from len id₀ i₀ id i = len - i
 
-loop_holds : tie.Need-loop-init invariant_loop decreases_loop
+loop_holds : tie.Need-loop-i-init invariant_loop decreases_loop
 loop_holds c = (omega arith, refl)
 
-loop_again : tie.Need-loop-preserved invariant_loop decreases_loop
+loop_again : tie.Need-loop-i-preserved invariant_loop decreases_loop
 loop_again c =
-    let l = c.before.before in
-    let a = l.before.args in
+    let a = c.args in
     let long : length (drop a.from a.s.now) ≡ length a.s.now - a.from = length-drop a.from a.s.now in (
       omega arith,
-      filled_next (drop a.from a.s.now) id_length l.loop.i 0 _ l.loop.id (omega arith) (omega arith) l.loop.invariant.1
-          (sym (get_or-drop a.from a.s.now l.loop.i 0)),
+      filled_next (drop a.from a.s.now) id_length c.loop-i.i 0 _ c.loop-i.id (omega arith) (omega arith) c.loop-i.invariant.1
+          (sym (get_or-drop a.from a.s.now c.loop-i.i 0)),
     )
 
 returns : tie.Need-returns invariant_loop decreases_loop
 returns c =
-    let l = c.before in
-    let a = l.before.args in
-    let whole : l.loop.i ≡ a.len = omega arith in
+    let a = c.args in
+    let whole : c.loop-i.i ≡ a.len = omega arith in
     let long : length (take a.len (drop a.from a.s.now)) ≡ a.len = simp (length-take, length-drop) (omega arith) in
-    l.loop.invariant.1 ∙ rw (whole, long)
+    c.loop-i.invariant.1 ∙ rw (whole, long)
 
 pub id_of_spec : {M : Type 1} → statement M
 id_of_spec =

@@ -5,7 +5,6 @@ use mathlib.Core.Bool.{true, false, ◌&&◌}
 use native.Mathlib.Omega.{arith}
 use borrow.Author.Count.{below_none, below_more}
 use borrow.Author.Rules.{rules}
-use borrow.Author.Tests.{not-true, not-false}
 use lib.Dec.{leb}
 use lib.ListN.{get_or}
 use Rattle.actions.specs.Actions.{use_limit}
@@ -14,30 +13,28 @@ use Rattle.json_reading.proofs.Fillings.{draft_full_lem, draft_short}
 use Rattle.json_reading.proofs.is_full.Statement.{statement}
 use Rattle.json_reading.proofs.is_full.Tie as tie
 
-abbrev invariant_loop : tie.invariant-loop
+abbrev invariant_loop : tie.invariant-loop-i
 invariant_loop reads writes executes seen i₀ i = (i ≤ domain_place) × ((k : ℕ) → k < i → get_or seen k false ≡ true)
 
-abbrev decreases_loop : tie.decreases-loop
+abbrev decreases_loop : tie.decreases-loop-i
 decreases_loop reads writes executes seen i₀ i = domain_place - i
 
-loop_holds : tie.Need-loop-init invariant_loop decreases_loop
+loop_holds : tie.Need-loop-i-init invariant_loop decreases_loop
 loop_holds c = (omega arith, below_none _)
 
-returns : tie.Need-returns invariant_loop decreases_loop
+returns : tie.Need-returns-then-not-seen-i invariant_loop decreases_loop
 returns c =
-    let l = c.before.before in
-    let a = l.before.args in
-    let short = draft_short a.t1 l.loop.i c.before.loop-test.true (not-true _ c.if1.true) in
+    let a = c.args in
+    let short = draft_short a.seen c.loop-i.i c.loop-i-test.true (c.if-not-seen-i.true) in
     sym (ap (λ b. b && leb (a.reads + a.writes + a.executes) use_limit) short)
 
-loop_again : tie.Need-loop-preserved invariant_loop decreases_loop
-loop_again c = (omega arith, below_more _ _ c.before.before.loop.invariant.1 (not-false _ c.if1.false))
+loop_again : tie.Need-loop-i-preserved invariant_loop decreases_loop
+loop_again c = (omega arith, below_more _ _ c.loop-i.invariant.1 (c.if-not-seen-i.false))
 
-returns_2 : tie.Need-returns-2 invariant_loop decreases_loop
+returns_2 : tie.Need-returns invariant_loop decreases_loop
 returns_2 c =
-    let l = c.before in
-    let a = l.before.args in
-    let full = draft_full_lem a.t1 (λ k inside. l.loop.invariant.1 k (omega arith)) in
+    let a = c.args in
+    let full = draft_full_lem a.seen (λ k inside. c.loop-i.invariant.1 k (omega arith)) in
     sym (ap (λ b. b && leb (a.reads + a.writes + a.executes) use_limit) full)
 
 pub is_full_spec : {M : Type 1} → statement M

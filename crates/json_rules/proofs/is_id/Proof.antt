@@ -42,36 +42,34 @@ module _ (id : List ℕ) (i : ℕ) (inside : i < length id) (known : is_id_text 
   byte_passed : is_barred (get_or id i 0) ≡ false → is_id_text id ≡ every is_id_byte (drop (i + 1) id)
   byte_passed e = known ∙ rw (drop_next id i 0 inside, id_byte (get_or id i 0), e)
 
-abbrev invariant_loop : tie.invariant-loop
+abbrev invariant_loop : tie.invariant-loop-i
 invariant_loop id i₀ i = (i ≤ length id) × (is_id_text id ≡ every is_id_byte (drop i id))
 
-abbrev decreases_loop : tie.decreases-loop
+abbrev decreases_loop : tie.decreases-loop-i
 decreases_loop id i₀ i = length id - i
 
-returns : tie.Need-returns invariant_loop decreases_loop
+returns : tie.Need-returns-then-id-gt-ID_BYTES invariant_loop decreases_loop
 unfolding is_id_text
-returns c = rw (lt-leb (length c.before.args.id.now) id_length c.if1.true)
+returns c = rw (lt-leb (length c.args.id.now) id_length c.if-id-gt-ID_BYTES.true)
 
-loop_holds : tie.Need-loop-init invariant_loop decreases_loop
+loop_holds : tie.Need-loop-i-init invariant_loop decreases_loop
 unfolding is_id_text
-loop_holds c = (omega arith, rw (le-leb (length c.before.args.id.now) id_length c.if1.false))
+loop_holds c = (omega arith, rw (le-leb (length c.args.id.now) id_length c.if-id-gt-ID_BYTES.false))
 
-returns_2 : tie.Need-returns-2 invariant_loop decreases_loop
+returns_2 : tie.Need-returns-then-b invariant_loop decreases_loop
 returns_2 c =
-    let at = c.before.before in
-    let id = at.before.before.before.args.id.now in
-    sym (byte_barred id at.before.loop.i at.loop-test.true at.before.loop.invariant.1 c.if2.true)
+    let id = c.args.id.now in
+    sym (byte_barred id c.loop-i.i c.loop-i-test.true c.loop-i.invariant.1 c.if-b.true)
 
-loop_again : tie.Need-loop-preserved invariant_loop decreases_loop
+loop_again : tie.Need-loop-i-preserved invariant_loop decreases_loop
 loop_again c =
-    let at = c.before.before in
-    let id = at.before.before.before.args.id.now in
-    (omega arith, byte_passed id at.before.loop.i at.loop-test.true at.before.loop.invariant.1 c.if2.false)
+    let id = c.args.id.now in
+    (omega arith, byte_passed id c.loop-i.i c.loop-i-test.true c.loop-i.invariant.1 c.if-b.false)
 
-returns_3 : tie.Need-returns-3 invariant_loop decreases_loop
+returns_3 : tie.Need-returns invariant_loop decreases_loop
 returns_3 c =
-    let id = c.before.before.before.args.id.now in
-    sym (c.before.loop.invariant.1 ∙ rw (drop_of_length-le id c.loop-test.false))
+    let id = c.args.id.now in
+    sym (c.loop-i.invariant.1 ∙ rw (drop_of_length-le id c.loop-i-test.false))
 
 pub is_id_spec : {M : Type 1} → statement M
 is_id_spec =

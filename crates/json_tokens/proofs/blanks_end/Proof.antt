@@ -11,40 +11,37 @@ use Rattle.json_tokens.proofs.Walks.{unblanked_blank, unblanked_stop, unblanked_
 use Rattle.json_tokens.proofs.blanks_end.Statement.{statement}
 use Rattle.json_tokens.proofs.blanks_end.Tie as tie
 
-abbrev invariant_loop : tie.invariant-loop
+abbrev invariant_loop : tie.invariant-loop-i
 invariant_loop s at i₀ i = (unblanked (drop at s) ≡ unblanked (drop i s)) × (at ≤ i) × (i ≤ length s)
 
-abbrev decreases_loop : tie.decreases-loop
+abbrev decreases_loop : tie.decreases-loop-i
 decreases_loop s at i₀ i = length s - i
 
-loop_holds : tie.Need-loop-init invariant_loop decreases_loop
+loop_holds : tie.Need-loop-i-init invariant_loop decreases_loop
 loop_holds c = (refl, omega arith, omega arith)
 
-returns : tie.Need-returns invariant_loop decreases_loop
+returns : tie.Need-returns-then-not-is_blank invariant_loop decreases_loop
 returns c =
-    let l = c.before.before.before.before in
-    let s = l.before.before.args.s.now in (
-      l.loop.invariant.0
-          ∙ unblanked_stop s l.loop.i c.before.before.before.loop-test.true (sym c.before.is-blank.ensures ∙ not-true _ c.if1.true),
+    let s = c.args.s.now in (
+      c.loop-i.invariant.0
+          ∙ unblanked_stop s c.loop-i.i c.loop-i-test.true (sym c.is_blank.ensures ∙ c.if-not-is_blank.true),
       omega arith,
       omega arith,
     )
 
-loop_again : tie.Need-loop-preserved invariant_loop decreases_loop
+loop_again : tie.Need-loop-i-preserved invariant_loop decreases_loop
 loop_again c =
-    let l = c.before.before.before.before in
-    let s = l.before.before.args.s.now in (
-      l.loop.invariant.0
-          ∙ unblanked_blank s l.loop.i c.before.before.before.loop-test.true (sym c.before.is-blank.ensures ∙ not-false _ c.if1.false),
+    let s = c.args.s.now in (
+      c.loop-i.invariant.0
+          ∙ unblanked_blank s c.loop-i.i c.loop-i-test.true (sym c.is_blank.ensures ∙ c.if-not-is_blank.false),
       omega arith,
       omega arith,
     )
 
-returns_2 : tie.Need-returns-2 invariant_loop decreases_loop
+returns_2 : tie.Need-returns invariant_loop decreases_loop
 returns_2 c =
-    let l = c.before in
-    let s = l.before.before.args.s.now in
-    (l.loop.invariant.0 ∙ unblanked_end s l.loop.i c.loop-test.false, omega arith, omega arith)
+    let s = c.args.s.now in
+    (c.loop-i.invariant.0 ∙ unblanked_end s c.loop-i.i c.loop-i-test.false, omega arith, omega arith)
 
 pub blanks_end_spec : {M : Type 1} → statement M
 blanks_end_spec =

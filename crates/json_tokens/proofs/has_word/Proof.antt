@@ -9,15 +9,15 @@ use Rattle.lists.specs.Same.{same_lengths}
 use Rattle.json_tokens.proofs.has_word.Statement.{statement}
 use Rattle.json_tokens.proofs.has_word.Tie as tie
 
-returns : tie.Need-returns
+returns : tie.Need-returns-then-s-at
 returns c =
-    let a = c.before.before.before.args in
+    let a = c.args in
     sym (same_lengths a.word.now (take (length a.word.now) (drop a.at a.s.now))
-    (λ e. let short = c.if1.true in omega (arith, simp (length-take, length-drop) at e)))
+    (λ e. let short = c.if-s-at.true in omega (arith, simp (length-take, length-drop) at e)))
 
-returns_2 : tie.Need-returns-2
+returns_2 : tie.Need-returns
 returns_2 c =
-    let a = c.before.before.before.before.before.args in
+    let a = c.args in
     let many : a.at + length a.word.now - a.at ≡ length a.word.now = omega arith in
     rw many at c.is_same.ensures
 

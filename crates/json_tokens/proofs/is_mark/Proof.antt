@@ -35,11 +35,11 @@ unmarked b n =
       ne_eqb b zero_mark (λ e. n (inr (inl e))),
     )
 
-returns : tie.Need-returns
-returns c = sym (marked c.before.args.b c.match.keys1)
+returns : tie.Need-returns-in-123
+returns c = sym (marked c.args.b c.in-123.is)
 
-returns_2 : tie.Need-returns-2
-returns_2 c = sym (unmarked c.before.args.b c.match.rest.1)
+returns_2 : tie.Need-returns-in_default
+returns_2 c = sym (unmarked c.args.b c.in_default.in_default-own.rest.1)
 
 pub is_mark_spec : {M : Type 1} → statement M
 is_mark_spec = tie.close (tie.spec returns returns_2)

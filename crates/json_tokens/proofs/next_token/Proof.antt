@@ -10,89 +10,67 @@ use Rattle.json_tokens.proofs.Firsts.{word_within, tokens_none, tokens_mark, tok
 use Rattle.json_tokens.proofs.next_token.Statement.{statement}
 use Rattle.json_tokens.proofs.next_token.Tie as tie
 
-returns : tie.Need-returns
-returns c = ap tokens (drop_of_length-le c.before.before.args.s.now c.if1.true) ∙ tokens_nil
+returns : tie.Need-returns-then-s-at
+returns c = ap tokens (drop_of_length-le c.args.s.now c.if-s-at.true) ∙ tokens_nil
 
-returns_2 : tie.Need-returns-2
+returns_2 : tie.Need-returns-then-s-i
 returns_2 c =
-    let n = c.before in
-    let a = n.before.before.before.args in
-    tokens_none a.s.now a.at n.blanks-end.result n.blanks-end.ensures.0 c.if2.true
+    let a = c.args in
+    tokens_none a.s.now a.at c.blanks_end-i.result c.blanks_end-i.ensures.0 c.if-s-i.true
 
-returns_3 : tie.Need-returns-3
+returns_3 : tie.Need-returns-then-is_mark
 returns_3 c =
-    let n = c.before.before.before.before in
-    let a = n.before.before.before.args in (
-      tokens_mark a.s.now a.at n.blanks-end.result n.blanks-end.ensures.0 (omega arith) (sym c.before.is-mark.ensures ∙ c.if3.true),
+    let a = c.args in (
+      tokens_mark a.s.now a.at c.blanks_end-i.result c.blanks_end-i.ensures.0 (omega arith) (sym c.is_mark.ensures ∙ c.if-is_mark.true),
       omega arith,
       omega arith,
     )
 
-returns_4 : tie.Need-returns-4
+returns_4 : tie.Need-returns-then-end-s
 returns_4 c =
-    let q = c.before in
-    let m = q.before.before.before in
-    let n = m.before.before.before in
-    let a = n.before.before.before.args in (
-      tokens_text a.s.now a.at n.blanks-end.result n.blanks-end.ensures.0 (omega arith)
-          (sym m.is-mark.ensures ∙ q.before.before.if3.false) q.before.if4.true
-          q.quote-at.result q.quote-at.ensures.1 q.quote-at.ensures.0 (omega arith),
+    let a = c.args in (
+      tokens_text a.s.now a.at c.blanks_end-i.result c.blanks_end-i.ensures.0 (omega arith)
+          (sym c.is_mark.ensures ∙ c.if-is_mark.false) c.if-b-eq-QUOTE.true
+          c.quote_at-end.result c.quote_at-end.ensures.1 c.quote_at-end.ensures.0 (omega arith),
       omega arith,
       omega arith,
       omega arith,
     )
 
-returns_5 : tie.Need-returns-5
+returns_5 : tie.Need-returns-then-b-eq-QUOTE
 returns_5 c =
-    let q = c.before in
-    let m = q.before.before.before in
-    let n = m.before.before.before in
-    let a = n.before.before.before.args in
-    tokens_unclosed a.s.now a.at n.blanks-end.result n.blanks-end.ensures.0 (omega arith)
-    (sym m.is-mark.ensures ∙ q.before.before.if3.false) q.before.if4.true q.quote-at.result q.quote-at.ensures.1 (omega arith)
+    let a = c.args in
+    tokens_unclosed a.s.now a.at c.blanks_end-i.result c.blanks_end-i.ensures.0 (omega arith)
+    (sym c.is_mark.ensures ∙ c.if-is_mark.false) c.if-b-eq-QUOTE.true c.quote_at-end.result c.quote_at-end.ensures.1 (omega arith)
 
-returns_6 : tie.Need-returns-6
+returns_6 : tie.Need-returns-then-has_word
 returns_6 c =
-    let w = c.before in
-    let o = w.before.before in
-    let m = o.before.before in
-    let n = m.before.before.before in
-    let a = n.before.before.before.args in
-    let here = sym w.Has-word.ensures ∙ c.if6.true in
-    let within = word_within true_word a.s.now n.blanks-end.result (omega arith) here in (
-      tokens_true a.s.now a.at n.blanks-end.result n.blanks-end.ensures.0 (omega arith)
-          (sym m.is-mark.ensures ∙ o.before.if3.false) o.if4.false here,
+    let a = c.args in
+    let here = sym c.has_word.ensures ∙ c.if-has_word.true in
+    let within = word_within true_word a.s.now c.blanks_end-i.result (omega arith) here in (
+      tokens_true a.s.now a.at c.blanks_end-i.result c.blanks_end-i.ensures.0 (omega arith)
+          (sym c.is_mark.ensures ∙ c.if-is_mark.false) c.if-b-eq-QUOTE.false here,
       omega arith,
       omega arith,
     )
 
-returns_7 : tie.Need-returns-7
+returns_7 : tie.Need-returns-then-has_word-2
 returns_7 c =
-    let v = c.before in
-    let w = v.before.before.before in
-    let o = w.before.before in
-    let m = o.before.before in
-    let n = m.before.before.before in
-    let a = n.before.before.before.args in
-    let here = sym v.has-word2.ensures ∙ c.if7.true in
-    let within = word_within false_word a.s.now n.blanks-end.result (omega arith) here in (
-      tokens_false a.s.now a.at n.blanks-end.result n.blanks-end.ensures.0 (omega arith)
-          (sym m.is-mark.ensures ∙ o.before.if3.false) o.if4.false (sym w.Has-word.ensures ∙ v.before.before.if6.false) here,
+    let a = c.args in
+    let here = sym c.has_word-2.ensures ∙ c.if-has_word-2.true in
+    let within = word_within false_word a.s.now c.blanks_end-i.result (omega arith) here in (
+      tokens_false a.s.now a.at c.blanks_end-i.result c.blanks_end-i.ensures.0 (omega arith)
+          (sym c.is_mark.ensures ∙ c.if-is_mark.false) c.if-b-eq-QUOTE.false (sym c.has_word.ensures ∙ c.if-has_word.false) here,
       omega arith,
       omega arith,
     )
 
-returns_8 : tie.Need-returns-8
+returns_8 : tie.Need-returns
 returns_8 c =
-    let v = c.before in
-    let w = v.before.before.before in
-    let o = w.before.before in
-    let m = o.before.before in
-    let n = m.before.before.before in
-    let a = n.before.before.before.args in
-    tokens_no_token a.s.now a.at n.blanks-end.result n.blanks-end.ensures.0 (omega arith)
-    (sym m.is-mark.ensures ∙ o.before.if3.false) o.if4.false (sym w.Has-word.ensures ∙ v.before.before.if6.false)
-    (sym v.has-word2.ensures ∙ c.if7.false)
+    let a = c.args in
+    tokens_no_token a.s.now a.at c.blanks_end-i.result c.blanks_end-i.ensures.0 (omega arith)
+    (sym c.is_mark.ensures ∙ c.if-is_mark.false) c.if-b-eq-QUOTE.false (sym c.has_word.ensures ∙ c.if-has_word.false)
+    (sym c.has_word-2.ensures ∙ c.if-has_word-2.false)
 
 pub next_token_spec : {M : Type 1} → statement M
 next_token_spec =
@@ -109,11 +87,9 @@ next_token_spec =
     (λ c κs. search rules)
     returns_4
     returns_5
-    (λ c. search rules)
     (λ c κs. search rules)
     (λ c. search rules)
     returns_6
-    (λ c. search rules)
     (λ c κs. search rules)
     (λ c. search rules)
     returns_7

@@ -11,41 +11,38 @@ use Rattle.json_tokens.proofs.Walks.{part_nil, quoted_next, quoted_stop, quoted_
 use Rattle.json_tokens.proofs.quote_at.Statement.{statement}
 use Rattle.json_tokens.proofs.quote_at.Tie as tie
 
-abbrev invariant_loop : tie.invariant-loop
+abbrev invariant_loop : tie.invariant-loop-i
 invariant_loop s at i₀ i = (quoted (drop at s) ≡ part at i s ++ quoted (drop i s)) × (closing (drop at s) ≡ closing (drop i s)) × (at ≤ i) × (i ≤ length s)
 
-abbrev decreases_loop : tie.decreases-loop
+abbrev decreases_loop : tie.decreases-loop-i
 decreases_loop s at i₀ i = length s - i
 
-loop_holds : tie.Need-loop-init invariant_loop decreases_loop
+loop_holds : tie.Need-loop-i-init invariant_loop decreases_loop
 loop_holds c = (rw part_nil, refl, omega arith, omega arith)
 
-returns : tie.Need-returns invariant_loop decreases_loop
+returns : tie.Need-returns-then-s-i-eq-QUOTE invariant_loop decreases_loop
 returns c =
-    let l = c.before.before.before in
-    let a = l.before.args in (
-      quoted_stop a.s.now l.loop.i a.at l.loop.invariant.2 l.loop.invariant.0 (omega arith) c.if1.true,
-      l.loop.invariant.1 ∙ closing_stop a.s.now l.loop.i (omega arith) c.if1.true,
+    let a = c.args in (
+      quoted_stop a.s.now c.loop-i.i a.at c.loop-i.invariant.2 c.loop-i.invariant.0 (omega arith) c.if-s-i-eq-QUOTE.true,
+      c.loop-i.invariant.1 ∙ closing_stop a.s.now c.loop-i.i (omega arith) c.if-s-i-eq-QUOTE.true,
       omega arith,
       omega arith,
     )
 
-loop_again : tie.Need-loop-preserved invariant_loop decreases_loop
+loop_again : tie.Need-loop-i-preserved invariant_loop decreases_loop
 loop_again c =
-    let l = c.before.before.before in
-    let a = l.before.args in (
-      quoted_next a.s.now l.loop.i a.at l.loop.invariant.2 l.loop.invariant.0 (omega arith) c.if1.false,
-      l.loop.invariant.1 ∙ closing_next a.s.now l.loop.i (omega arith) c.if1.false,
+    let a = c.args in (
+      quoted_next a.s.now c.loop-i.i a.at c.loop-i.invariant.2 c.loop-i.invariant.0 (omega arith) c.if-s-i-eq-QUOTE.false,
+      c.loop-i.invariant.1 ∙ closing_next a.s.now c.loop-i.i (omega arith) c.if-s-i-eq-QUOTE.false,
       omega arith,
       omega arith,
     )
 
-returns_2 : tie.Need-returns-2 invariant_loop decreases_loop
+returns_2 : tie.Need-returns invariant_loop decreases_loop
 returns_2 c =
-    let l = c.before in
-    let a = l.before.args in (
-      quoted_end a.s.now l.loop.i a.at l.loop.invariant.2 l.loop.invariant.0 (omega arith),
-      l.loop.invariant.1 ∙ closing_end a.s.now l.loop.i (omega arith),
+    let a = c.args in (
+      quoted_end a.s.now c.loop-i.i a.at c.loop-i.invariant.2 c.loop-i.invariant.0 (omega arith),
+      c.loop-i.invariant.1 ∙ closing_end a.s.now c.loop-i.i (omega arith),
       omega arith,
       omega arith,
     )

@@ -26,40 +26,38 @@ holds_ungoverned : (a : Action) → a.governed ≡ 0 → json_holds a ≡ every 
 unfolding json_holds
 holds_ungoverned a none = rw (eq-eqb a.governed 0 none) (and-true (every is_plain (uses_of a)))
 
-abbrev invariant_loop : tie.invariant-loop
+abbrev invariant_loop : tie.invariant-loop-i
 invariant_loop a top i₀ i = Loop (λ at l. every is_plain l) a.used a.uses top i (json_holds a)
 
-abbrev decreases_loop : tie.decreases-loop
+abbrev decreases_loop : tie.decreases-loop-i
 decreases_loop a top i₀ i = top - i
 
-returns : tie.Need-returns invariant_loop decreases_loop
+returns : tie.Need-returns-then-a-ne0 invariant_loop decreases_loop
 unfolding json_holds
 returns c =
-    let a = c.before.args.t1 in
-    rw (ne_eqb a.governed 0 c.if1.true) (sym (and-false (every is_plain (uses_of a))))
+    let a = c.args.a in
+    rw (ne_eqb a.governed 0 c.if-a-ne0.true) (sym (and-false (every is_plain (uses_of a))))
 
-loop_holds : tie.Need-loop-init invariant_loop decreases_loop
+loop_holds : tie.Need-loop-i-init invariant_loop decreases_loop
 loop_holds c =
-    let a = c.before.before.args.t1 in
+    let a = c.args.a in
     let room : length a.uses ≡ use_limit = search (rules, length_mapped) in
-    start (rw room c.least.ensures) (holds_ungoverned a c.before.if1.false)
+    start (rw room c.least-top.ensures) (holds_ungoverned a c.if-a-ne0.false)
 
-returns_2 : tie.Need-returns-2 invariant_loop decreases_loop
+returns_2 : tie.Need-returns-then-u-gt-EXECUTE invariant_loop decreases_loop
 returns_2 c =
-    let at = c.before.before.before in
-    let loop = at.before.loop in
-    let u = get_or at.before.before.before.before.args.t1.uses loop.i no_use in
-    sym (turn loop.invariant no_use at.loop-test.true ∙ rw (lt-leb u.right 2 c.if2.true))
+    let loop = c.loop-i in
+    let u = get_or c.args.a.uses loop.i no_use in
+    sym (turn loop.invariant no_use c.loop-i-test.true ∙ rw (lt-leb u.right 2 c.if-u-gt-EXECUTE.true))
 
-loop_again : tie.Need-loop-preserved invariant_loop decreases_loop
+loop_again : tie.Need-loop-i-preserved invariant_loop decreases_loop
 loop_again c =
-    let at = c.before.before.before in
-    let loop = at.before.loop in
-    let u = get_or at.before.before.before.before.args.t1.uses loop.i no_use in
-    next loop.invariant at.loop-test.true (turn loop.invariant no_use at.loop-test.true ∙ rw (le-leb u.right 2 c.if2.false))
+    let loop = c.loop-i in
+    let u = get_or c.args.a.uses loop.i no_use in
+    next loop.invariant c.loop-i-test.true (turn loop.invariant no_use c.loop-i-test.true ∙ rw (le-leb u.right 2 c.if-u-gt-EXECUTE.false))
 
-returns_3 : tie.Need-returns-3 invariant_loop decreases_loop
-returns_3 c = sym (done c.before.loop.invariant c.loop-test.false)
+returns_3 : tie.Need-returns invariant_loop decreases_loop
+returns_3 c = sym (done c.loop-i.invariant c.loop-i-test.false)
 
 pub has_place_spec : {M : Type 1} → statement M
 has_place_spec =

@@ -1,6 +1,6 @@
 -- `json_writing::put_resource` meets its contract: the opening quote, the number and the closing quote are put one behind the other.
 -- Assumes nothing.
-use mathlib.Core.Path.{refl, ◌∙◌}
+use mathlib.Core.Path.{◌∙◌}
 use mathlib.Core.List.{[], ◌∷◌, ◌++◌}
 use Rattle.decimals.specs.Decimals.{digits}
 use Rattle.buffers.specs.Laws.{writing_start, writing_put}
@@ -10,39 +10,29 @@ use Rattle.json_writing.proofs.Joining.{put_last}
 use Rattle.json_writing.proofs.put_resource.Statement.{statement}
 use Rattle.json_writing.proofs.put_resource.Tie as tie
 
-put_opening_requires : tie.Need-put-opening-requires
+put_opening_requires : tie.Need-put_opening-number_at-requires
 put_opening_requires c κs = tt
 
-put_number_requires : tie.Need-put-number-requires
+put_number_requires : tie.Need-put_number-end-requires
 put_number_requires c κs = tt
 
-slice_aggregate_put_bytes : tie.Need-slice-aggregate-put-bytes
-slice_aggregate_put_bytes c = refl
-
-put_bytes_requires : tie.Need-put-bytes-requires
+put_bytes_requires : tie.Need-put_bytes-requires
 put_bytes_requires c κs = tt
 
-same_length : tie.Need-same-length
+same_length : tie.Need-shape_of-buf
 same_length c =
-    let ended = c.before.before in
-    let numbered = ended.before.before.before.before.before in
-    let opened = numbered.before.before.before.before in
-    ended.put-bytes.auto.0 ∙ numbered.put-number.auto.0 ∙ opened.put-opening.auto.0
+    c.put_bytes.auto.buf ∙ c.put_number-end.auto.buf ∙ c.put_opening-number_at.auto.buf
 
 returns : tie.Need-returns
 unfolding resource_entry
 returns c =
-    let ended = c.before.before in
-    let numbered = ended.before.before.before.before.before in
-    let opened = numbered.before.before.before.before in
-    let st = opened.before.before.before in
-    let a = st.args in
+    let a = c.args in
     let opening = opening_text a.first in
     let number = digits a.resource in
     let start = writing_start a.at (resource_entry a.first a.resource) a.buf.now in
-    let first = writing_put opening (number ++ (quote ∷ [])) st.requires start opened.put-opening.ensures.0 opened.put-opening.ensures.1 in
-    let second = writing_put number (quote ∷ []) st.requires first numbered.put-number.ensures.0 numbered.put-number.ensures.1 in
-    put_last st.requires second ended.put-bytes.ensures.0 ended.put-bytes.ensures.1
+    let first = writing_put opening (number ++ (quote ∷ [])) c.requires start c.put_opening-number_at.ensures.0 c.put_opening-number_at.ensures.1 in
+    let second = writing_put number (quote ∷ []) c.requires first c.put_number-end.ensures.0 c.put_number-end.ensures.1 in
+    put_last c.requires second c.put_bytes.ensures.0 c.put_bytes.ensures.1
 
 pub put_resource_spec : {M : Type 1} → statement M
 put_resource_spec =
@@ -50,7 +40,6 @@ put_resource_spec =
     (tie.spec
     put_opening_requires
     put_number_requires
-    slice_aggregate_put_bytes
     put_bytes_requires
     same_length
     returns)

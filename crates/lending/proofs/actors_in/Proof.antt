@@ -24,41 +24,35 @@ actors bytes = records_in (actor_in bytes) actor_size 0 actor_limit
 abbrev Column : List ℕ → (Actor → ℕ) → ℕ → ℕ → List ℕ → Type 0
 Column bytes f top i column = Filling actor_limit (λ k. f (get_or (actors bytes) k no_actor)) top (f no_actor) i column
 
-abbrev invariant_loop : tie.invariant-loop
+abbrev invariant_loop : tie.invariant-loop-i
 invariant_loop bytes count top columns₀ i₀ columns i =
     Column bytes actor_id top i columns.names × Column bytes actor_kind top i columns.kinds × Column bytes actor_owner top i columns.owners
 
-abbrev decreases_loop : tie.decreases-loop
+abbrev decreases_loop : tie.decreases-loop-i
 decreases_loop bytes count top columns₀ i₀ columns i = top - i
 
-loop_holds : tie.Need-loop-init invariant_loop decreases_loop
-loop_holds c = (filling_start (omega (arith, c.least.ensures)), filling_start (omega (arith, c.least.ensures)), filling_start (omega (arith, c.least.ensures)))
+loop_holds : tie.Need-loop-i-init invariant_loop decreases_loop
+loop_holds c = (filling_start (omega (arith, c.least-top.ensures)), filling_start (omega (arith, c.least-top.ensures)), filling_start (omega (arith, c.least-top.ensures)))
 
-loop_again : tie.Need-loop-preserved invariant_loop decreases_loop
+loop_again : tie.Need-loop-i-preserved invariant_loop decreases_loop
 loop_again c =
-    let second = c.before in
-    let first = second.before in
-    let turn = first.before in
-    let counted = turn.before.before in
-    let bytes = counted.before.before.args.bytes.now in
-    let inv = turn.before.loop.invariant in
-    let here = turn.loop-test.true in
-    let inside : turn.before.loop.i < actor_limit = omega (arith, here, counted.least.ensures) in
+    let bytes = c.args.bytes.now in
+    let inv = c.loop-i.invariant in
+    let here = c.loop-i-test.true in
+    let inside : c.loop-i.i < actor_limit = omega (arith, here, c.least-top.ensures) in
     let read = field_read bytes (actor_in bytes) actor_size 0 actor_limit no_actor inside in (
-      filling_next inv.0 _ here (read actor_id 0 refl _ _ first.number_at.ensures (omega arith)),
-      filling_next inv.1 _ here (read actor_kind 1 refl _ _ second.number-at2.ensures (omega arith)),
-      filling_next inv.2 _ here (read actor_owner 2 refl _ _ c.number-at3.ensures (omega arith)),
+      filling_next inv.0 _ here (read actor_id 0 refl _ _ c.number_at.ensures (omega arith)),
+      filling_next inv.1 _ here (read actor_kind 1 refl _ _ c.number_at-in-loop-i.ensures (omega arith)),
+      filling_next inv.2 _ here (read actor_owner 2 refl _ _ c.number_at-in-loop-i-2.ensures (omega arith)),
     )
 
 returns : tie.Need-returns invariant_loop decreases_loop
 returns c =
-    let counted = c.before.before in
-    let s = counted.before.before in
-    let bytes = s.args.bytes.now in
-    let inv = c.before.loop.invariant in
-    let past = c.loop-test.false in
+    let bytes = c.args.bytes.now in
+    let inv = c.loop-i.invariant in
+    let past = c.loop-i-test.false in
     let long = records_length (actor_in bytes) actor_size actor_limit 0 in
-    let bound = counted.least.ensures ∙ ap (λ n. min n actor_limit) s.requires.1 in
+    let bound = c.least-top.ensures ∙ ap (λ n. min n actor_limit) c.requires.1 in
     rw (
       column_filled actor_id no_actor (actors bytes) actor_limit _ long bound inv.0 past,
       column_filled actor_kind no_actor (actors bytes) actor_limit _ long bound inv.1 past,

@@ -7,18 +7,16 @@ use Rattle.lending.proofs.claim_at.Tie as tie
 
 returns : tie.Need-returns
 returns c =
-    let sixth = c.before.before.before in
-    let third = sixth.before.before.before in
-    let a = third.before.before.before.before.args in
+    let a = c.args in
     rw (
-      third.before.before.number_at.ensures ∙ field_first a.at a.bytes.now,
-      third.before.number-at2.ensures,
-      third.number-at3.ensures,
-      sixth.before.before.number-at4.ensures,
-      sixth.before.number-at5.ensures,
-      sixth.number-at6.ensures,
-      c.before.before.number-at7.ensures,
-      c.before.number-at8.ensures,
+      c.number_at.ensures ∙ field_first a.at a.bytes.now,
+      c.number_at-2.ensures,
+      c.number_at-3.ensures,
+      c.number_at-4.ensures,
+      c.number_at-5.ensures,
+      c.number_at-6.ensures,
+      c.number_at-7.ensures,
+      c.number_at-8.ensures,
       c.wide_at.ensures,
     )
 

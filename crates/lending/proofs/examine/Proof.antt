@@ -11,35 +11,26 @@ use Rattle.lending.proofs.Opening.{opened_by}
 use Rattle.lending.proofs.examine.Statement.{statement}
 use Rattle.lending.proofs.examine.Tie as tie
 
-put_claims_requires : tie.Need-put-claims-requires
+put_claims_requires : tie.Need-put_claims-requires
 put_claims_requires c κs =
-    let s = c.before.before.before in
-    (s.requires.0, ap length s.requires.1 ∙ length-replicate {A = ℕ} sheet_limit 0, ap (λ n. n.claims) s.requires.2)
+    (c.requires.0, ap length c.requires.1 ∙ length-replicate {A = ℕ} sheet_limit 0, ap (λ n. n.claims) c.requires.2)
 
-actors_in_requires : tie.Need-actors-in-requires
+actors_in_requires : tie.Need-actors_in-actors-requires
 actors_in_requires c κs =
-    let s = c.before.before.before.before.before.before.before in
-    (s.requires.0, ap (λ n. n.actors) s.requires.2)
+    (c.requires.0, ap (λ n. n.actors) c.requires.2)
 
-resources_in_requires : tie.Need-resources-in-requires
+resources_in_requires : tie.Need-resources_in-resources-requires
 resources_in_requires c κs =
-    let s = c.before.before.before.before.before.before.before.before in
-    (s.requires.0, ap (λ n. n.resources) s.requires.2)
+    (c.requires.0, ap (λ n. n.resources) c.requires.2)
 
-resources_alone_requires : tie.Need-resources-alone-requires
+resources_alone_requires : tie.Need-resources_alone-alone-requires
 resources_alone_requires c κs =
-    let s = c.before.before.before.before.before.before.before.before.before in
-    (s.requires.0, ap (λ n. n.resources) s.requires.2)
+    (c.requires.0, ap (λ n. n.resources) c.requires.2)
 
 returns : tie.Need-returns
 returns c =
-    let alone = c.before.before in
-    let resources = alone.before in
-    let actors = resources.before in
-    let put = actors.before.before.before.before in
-    let s = put.before.before.before.before in
-    opened_by (register_at s.args.bytes.now) (register_shaped s.args.bytes.now s.requires.0) put.put-claims.ensures s.requires.1 s.requires.2
-    actors.before.wide_at.ensures actors.actors_in_lem.ensures resources.resources_in.ensures alone.resources-alone.ensures c.examine-columns.ensures
+    opened_by (register_at c.args.bytes.now) (register_shaped c.args.bytes.now c.requires.0) c.put_claims.ensures c.requires.1 c.requires.2
+    c.wide_at-version.ensures c.actors_in-actors.ensures c.resources_in-resources.ensures c.resources_alone-alone.ensures c.examine_columns.ensures
 
 pub examine_spec : {M : Type 1} → statement M
 examine_spec =

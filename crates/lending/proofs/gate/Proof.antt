@@ -7,48 +7,28 @@ use Rattle.lending.proofs.Answering.{other_gated, unsound_gated, stopped_gated, 
 use Rattle.lending.proofs.gate.Statement.{statement}
 use Rattle.lending.proofs.gate.Tie as tie
 
-returns : tie.Need-returns
+returns : tie.Need-returns-then-bytes-ne-REGISTER
 returns c =
-    let s = c.before.before.before in
-    other_gated s.args.bytes.now c.before.if1.true s.args.a c.stopped.ensures
+    other_gated c.args.bytes.now c.if-bytes-ne-REGISTER.true c.args.a c.stopped.ensures
 
-returns_2 : tie.Need-returns-2
+returns_2 : tie.Need-returns-then-not-found
 returns_2 c =
-    let examined = c.before.before.before in
-    let counted = examined.before.before in
-    let s = counted.before.before.before in
-    unsound_gated s.args.bytes.now counted.before.if1.false examined.examine.ensures (not-true _ c.before.if2.true) s.args.a c.stopped2.ensures
+    unsound_gated c.args.bytes.now c.if-bytes-ne-REGISTER.false c.examine-found.ensures (c.if-not-found.true) c.args.a c.stopped-then-not-found.ensures
 
-lay_requires : tie.Need-lay-requires
+lay_requires : tie.Need-lay-lens-requires
 lay_requires c κs =
-    let counted = c.before.before.before.before.before in
-    (counted.before.if1.false, refl, ap (λ n. n.resources) counted.counts-in.ensures)
+    (c.if-bytes-ne-REGISTER.false, refl, ap (λ n. n.resources) c.counts_in-counts.ensures)
 
-returns_3 : tie.Need-returns-3
+returns_3 : tie.Need-returns-in-Refused
 returns_3 c =
-    let asked = c.before.before.before.before in
-    let ending = asked.before.before.before.before in
-    let tested = ending.before.before.before.before.before.before.before.before in
-    let examined = tested.before.before in
-    let counted = examined.before.before in
-    let s = counted.before.before.before in
-    stopped_gated s.args.bytes.now counted.before.if1.false examined.examine.ensures (not-false _ tested.if2.false) counted.counts-in.ensures
-    s.args.a c.before.before.outcome.given.0.0 asked.action_outcome.ensures c.before.before.outcome.given.1 c.stopped3.ensures
+    stopped_gated c.args.bytes.now c.if-bytes-ne-REGISTER.false c.examine-found.ensures (c.if-not-found.false) c.counts_in-counts.ensures
+    c.args.a c.in-Refused.why c.action_outcome-outcome.ensures c.in-Refused.is c.stopped-in-Refused.ensures
 
-returns_4 : tie.Need-returns-4
+returns_4 : tie.Need-returns-in-Accepted
 returns_4 c =
-    let judging = c.before.before in
-    let told = judging.before.before.before.before.before in
-    let asked = told.before.before in
-    let ending = asked.before.before.before.before in
-    let laying = ending.before.before.before.before.before.before in
-    let tested = laying.before.before in
-    let examined = tested.before.before in
-    let counted = examined.before.before in
-    let s = counted.before.before.before in
-    judged_gated s.args.bytes.now counted.before.if1.false examined.examine.ensures (not-false _ tested.if2.false) counted.counts-in.ensures
-    laying.lay.ensures.0 laying.lay.ensures.1 ending.claim-ends.ensures
-    s.args.a asked.action_outcome.ensures told.enum_told.given.1 judging.judge-by.ensures c.decided.ensures
+    judged_gated c.args.bytes.now c.if-bytes-ne-REGISTER.false c.examine-found.ensures (c.if-not-found.false) c.counts_in-counts.ensures
+    c.lay-lens.ensures.0 c.lay-lens.ensures.1 c.claim_ends-ends.ensures
+    c.args.a c.action_outcome-outcome.ensures c.in-Accepted.is c.judge_by-judged.ensures c.decided.ensures
 
 pub gate_spec : {M : Type 1} → statement M
 gate_spec =

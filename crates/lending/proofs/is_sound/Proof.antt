@@ -6,13 +6,12 @@ use Rattle.lending.proofs.Opening.{other_unsound, held_sound}
 use Rattle.lending.proofs.is_sound.Statement.{statement}
 use Rattle.lending.proofs.is_sound.Tie as tie
 
-returns : tie.Need-returns
-returns c = sym (other_unsound c.before.before.args.bytes.now c.if1.true)
+returns : tie.Need-returns-then-bytes-ne-REGISTER
+returns c = sym (other_unsound c.args.bytes.now c.if-bytes-ne-REGISTER.true)
 
-returns_2 : tie.Need-returns-2
+returns_2 : tie.Need-returns
 returns_2 c =
-    let s = c.before.before.before.before.before.before in
-    held_sound s.args.bytes.now c.before.before.before.before.if1.false c.before.examine.ensures
+    held_sound c.args.bytes.now c.if-bytes-ne-REGISTER.false c.examine-found.ensures
 
 pub is_sound_spec : {M : Type 1} → statement M
 is_sound_spec =

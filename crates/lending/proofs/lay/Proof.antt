@@ -14,42 +14,36 @@ use Rattle.lending.proofs.Laying.{Laying, laying_none, laying_length, laying_roo
 use Rattle.lending.proofs.lay.Statement.{statement}
 use Rattle.lending.proofs.lay.Tie as tie
 
-abbrev invariant_loop : tie.invariant-loop
+abbrev invariant_loop : tie.invariant-loop-i
 invariant_loop paths₀ bytes count top lens₀ i₀ paths lens i = Laying (register_at bytes).resources paths₀ top i paths lens
 
-abbrev decreases_loop : tie.decreases-loop
+abbrev decreases_loop : tie.decreases-loop-i
 decreases_loop paths₀ bytes count top lens₀ i₀ paths lens i = top - i
 
-loop_holds : tie.Need-loop-init invariant_loop decreases_loop
+loop_holds : tie.Need-loop-i-init invariant_loop decreases_loop
 loop_holds c =
-    let s = c.before.before.before in
-    let shaped = register_shaped s.args.bytes.now s.requires.0 in
-    laying_none shaped.resources shaped.paths s.requires.1 (c.least.ensures ∙ ap (λ n. min n resource_limit) s.requires.2)
+    let shaped = register_shaped c.args.bytes.now c.requires.0 in
+    laying_none shaped.resources shaped.paths c.requires.1 (c.least-top.ensures ∙ ap (λ n. min n resource_limit) c.requires.2)
 
-put_path_requires : tie.Need-put-path-requires invariant_loop decreases_loop
+put_path_requires : tie.Need-put_path-requires invariant_loop decreases_loop
 put_path_requires c κs =
-    let turn = c.before in
-    let counted = turn.before.before in
-    (laying_room turn.before.loop.invariant turn.loop-test.true, omega (arith, turn.loop-test.true, counted.least.ensures, counted.before.before.before.requires.0))
+    (laying_room c.loop-i.invariant c.loop-i-test.true, omega (arith, c.loop-i-test.true, c.least-top.ensures, c.requires.0))
 
-loop_again : tie.Need-loop-preserved invariant_loop decreases_loop
+loop_again : tie.Need-loop-i-preserved invariant_loop decreases_loop
 loop_again c =
-    let put = c.before.before.before in
-    let turn = put.before.before in
-    let counted = turn.before.before in
-    let bytes = counted.before.before.before.args.bytes.now in
-    let i = turn.before.loop.i in
-    let inside : i < resource_limit = omega (arith, turn.loop-test.true, counted.least.ensures) in
-    laying_next turn.before.loop.invariant turn.loop-test.true
+    let bytes = c.args.bytes.now in
+    let i = c.loop-i.i in
+    let inside : i < resource_limit = omega (arith, c.loop-i-test.true, c.least-top.ensures) in
+    laying_next c.loop-i.invariant c.loop-i-test.true
     (ap (λ (o : Resource). o.path) (sym (record_at (resource_in bytes) resource_size resource_limit resources_at i no_resource inside)))
-    put.put-path.ensures
+    c.put_path.ensures
     (field_read bytes (resource_in bytes) resource_size resources_at resource_limit no_resource inside (λ (o : Resource). o.len) 3 refl c.number_at.ensures (omega arith))
 
-same_length : tie.Need-same-length invariant_loop decreases_loop
-same_length c = laying_length c.before.loop.invariant
+same_length : tie.Need-shape_of-paths invariant_loop decreases_loop
+same_length c = laying_length c.loop-i.invariant
 
 returns : tie.Need-returns invariant_loop decreases_loop
-returns c = laying_all c.before.loop.invariant c.loop-test.false
+returns c = laying_all c.loop-i.invariant c.loop-i-test.false
 
 pub lay_spec : {M : Type 1} → statement M
 lay_spec =

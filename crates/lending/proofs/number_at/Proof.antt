@@ -7,8 +7,8 @@ use Rattle.lending.proofs.number_at.Tie as tie
 
 returns : tie.Need-returns
 returns c =
-    let a = c.before.before.before.before.before.before.args in
-    c.number_of_lem.ensures ∙ number_bytes a.at a.bytes.now
+    let a = c.args in
+    c.number_of.ensures ∙ number_bytes a.at a.bytes.now
 
 pub number_at_spec : {M : Type 1} → statement M
 number_at_spec =

@@ -12,25 +12,23 @@ use Rattle.lending.proofs.Filling.{path_filled}
 use Rattle.lending.proofs.path_at.Statement.{statement}
 use Rattle.lending.proofs.path_at.Tie as tie
 
-abbrev invariant_loop : tie.invariant-loop
+abbrev invariant_loop : tie.invariant-loop-i
 invariant_loop bytes at path₀ i₀ path i = Filling path_limit (λ k. get_or (drop at bytes) k 0) path_limit 0 i path
 
-abbrev decreases_loop : tie.decreases-loop
+abbrev decreases_loop : tie.decreases-loop-i
 decreases_loop bytes at path₀ i₀ path i = path_limit - i
 
-loop_holds : tie.Need-loop-init invariant_loop decreases_loop
+loop_holds : tie.Need-loop-i-init invariant_loop decreases_loop
 loop_holds c = filling_start (omega arith)
 
-loop_again : tie.Need-loop-preserved invariant_loop decreases_loop
+loop_again : tie.Need-loop-i-preserved invariant_loop decreases_loop
 loop_again c =
-    let turn = c.before in
-    let a = turn.before.before.args in
-    filling_next turn.before.loop.invariant _ turn.loop-test.true (sym (get_or-drop a.at a.bytes.now _ 0))
+    let a = c.args in
+    filling_next c.loop-i.invariant _ c.loop-i-test.true (sym (get_or-drop a.at a.bytes.now _ 0))
 
 returns : tie.Need-returns invariant_loop decreases_loop
 returns c =
-    let s = c.before.before in
-    path_filled s.args.bytes.now s.args.at s.requires c.before.loop.invariant c.loop-test.false
+    path_filled c.args.bytes.now c.args.at c.requires c.loop-i.invariant c.loop-i-test.false
 
 pub path_at_spec : {M : Type 1} → statement M
 path_at_spec =

@@ -7,59 +7,33 @@ use Rattle.lending.proofs.Answering.{other_planned, unsound_planned, many_planne
 use Rattle.lending.proofs.plan.Statement.{statement}
 use Rattle.lending.proofs.plan.Tie as tie
 
-returns : tie.Need-returns
+returns : tie.Need-returns-then-bytes-ne-REGISTER
 returns c =
-    let s = c.before.before.before in
-    other_planned s.args.bytes.now c.before.if1.true s.args.p c.stopped.ensures
+    other_planned c.args.bytes.now c.if-bytes-ne-REGISTER.true c.args.p c.stopped.ensures
 
-returns_2 : tie.Need-returns-2
+returns_2 : tie.Need-returns-then-not-found
 returns_2 c =
-    let examined = c.before.before.before in
-    let counted = examined.before.before in
-    let s = counted.before.before.before in
-    unsound_planned s.args.bytes.now counted.before.if1.false examined.examine.ensures (not-true _ c.before.if2.true) s.args.p c.stopped2.ensures
+    unsound_planned c.args.bytes.now c.if-bytes-ne-REGISTER.false c.examine-found.ensures (c.if-not-found.true) c.args.p c.stopped-then-not-found.ensures
 
-returns_3 : tie.Need-returns-3
+returns_3 : tie.Need-returns-then-p-gt-ACTIONS
 returns_3 c =
-    let tested = c.before.before.before in
-    let examined = tested.before.before in
-    let counted = examined.before.before in
-    let s = counted.before.before.before in
-    many_planned s.args.bytes.now counted.before.if1.false examined.examine.ensures (not-false _ tested.if2.false) s.args.p c.before.if3.true c.stopped3.ensures
+    many_planned c.args.bytes.now c.if-bytes-ne-REGISTER.false c.examine-found.ensures (c.if-not-found.false) c.args.p c.if-p-gt-ACTIONS.true c.stopped-then-p-gt-ACTIONS.ensures
 
-lay_requires : tie.Need-lay-requires
+lay_requires : tie.Need-lay-lens-requires
 lay_requires c κs =
-    let counted = c.before.before.before.before.before.before.before in
-    (counted.before.if1.false, refl, ap (λ n. n.resources) counted.counts-in.ensures)
+    (c.if-bytes-ne-REGISTER.false, refl, ap (λ n. n.resources) c.counts_in-counts.ensures)
 
-returns_4 : tie.Need-returns-4
+returns_4 : tie.Need-returns-in-Refused
 returns_4 c =
-    let stopping = c.before.before.before.before in
-    let ending = stopping.before.before.before.before in
-    let laying = ending.before.before.before.before.before.before in
-    let few = laying.before.before in
-    let tested = few.before.before in
-    let examined = tested.before.before in
-    let counted = examined.before.before in
-    let s = counted.before.before.before in
-    stopped_planned s.args.bytes.now counted.before.if1.false examined.examine.ensures (not-false _ tested.if2.false) counted.counts-in.ensures
-    laying.lay.ensures.0 laying.lay.ensures.1 ending.claim-ends.ensures s.args.p few.if3.false stopping.first-stop.ensures
-    c.before.before.outcome.given.0.0 c.before.before.outcome.given.1 c.stopped4.ensures
+    stopped_planned c.args.bytes.now c.if-bytes-ne-REGISTER.false c.examine-found.ensures (c.if-not-found.false) c.counts_in-counts.ensures
+    c.lay-lens.ensures.0 c.lay-lens.ensures.1 c.claim_ends-ends.ensures c.args.p c.if-p-gt-ACTIONS.false c.first_stop-stop.ensures
+    c.in-Refused.why c.in-Refused.is c.stopped-in-Refused.ensures
 
-returns_5 : tie.Need-returns-5
+returns_5 : tie.Need-returns-in-Accepted
 returns_5 c =
-    let told = c.before.before.before.before.before in
-    let stopping = told.before.before in
-    let ending = stopping.before.before.before.before in
-    let laying = ending.before.before.before.before.before.before in
-    let few = laying.before.before in
-    let tested = few.before.before in
-    let examined = tested.before.before in
-    let counted = examined.before.before in
-    let s = counted.before.before.before in
-    judged_planned s.args.bytes.now counted.before.if1.false examined.examine.ensures (not-false _ tested.if2.false) counted.counts-in.ensures
-    laying.lay.ensures.0 laying.lay.ensures.1 ending.claim-ends.ensures s.args.p few.if3.false stopping.first-stop.ensures
-    told.enum_told.given.1 c.judge-all.ensures
+    judged_planned c.args.bytes.now c.if-bytes-ne-REGISTER.false c.examine-found.ensures (c.if-not-found.false) c.counts_in-counts.ensures
+    c.lay-lens.ensures.0 c.lay-lens.ensures.1 c.claim_ends-ends.ensures c.args.p c.if-p-gt-ACTIONS.false c.first_stop-stop.ensures
+    c.in-Accepted.is c.judge_all.ensures
 
 pub plan_spec : {M : Type 1} → statement M
 plan_spec =

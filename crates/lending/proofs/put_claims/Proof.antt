@@ -22,35 +22,29 @@ claims bytes = records_in (claim_in bytes) claim_size claims_at claim_limit
 claims_long : (bytes : List ℕ) → length (claims bytes) ≡ claim_limit
 claims_long bytes = records_length (claim_in bytes) claim_size claim_limit claims_at
 
-abbrev invariant_loop : tie.invariant-loop
+abbrev invariant_loop : tie.invariant-loop-i
 invariant_loop sheet₀ bytes count top i₀ sheet i = Put sheet₀ (claims bytes) top i sheet
 
-abbrev decreases_loop : tie.decreases-loop
+abbrev decreases_loop : tie.decreases-loop-i
 decreases_loop sheet₀ bytes count top i₀ sheet i = top - i
 
-loop_holds : tie.Need-loop-init invariant_loop decreases_loop
+loop_holds : tie.Need-loop-i-init invariant_loop decreases_loop
 loop_holds c =
-    let s = c.before.before.before in
-    put_none s.args.sheet.now (claims s.args.bytes.now) (claims_long s.args.bytes.now) _ s.requires.1
+    put_none c.args.sheet.now (claims c.args.bytes.now) (claims_long c.args.bytes.now) _ c.requires.1
 
-loop_again : tie.Need-loop-preserved invariant_loop decreases_loop
+loop_again : tie.Need-loop-i-preserved invariant_loop decreases_loop
 loop_again c =
-    let placed = c.before.before in
-    let turn = placed.before.before.before in
-    let counted = turn.before.before in
-    let a = counted.before.before.before.args in
-    put_next a.sheet.now (claims a.bytes.now) (claims_long a.bytes.now) a.count counted.least.ensures turn.before.loop.invariant turn.loop-test.true
-    (placed.before.claim-at.ensures
-    ∙ sym (record_at (claim_in a.bytes.now) claim_size claim_limit claims_at _ no_claim (omega (arith, turn.loop-test.true, counted.least.ensures))))
-    placed.take-apart.ensures
+    let a = c.args in
+    put_next a.sheet.now (claims a.bytes.now) (claims_long a.bytes.now) a.count c.least-top.ensures c.loop-i.invariant c.loop-i-test.true
+    (c.claim_at.ensures
+    ∙ sym (record_at (claim_in a.bytes.now) claim_size claim_limit claims_at _ no_claim (omega (arith, c.loop-i-test.true, c.least-top.ensures))))
+    c.take_apart.ensures
 
 returns : tie.Need-returns invariant_loop decreases_loop
 returns c =
-    let counted = c.before.before in
-    let s = counted.before.before.before in
-    let a = s.args in
-    put_all a.sheet.now (claims a.bytes.now) (claims_long a.bytes.now) a.count counted.least.ensures c.before.loop.invariant s.requires.1 c.loop-test.false
-    ∙ ap (λ n. sheet_with a.sheet.now (take n (claims a.bytes.now))) s.requires.2
+    let a = c.args in
+    put_all a.sheet.now (claims a.bytes.now) (claims_long a.bytes.now) a.count c.least-top.ensures c.loop-i.invariant c.requires.1 c.loop-i-test.false
+    ∙ ap (λ n. sheet_with a.sheet.now (take n (claims a.bytes.now))) c.requires.2
 
 pub put_claims_spec : {M : Type 1} → statement M
 put_claims_spec =

@@ -8,28 +8,27 @@ use Rattle.lending.proofs.Laying.{Copied, copied_none, copied_length, copied_nex
 use Rattle.lending.proofs.put_path.Statement.{statement}
 use Rattle.lending.proofs.put_path.Tie as tie
 
-abbrev invariant_loop : tie.invariant-loop
+abbrev invariant_loop : tie.invariant-loop-i
 invariant_loop paths₀ to bytes from i₀ paths i = Copied paths₀ to bytes from i paths
 
-abbrev decreases_loop : tie.decreases-loop
+abbrev decreases_loop : tie.decreases-loop-i
 decreases_loop paths₀ to bytes from i₀ paths i = path_limit - i
 
-loop_holds : tie.Need-loop-init invariant_loop decreases_loop
+loop_holds : tie.Need-loop-i-init invariant_loop decreases_loop
 loop_holds c = copied_none c.requires.0 c.requires.1
 
-slice_write_paths : tie.Need-slice-write-paths invariant_loop decreases_loop
+slice_write_paths : tie.Need-bounds-paths-to invariant_loop decreases_loop
 slice_write_paths c =
-    let loop = c.before.before in
-    omega (arith, copied_length loop.loop.invariant, loop.loop.invariant.room, c.before.loop-test.true)
+    omega (arith, copied_length c.loop-i.invariant, c.loop-i.invariant.room, c.loop-i-test.true)
 
-loop_again : tie.Need-loop-preserved invariant_loop decreases_loop
-loop_again c = copied_next c.before.before.loop.invariant c.before.loop-test.true
+loop_again : tie.Need-loop-i-preserved invariant_loop decreases_loop
+loop_again c = copied_next c.loop-i.invariant c.loop-i-test.true
 
-same_length : tie.Need-same-length invariant_loop decreases_loop
-same_length c = copied_length c.before.loop.invariant
+same_length : tie.Need-shape_of-paths invariant_loop decreases_loop
+same_length c = copied_length c.loop-i.invariant
 
 returns : tie.Need-returns invariant_loop decreases_loop
-returns c = copied_all c.before.loop.invariant c.loop-test.false
+returns c = copied_all c.loop-i.invariant c.loop-i-test.false
 
 pub put_path_spec : {M : Type 1} → statement M
 put_path_spec =

@@ -7,15 +7,13 @@ use Rattle.lending.proofs.resource_at.Tie as tie
 
 returns : tie.Need-returns
 returns c =
-    let second = c.before.before in
-    let path = second.before.before in
-    let a = path.before.before.args in
+    let a = c.args in
     rw (
-      second.before.number_at.ensures ∙ field_first a.at a.bytes.now,
-      second.number-at2.ensures,
-      c.before.number-at3.ensures,
-      c.number-at4.ensures,
-      path.path_at.ensures,
+      c.number_at.ensures ∙ field_first a.at a.bytes.now,
+      c.number_at-2.ensures,
+      c.number_at-3.ensures,
+      c.number_at-4.ensures,
+      c.path_at-path.ensures,
     )
 
 pub resource_at_spec : {M : Type 1} → statement M

@@ -26,43 +26,39 @@ resources bytes = records_in (resource_in bytes) resource_size resources_at reso
 abbrev alone : Resource → Bool
 alone = resource_fits (λ x. true)
 
-abbrev invariant_loop : tie.invariant-loop
+abbrev invariant_loop : tie.invariant-loop-i
 invariant_loop bytes count top fit₀ i₀ fit i = Loop (λ at l. fit && every alone l) count (resources bytes) top i (every alone (take count (resources bytes)))
 
-abbrev decreases_loop : tie.decreases-loop
+abbrev decreases_loop : tie.decreases-loop-i
 decreases_loop bytes count top fit₀ i₀ fit i = top - i
 
-loop_holds : tie.Need-loop-init invariant_loop decreases_loop
+loop_holds : tie.Need-loop-i-init invariant_loop decreases_loop
 loop_holds c =
-    let bytes = c.before.before.args.bytes.now in
+    let bytes = c.args.bytes.now in
     let long = records_length (resource_in bytes) resource_size resource_limit resources_at in
-    start (omega (arith, c.least.ensures, long)) refl
+    start (omega (arith, c.least-top.ensures, long)) refl
 
-loop_again : tie.Need-loop-preserved invariant_loop decreases_loop
+loop_again : tie.Need-loop-i-preserved invariant_loop decreases_loop
 loop_again c =
-    let read = c.before in
-    let loop = read.before.before in
-    let counted = loop.before in
-    let a = counted.before.before.args in
-    let i = loop.loop.i in
-    let here = read.before.loop-test.true in
+    let a = c.args in
+    let i = c.loop-i.i in
+    let here = c.loop-i-test.true in
     let o = get_or (resources a.bytes.now) i no_resource in
     let behind = every alone (drop (i + 1) (take a.count (resources a.bytes.now))) in
-    let fits : c.resource-fits.result ≡ alone o =
-    c.resource-fits.ensures
-    ∙ ap alone (read.resource-at.ensures ∙ sym (record_at (resource_in a.bytes.now) resource_size resource_limit resources_at i no_resource (omega (arith, here, counted.least.ensures)))) in
-    let told : every alone (take a.count (resources a.bytes.now)) ≡ (loop.loop.fit && c.resource-fits.result) && behind =
-    turn loop.loop.invariant no_resource here
-    ∙ sym (and_assoc loop.loop.fit (alone o) behind)
-    ∙ ap (λ b. (loop.loop.fit && b) && behind) (sym fits) in
-    next loop.loop.invariant here told
+    let fits : c.resource_fits-fit.result ≡ alone o =
+    c.resource_fits-fit.ensures
+    ∙ ap alone (c.resource_at-o.ensures ∙ sym (record_at (resource_in a.bytes.now) resource_size resource_limit resources_at i no_resource (omega (arith, here, c.least-top.ensures)))) in
+    let told : every alone (take a.count (resources a.bytes.now)) ≡ (c.loop-i.fit && c.resource_fits-fit.result) && behind =
+    turn c.loop-i.invariant no_resource here
+    ∙ sym (and_assoc c.loop-i.fit (alone o) behind)
+    ∙ ap (λ b. (c.loop-i.fit && b) && behind) (sym fits) in
+    next c.loop-i.invariant here told
 
 returns : tie.Need-returns invariant_loop decreases_loop
 unfolding resources_alone
 returns c =
-    let s = c.before.before.before.before in
-    sym (done c.before.loop.invariant c.loop-test.false ∙ and-true c.before.loop.fit)
-    ∙ ap (λ n. every alone (take n (resources s.args.bytes.now))) s.requires.1
+    sym (done c.loop-i.invariant c.loop-i-test.false ∙ and-true c.loop-i.fit)
+    ∙ ap (λ n. every alone (take n (resources c.args.bytes.now))) c.requires.1
 
 pub resources_alone_spec : {M : Type 1} → statement M
 resources_alone_spec =

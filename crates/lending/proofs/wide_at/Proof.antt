@@ -6,8 +6,8 @@ use Rattle.lending.proofs.wide_at.Tie as tie
 
 returns : tie.Need-returns
 returns c =
-    let a = c.before.before.before.args in
-    rw (c.before.number_at.ensures, c.number-at2.ensures) (wide_numbers a.at a.bytes.now)
+    let a = c.args in
+    rw (c.number_at-low.ensures, c.number_at-high.ensures) (wide_numbers a.at a.bytes.now)
 
 pub wide_at_spec : {M : Type 1} → statement M
 wide_at_spec =

@@ -10,31 +10,31 @@ use Rattle.lines.proofs.finish.Statement.{statement}
 use Rattle.lines.proofs.finish.Tie as tie
 
 -- the reading goes on, where the first test failed
-on : (c : tie.Else1) →
-    let a = c.before.before.before.args in
+on : (c : tie.Else-not-goes_on) →
+    let a = c.args in
     goes_on a.s.now a.c ≡ true
-on c = sym c.before.goes_on.ensures ∙ not-false _ c.if1.false
+on c = sym c.goes_on.ensures ∙ c.if-not-goes_on.false
 
-returns : tie.Need-returns
+returns : tie.Need-returns-then-not-goes_on
 returns c =
-    let a = c.before.before.before.args in
-    closed_off a.s.now a.c (sym c.before.goes_on.ensures ∙ not-true _ c.if1.true)
+    let a = c.args in
+    closed_off a.s.now a.c (sym c.goes_on.ensures ∙ c.if-not-goes_on.true)
 
 failing_requires : tie.Need-failing-requires
 failing_requires c κs =
-    let a = c.before.before.before.before.before.args in
+    let a = c.args in
     let e = on c.before.before in
-    omega (arith, on_within a.s.now a.c e, on_lines a.s.now a.c e, c.if2.true)
+    omega (arith, on_within a.s.now a.c e, on_lines a.s.now a.c e, c.if-c-s.true)
 
-returns_2 : tie.Need-returns-2
+returns_2 : tie.Need-returns-then-c-s
 returns_2 c =
-    let a = c.before.before.before.before.before.before.args in
-    closed_trailing a.s.now a.c c.failing.result (on c.before.before.before) c.before.if2.true c.failing.ensures
+    let a = c.args in
+    closed_trailing a.s.now a.c c.failing.result (on c.before.before.before) c.if-c-s.true c.failing.ensures
 
-returns_3 : tie.Need-returns-3
+returns_3 : tie.Need-returns
 returns_3 c =
-    let a = c.before.before.before.before.before.args in
-    closed_end a.s.now a.c (on c.before.before) c.if2.false
+    let a = c.args in
+    closed_end a.s.now a.c (on c.before.before) c.if-c-s.false
 
 pub finish_spec : {M : Type 1} → statement M
 finish_spec = tie.close (tie.spec (λ c κs. search rules) returns failing_requires returns_2 returns_3)

@@ -11,42 +11,39 @@ use Rattle.lines.proofs.Walks.{begins_long, begins_same, begins_other, begins_do
 use Rattle.lines.proofs.has_key.Statement.{statement}
 use Rattle.lines.proofs.has_key.Tie as tie
 
-abbrev invariant_loop : tie.invariant-loop
+abbrev invariant_loop : tie.invariant-loop-i
 invariant_loop s at key i₀ i = (i ≤ length key) × (at + length key ≤ length s) × (begins key (drop at s) ≡ begins (drop i key) (drop (at + i) s))
 
-abbrev decreases_loop : tie.decreases-loop
+abbrev decreases_loop : tie.decreases-loop-i
 decreases_loop s at key i₀ i = length key - i
 
-returns : tie.Need-returns invariant_loop decreases_loop
+returns : tie.Need-returns-then-s-at invariant_loop decreases_loop
 returns c =
-    let a = c.before.args in
-    sym (begins_long a.key.now (drop a.at a.s.now) (simp length-drop c.if1.true))
+    let a = c.args in
+    sym (begins_long a.key.now (drop a.at a.s.now) (simp length-drop c.if-s-at.true))
 
-loop_holds : tie.Need-loop-init invariant_loop decreases_loop
+loop_holds : tie.Need-loop-i-init invariant_loop decreases_loop
 loop_holds c = (omega arith, omega arith, rw add-zero)
 
-returns_2 : tie.Need-returns-2 invariant_loop decreases_loop
+returns_2 : tie.Need-returns-then-key-i invariant_loop decreases_loop
 returns_2 c =
-    let l = c.before.before.before.before in
-    let a = l.before.before.args in
-    sym (l.loop.invariant.2 ∙ begins_other a.key.now a.s.now l.loop.i (a.at + l.loop.i) (omega arith) (omega arith) c.if2.true)
+    let a = c.args in
+    sym (c.loop-i.invariant.2 ∙ begins_other a.key.now a.s.now c.loop-i.i (a.at + c.loop-i.i) (omega arith) (omega arith) c.if-key-i.true)
 
-loop_again : tie.Need-loop-preserved invariant_loop decreases_loop
+loop_again : tie.Need-loop-i-preserved invariant_loop decreases_loop
 loop_again c =
-    let l = c.before.before.before.before in
-    let a = l.before.before.args in (
+    let a = c.args in (
       omega arith,
       omega arith,
-      l.loop.invariant.2
-          ∙ begins_same a.key.now a.s.now l.loop.i (a.at + l.loop.i) (omega arith) (omega arith) c.if2.false
+      c.loop-i.invariant.2
+          ∙ begins_same a.key.now a.s.now c.loop-i.i (a.at + c.loop-i.i) (omega arith) (omega arith) c.if-key-i.false
           ∙ rw add_assoc,
     )
 
-returns_3 : tie.Need-returns-3 invariant_loop decreases_loop
+returns_3 : tie.Need-returns invariant_loop decreases_loop
 returns_3 c =
-    let l = c.before in
-    let a = l.before.before.args in
-    sym (l.loop.invariant.2 ∙ begins_done a.key.now a.s.now l.loop.i (a.at + l.loop.i) c.loop-test.false)
+    let a = c.args in
+    sym (c.loop-i.invariant.2 ∙ begins_done a.key.now a.s.now c.loop-i.i (a.at + c.loop-i.i) c.loop-i-test.false)
 
 pub has_key_spec : {M : Type 1} → statement M
 has_key_spec =

@@ -17,64 +17,63 @@ use Rattle.lines.proofs.read_decimal.Statement.{statement}
 use Rattle.lines.proofs.read_decimal.Tie as tie
 
 -- the reading goes on, where the first test failed, and the next line's number fits
-on : (c : tie.Else1) →
-    let a = c.before.before.before.before.args in
+on : (c : tie.Else-not-goes_on) →
+    let a = c.args in
     goes_on a.s.now a.c ≡ true
-on c = sym c.before.goes_on.ensures ∙ not-false _ c.if1.false
+on c = sym c.goes_on.ensures ∙ c.if-not-goes_on.false
 
-line_fits : (c : tie.Else1) → c.before.before.before.before.args.c.line < 9223372036854775808
+line_fits : (c : tie.Else-not-goes_on) → c.args.c.line < 9223372036854775808
 line_fits c =
-    let b = c.before.before.before.before in
-    omega (arith, on_within b.args.s.now b.args.c (on c), on_lines b.args.s.now b.args.c (on c), b.well-formed.0.1)
+    omega (arith, on_within c.args.s.now c.args.c (on c), on_lines c.args.s.now c.args.c (on c))
 
 -- what the line's reading says, at the answer that the match found
-told : (c : tie.After-read-ranged) (r : LineRead) → c.read-ranged.result ≡ r →
-    let a = c.before.before.before.before.before.args in
+told : (c : tie.After-read_ranged) (r : LineRead) → c.read_ranged.result ≡ r →
+    let a = c.args in
     LineSays a.s.now a.c.at r (parse_decimal a.key.now a.least a.greatest (drop a.c.at a.s.now))
 told c r e =
-    let a = c.before.before.before.before.before.args in
+    let a = c.args in
     subst (λ (x : LineRead). LineSays a.s.now a.c.at x (parse_decimal a.key.now a.least a.greatest (drop a.c.at a.s.now)))
-    e c.read-ranged.ensures
+    e c.read_ranged.ensures
 
-returns : tie.Need-returns
+returns : tie.Need-returns-then-not-goes_on
 returns c =
-    let a = c.before.before.before.before.args in
-    field_off a.s.now a.c (decimal a.key.now a.least a.greatest a.above) (sym c.before.goes_on.ensures ∙ not-true _ c.if1.true)
+    let a = c.args in
+    field_off a.s.now a.c (decimal a.key.now a.least a.greatest a.above) (sym c.goes_on.ensures ∙ c.if-not-goes_on.true)
 
-read_ranged_requires : tie.Need-read-ranged-requires
-read_ranged_requires c κs = let a = c.before.before.before.before.args in on_within a.s.now a.c (on c)
+read_ranged_requires : tie.Need-read_ranged-requires
+read_ranged_requires c κs = let a = c.args in on_within a.s.now a.c (on c)
 
-add_behind : tie.Need-overflow-add-behind
-add_behind c = omega (arith, line_fits c.before.before.before.before.before)
+add_behind : tie.Need-overflow_add-c
+add_behind c = omega (arith, line_fits c.before.before.before)
 
-failing_requires : tie.Need-failing-requires
-failing_requires c κs = omega (arith, line_fits c.before.before.before)
+failing_requires : tie.Need-failing-cursor-requires
+failing_requires c κs = omega (arith, line_fits c.before.before)
 
-failing_requires_2 : tie.Need-failing-requires-2
-failing_requires_2 c κs = omega (arith, line_fits c.before.before.before)
+failing_requires_2 : tie.Need-failing-cursor-requires-in-Fault
+failing_requires_2 c κs = omega (arith, line_fits c.before.before)
 
-returns_2 : tie.Need-returns-2
+returns_2 : tie.Need-returns-in-Value
 returns_2 c =
-    let r = c.before.before.before.before.before in
-    let a = r.before.before.before.before.before.args in
-    let f = c.before.before.before.value.given in
-    let t = told r _ f.1 in
-    field_behind a.s.now a.c (decimal a.key.now a.least a.greatest a.above) (on r.before) f.0.0 f.0.1.0
-    c.behind.result t.0 t.1 t.2 c.behind.ensures
+    let r = c.before.before.before in
+    let a = c.args in
+    let v = c.in-Value in
+    let t = told r _ v.is in
+    field_behind a.s.now a.c (decimal a.key.now a.least a.greatest a.above) (on r.before) v.value v.next
+    c.behind-cursor.result t.0 t.1 t.2 c.behind-cursor.ensures
 
-returns_3 : tie.Need-returns-3
+returns_3 : tie.Need-returns-in-Over
 returns_3 c =
-    let r = c.before.before.before in
-    let a = r.before.before.before.before.before.args in
-    field_over a.s.now a.c (decimal a.key.now a.least a.greatest a.above) (on r.before) c.failing.result
-    (told r _ c.before.enum_told.given.1) c.failing.ensures
+    let r = c.before.before in
+    let a = c.args in
+    field_over a.s.now a.c (decimal a.key.now a.least a.greatest a.above) (on r.before) c.failing-cursor.result
+    (told r _ c.in-Over.is) c.failing-cursor.ensures
 
-returns_4 : tie.Need-returns-4
+returns_4 : tie.Need-returns-in-Fault
 returns_4 c =
-    let r = c.before.before.before in
-    let a = r.before.before.before.before.before.args in
-    field_fault a.s.now a.c (decimal a.key.now a.least a.greatest a.above) (on r.before) c.failing2.result
-    (told r _ c.before.enum-told2.given.1) c.failing2.ensures
+    let r = c.before.before in
+    let a = c.args in
+    field_fault a.s.now a.c (decimal a.key.now a.least a.greatest a.above) (on r.before) c.failing-cursor-in-Fault.result
+    (told r _ c.in-Fault.is) c.failing-cursor-in-Fault.ensures
 
 pub read_decimal_spec : {M : Type 1} → statement M
 read_decimal_spec =

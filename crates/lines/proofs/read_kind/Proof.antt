@@ -10,10 +10,12 @@ use Rattle.lines.proofs.read_kind.Tie as tie
 
 returns : tie.Need-returns
 returns c =
-    let a = c.before.before.before.before.args in
+    let a = c.args in
     subst (λ (read : Read ℕ). FieldSays a.s.now c.read_word.result read) (kind_word (state_of a.s.now a.c)) c.read_word.ensures
 
 pub read_kind_spec : {M : Type 1} → statement M
 read_kind_spec =
     tie.close
-    (tie.spec (λ c. search rules) (λ c. search rules) (λ c κs. search rules) returns)
+    (tie.spec
+    (λ c κs. search rules)
+    returns)

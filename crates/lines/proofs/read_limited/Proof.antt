@@ -16,88 +16,76 @@ use Rattle.lines.proofs.read_limited.Statement.{statement}
 use Rattle.lines.proofs.read_limited.Tie as tie
 
 -- the key stands there, where the first test failed
-keyed : (c : tie.Else1) →
-    let a = c.before.before.before.before.args in
+keyed : (c : tie.Else-not-has_key) →
+    let a = c.args in
     begins a.key.now (drop a.at a.s.now) ≡ true
-keyed c = sym c.before.has_key_lem.ensures ∙ not-false _ c.if1.false
+keyed c = sym c.has_key.ensures ∙ c.if-not-has_key.false
 
 -- what the number's reading says, at the answer that the match found
-told : (c : tie.After-read-number) (r : Number) → c.read_number.result ≡ r →
-    let a = c.before.before.before.before.before.args in
+told : (c : tie.After-read_number) (r : Number) → c.read_number.result ≡ r →
+    let a = c.args in
     Says a.s.now r (parse a.greatest (drop (a.at + length a.key.now) a.s.now))
 told c r e =
-    let a = c.before.before.before.before.before.args in
+    let a = c.args in
     subst (λ (x : Number). Says a.s.now x (parse a.greatest (drop (a.at + length a.key.now) a.s.now))) e c.read_number.ensures
 
 -- the line, from what the number's reading says
-on : (c : tie.After-read-number) (p : Parsed) →
-    let a = c.before.before.before.before.before.args in
+on : (c : tie.After-read_number) (p : Parsed) →
+    let a = c.args in
     parse a.greatest (drop (a.at + length a.key.now) a.s.now) ≡ p → parse_limited a.key.now a.greatest (drop a.at a.s.now) ≡ ended p
 on c p e =
-    let a = c.before.before.before.before.before.args in
+    let a = c.args in
     limited_on a.key.now a.s.now a.greatest a.at p (keyed c.before) e
 
-returns : tie.Need-returns
+returns : tie.Need-returns-then-not-has_key
 returns c =
-    let a = c.before.before.before.before.args in
-    limited_none a.key.now a.s.now a.greatest a.at (sym c.before.has_key_lem.ensures ∙ not-true _ c.if1.true)
+    let a = c.args in
+    limited_none a.key.now a.s.now a.greatest a.at (sym c.has_key.ensures ∙ c.if-not-has_key.true)
 
 -- the line that LF ends lies behind the position that it begins at
-returns_2 : tie.Need-returns-2
+returns_2 : tie.Need-returns-then-s-next-eq-LINE_FEED
 returns_2 c =
-    let k = c.before.before.before.before in
-    let r = k.before.before in
-    let a = r.before.before.before.before.before.args in
-    let f = k.n.given in
-    let next = f.0.1.0 in
-    let inside = c.before.before.if2.true in
-    let read = on r _ (told r _ f.1).0 ∙ ended_got a.s.now next f.0.0 inside c.if3.true in
-    (read, omega arith, limited_behind a.key.now a.s.now a.greatest a.at f.0.0 (next + 1) (omega arith) read)
+    let r = c.before.before.before.before in
+    let a = c.args in
+    let v = c.in-Value in
+    let inside = c.if-next-s.true in
+    let read = on r _ (told r _ v.is).0 ∙ ended_got a.s.now v.next v.n inside c.if-s-next-eq-LINE_FEED.true in
+    (read, omega arith, limited_behind a.key.now a.s.now a.greatest a.at v.n (v.next + 1) (omega arith) read)
 
-returns_3 : tie.Need-returns-3
+returns_3 : tie.Need-returns-then-s-next-eq-LINE_FEED-2
 returns_3 c =
-    let k = c.before.before.before.before in
-    let r = k.before.before in
-    let s = r.before.before.before.before.before.args.s.now in
-    let f = k.next.given in
-    on r _ (told r _ f.1).0 ∙ ended_large s f.0.0 c.before.before.if4.true c.if5.true
+    let r = c.before.before.before.before in
+    let v = c.in-Large in
+    on r _ (told r _ v.is).0 ∙ ended_large c.args.s.now v.next c.if-next-s-2.true c.if-s-next-eq-LINE_FEED-2.true
 
-returns_4 : tie.Need-returns-4
+returns_4 : tie.Need-returns-else-s-next-eq-LINE_FEED
 returns_4 c =
-    let k = c.before.before.before.before in
-    let r = k.before.before in
-    let s = r.before.before.before.before.before.args.s.now in
-    let f = k.n.given in
-    on r _ (told r _ f.1).0 ∙ ended_got_other s f.0.1.0 f.0.0 c.before.before.if2.true c.if3.false
+    let r = c.before.before.before.before in
+    let v = c.in-Value in
+    on r _ (told r _ v.is).0 ∙ ended_got_other c.args.s.now v.next v.n c.if-next-s.true c.if-s-next-eq-LINE_FEED.false
 
-returns_5 : tie.Need-returns-5
+returns_5 : tie.Need-returns-else-next-s
 returns_5 c =
-    let k = c.before.before in
-    let r = k.before.before in
-    let s = r.before.before.before.before.before.args.s.now in
-    let f = k.n.given in
-    on r _ (told r _ f.1).0 ∙ ended_got_past s f.0.1.0 f.0.0 c.if2.false
-
-returns_6 : tie.Need-returns-6
-returns_6 c =
-    let k = c.before.before.before.before in
-    let r = k.before.before in
-    let s = r.before.before.before.before.before.args.s.now in
-    let f = k.next.given in
-    on r _ (told r _ f.1).0 ∙ ended_large_other s f.0.0 c.before.before.if4.true c.if5.false
-
-returns_7 : tie.Need-returns-7
-returns_7 c =
-    let k = c.before.before in
-    let r = k.before.before in
-    let s = r.before.before.before.before.before.args.s.now in
-    let f = k.next.given in
-    on r _ (told r _ f.1).0 ∙ ended_large_past s f.0.0 c.if4.false
-
-returns_8 : tie.Need-returns-8
-returns_8 c =
     let r = c.before.before in
-    on r _ (told r _ c.enum_told.given.1) ∙ ended_bad
+    let v = c.in-Value in
+    on r _ (told r _ v.is).0 ∙ ended_got_past c.args.s.now v.next v.n c.if-next-s.false
+
+returns_6 : tie.Need-returns-else-s-next-eq-LINE_FEED-2
+returns_6 c =
+    let r = c.before.before.before.before in
+    let v = c.in-Large in
+    on r _ (told r _ v.is).0 ∙ ended_large_other c.args.s.now v.next c.if-next-s-2.true c.if-s-next-eq-LINE_FEED-2.false
+
+returns_7 : tie.Need-returns-else-next-s-2
+returns_7 c =
+    let r = c.before.before in
+    let v = c.in-Large in
+    on r _ (told r _ v.is).0 ∙ ended_large_past c.args.s.now v.next c.if-next-s-2.false
+
+returns_8 : tie.Need-returns-in-Bad
+returns_8 c =
+    let r = c.before in
+    on r _ (told r _ c.in-Bad.is) ∙ ended_bad
 
 pub read_limited_spec : {M : Type 1} → statement M
 read_limited_spec =

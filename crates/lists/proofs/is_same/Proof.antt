@@ -9,37 +9,34 @@ use Rattle.lists.specs.Same.{same_lengths, same_next, same_other, same_done}
 use Rattle.lists.proofs.is_same.Statement.{statement}
 use Rattle.lists.proofs.is_same.Tie as tie
 
-abbrev invariant_loop : tie.invariant-loop
+abbrev invariant_loop : tie.invariant-loop-i
 invariant_loop a b i₀ i = (length a ≡ length b) × (i ≤ length a) × (same a b ≡ same (drop i a) (drop i b))
 
-abbrev decreases_loop : tie.decreases-loop
+abbrev decreases_loop : tie.decreases-loop-i
 decreases_loop a b i₀ i = length a - i
 
-returns : tie.Need-returns invariant_loop decreases_loop
+returns : tie.Need-returns-then-a-b invariant_loop decreases_loop
 returns c =
-    let a = c.before.args in
-    sym (same_lengths a.a.now a.b.now c.if1.true)
+    let a = c.args in
+    sym (same_lengths a.a.now a.b.now c.if-a-b.true)
 
-loop_holds : tie.Need-loop-init invariant_loop decreases_loop
-loop_holds c = (c.if1.false, omega arith, refl)
+loop_holds : tie.Need-loop-i-init invariant_loop decreases_loop
+loop_holds c = (c.if-a-b.false, omega arith, refl)
 
-returns_2 : tie.Need-returns-2 invariant_loop decreases_loop
+returns_2 : tie.Need-returns-then-a-i invariant_loop decreases_loop
 returns_2 c =
-    let l = c.before.before.before.before in
-    let a = l.before.before.args in
-    sym (l.loop.invariant.2 ∙ same_other a.a.now a.b.now l.loop.i (omega arith) (omega arith) c.if2.true)
+    let a = c.args in
+    sym (c.loop-i.invariant.2 ∙ same_other a.a.now a.b.now c.loop-i.i (omega arith) (omega arith) c.if-a-i.true)
 
-loop_again : tie.Need-loop-preserved invariant_loop decreases_loop
+loop_again : tie.Need-loop-i-preserved invariant_loop decreases_loop
 loop_again c =
-    let l = c.before.before.before.before in
-    let a = l.before.before.args in
-    (omega arith, omega arith, l.loop.invariant.2 ∙ same_next a.a.now a.b.now l.loop.i (omega arith) (omega arith) c.if2.false)
+    let a = c.args in
+    (omega arith, omega arith, c.loop-i.invariant.2 ∙ same_next a.a.now a.b.now c.loop-i.i (omega arith) (omega arith) c.if-a-i.false)
 
-returns_3 : tie.Need-returns-3 invariant_loop decreases_loop
+returns_3 : tie.Need-returns invariant_loop decreases_loop
 returns_3 c =
-    let l = c.before in
-    let a = l.before.before.args in
-    sym (l.loop.invariant.2 ∙ same_done a.a.now a.b.now l.loop.i (omega arith) (omega arith))
+    let a = c.args in
+    sym (c.loop-i.invariant.2 ∙ same_done a.a.now a.b.now c.loop-i.i (omega arith) (omega arith))
 
 pub is_same_spec : {M : Type 1} → statement M
 is_same_spec =

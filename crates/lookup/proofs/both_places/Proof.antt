@@ -14,52 +14,47 @@ use Rattle.lookup.proofs.Seeking.{sought_below}
 use Rattle.lookup.proofs.both_places.Statement.{statement}
 use Rattle.lookup.proofs.both_places.Tie as tie
 
-abbrev invariant_loop : tie.invariant-loop
+abbrev invariant_loop : tie.invariant-loop-i
 invariant_loop column n wanted other m below table long top places₀ i₀ places i =
     Filling (λ j. place_number claim_limit (latest_place column (min n claim_limit) (get_or wanted j 0))) top i places.first
     × Filling (λ j. place_number claim_limit (latest_place column (min n claim_limit) (get_or other j 0))) top i places.second
     × (places.distinct ≡ table.distinct)
 
-abbrev decreases_loop : tie.decreases-loop
+abbrev decreases_loop : tie.decreases-loop-i
 decreases_loop column n wanted other m below table long top places₀ i₀ places i = top - i
 
-loop_holds : tie.Need-loop-init invariant_loop decreases_loop
+loop_holds : tie.Need-loop-i-init invariant_loop decreases_loop
 loop_holds c = (empty (omega arith) refl, empty (omega arith) refl, refl)
 
 seek_requires : tie.Need-seek-requires invariant_loop decreases_loop
 seek_requires c κs =
-    let made = c.before.before.before.before.before.before.before.before.before.before.before in
-    sought_below made.tabulate.ensures.0 (omega arith) (omega arith)
+    sought_below c.tabulate-table.ensures.0 (omega arith) (omega arith)
 
-seek_requires_2 : tie.Need-seek-requires-2 invariant_loop decreases_loop
+seek_requires_2 : tie.Need-seek-requires-in-loop-i invariant_loop decreases_loop
 seek_requires_2 c κs =
-    let made = c.before.before.before.before.before.before.before.before.before.before.before.before.before.before.before.before.before.before in
-    sought_below made.tabulate.ensures.0 (omega arith) (omega arith)
+    sought_below c.tabulate-table.ensures.0 (omega arith) (omega arith)
 
-loop_less : tie.Need-loop-smaller invariant_loop decreases_loop
-loop_less c = less _ _ c.before.before.before.before.before.before.before.before.before.before.before.before.before.before.loop-test.true
+loop_less : tie.Need-loop-i-smaller invariant_loop decreases_loop
+loop_less c = less _ _ c.loop-i-test.true
 
-loop_again : tie.Need-loop-preserved invariant_loop decreases_loop
+loop_again : tie.Need-loop-i-preserved invariant_loop decreases_loop
 loop_again c =
-    let turn = c.before.before.before.before.before.before.before.before.before.before.before.before.before.before in
-    let first = turn.before.before.before.before.before.before in
-    let inv = turn.before.loop.invariant in (
-      fill inv.0 c.before.before.before.before.before.before.before.seek.result turn.loop-test.true (rw first.least.ensures at c.before.before.before.before.before.before.before.seek.ensures),
-      fill inv.1 c.seek2.result turn.loop-test.true (rw first.least.ensures at c.seek2.ensures),
+    let inv = c.loop-i.invariant in (
+      fill inv.0 c.seek.result c.loop-i-test.true (rw c.least-below.ensures at c.seek.ensures),
+      fill inv.1 c.seek-in-loop-i.result c.loop-i-test.true (rw c.least-below.ensures at c.seek-in-loop-i.ensures),
       inv.2,
     )
 
 returns : tie.Need-returns invariant_loop decreases_loop
 unfolding both_places places_of
 returns c =
-    let entry = c.before.before.before.before.before.before.before.before.before.before.args in
-    let inv = c.before.loop.invariant in
-    let made = c.before.before.before.before.before in
-    let all : min made.before.least.result claim_limit ≡ min entry.n claim_limit = omega arith in
-    let told = inv.2 ∙ made.tabulate.ensures.1 ∙ ap (λ k. distinct (take k entry.column.now)) all in
-    let top = c.before.before.least4.result in
-    let most = c.before.before.least4.ensures ∙ ap (min entry.m) (c.before.before.before.least3.ensures ∙ ap (min claim_limit) c.before.before.before.before.least2.ensures) in
-    rw (full inv.0 c.loop-test.false, full inv.1 c.loop-test.false, told, asked_first entry.m entry.wanted.now entry.other.now top most, asked_second entry.m entry.wanted.now entry.other.now top most)
+    let entry = c.args in
+    let inv = c.loop-i.invariant in
+    let all : min c.least-below.result claim_limit ≡ min entry.n claim_limit = omega arith in
+    let told = inv.2 ∙ c.tabulate-table.ensures.1 ∙ ap (λ k. distinct (take k entry.column.now)) all in
+    let top = c.least-top.result in
+    let most = c.least-top.ensures ∙ ap (min entry.m) (c.least.ensures ∙ ap (min claim_limit) c.least-long.ensures) in
+    rw (full inv.0 c.loop-i-test.false, full inv.1 c.loop-i-test.false, told, asked_first entry.m entry.wanted.now entry.other.now top most, asked_second entry.m entry.wanted.now entry.other.now top most)
 
 pub both_places_spec : {M : Type 1} → statement M
 both_places_spec =

@@ -14,36 +14,33 @@ use Rattle.lookup.proofs.Seeking.{sought_below}
 use Rattle.lookup.proofs.earlier_places.Statement.{statement}
 use Rattle.lookup.proofs.earlier_places.Tie as tie
 
-abbrev invariant_loop : tie.invariant-loop
+abbrev invariant_loop : tie.invariant-loop-i
 invariant_loop column wanted m top table found₀ i₀ found i =
     Filling (λ j. place_number claim_limit (latest_place column j (get_or wanted j 0))) top i found.places × (found.distinct ≡ table.distinct)
 
-abbrev decreases_loop : tie.decreases-loop
+abbrev decreases_loop : tie.decreases-loop-i
 decreases_loop column wanted m top table found₀ i₀ found i = top - i
 
-loop_holds : tie.Need-loop-init invariant_loop decreases_loop
+loop_holds : tie.Need-loop-i-init invariant_loop decreases_loop
 loop_holds c = (empty (omega arith) refl, refl)
 
 seek_requires : tie.Need-seek-requires invariant_loop decreases_loop
 seek_requires c κs =
-    let made = c.before.before.before.before.before.before.before.before in
-    sought_below made.tabulate.ensures.0 (omega arith) (omega arith)
+    sought_below c.tabulate-table.ensures.0 (omega arith) (omega arith)
 
-loop_again : tie.Need-loop-preserved invariant_loop decreases_loop
+loop_again : tie.Need-loop-i-preserved invariant_loop decreases_loop
 loop_again c =
-    let turn = c.before.before.before.before.before.before.before in
-    let inv = turn.before.loop.invariant in
-    (fill inv.0 c.seek.result turn.loop-test.true c.seek.ensures, inv.1)
+    let inv = c.loop-i.invariant in
+    (fill inv.0 c.seek.result c.loop-i-test.true c.seek.ensures, inv.1)
 
 returns : tie.Need-returns invariant_loop decreases_loop
 unfolding earlier_found earlier_places
 returns c =
-    let made = c.before.before in
-    let entry = made.before.before.before.before.before.args in
-    let inv = c.before.loop.invariant in
-    let all : min made.before.least2.result claim_limit ≡ asked entry.m entry.wanted.now = omega arith in
-    let told = inv.1 ∙ made.tabulate.ensures.1 ∙ ap (λ k. distinct (take k entry.column.now)) all in
-    rw (full inv.0 c.loop-test.false, told, made.before.least2.ensures, made.before.before.least.ensures)
+    let entry = c.args in
+    let inv = c.loop-i.invariant in
+    let all : min c.least-top.result claim_limit ≡ asked entry.m entry.wanted.now = omega arith in
+    let told = inv.1 ∙ c.tabulate-table.ensures.1 ∙ ap (λ k. distinct (take k entry.column.now)) all in
+    rw (full inv.0 c.loop-i-test.false, told, c.least-top.ensures, c.least.ensures)
 
 pub earlier_places_spec : {M : Type 1} → statement M
 earlier_places_spec =

@@ -14,38 +14,34 @@ use Rattle.lookup.proofs.Seeking.{sought_below}
 use Rattle.lookup.proofs.places_of.Statement.{statement}
 use Rattle.lookup.proofs.places_of.Tie as tie
 
-abbrev invariant_loop : tie.invariant-loop
+abbrev invariant_loop : tie.invariant-loop-i
 invariant_loop column n wanted m below table top found₀ i₀ found i =
     Filling (λ j. place_number claim_limit (latest_place column (min n claim_limit) (get_or wanted j 0))) top i found.places
     × (found.distinct ≡ table.distinct)
 
-abbrev decreases_loop : tie.decreases-loop
+abbrev decreases_loop : tie.decreases-loop-i
 decreases_loop column n wanted m below table top found₀ i₀ found i = top - i
 
-loop_holds : tie.Need-loop-init invariant_loop decreases_loop
+loop_holds : tie.Need-loop-i-init invariant_loop decreases_loop
 loop_holds c = (empty (omega arith) refl, refl)
 
 seek_requires : tie.Need-seek-requires invariant_loop decreases_loop
 seek_requires c κs =
-    let made = c.before.before.before.before.before.before.before.before.before.before in
-    sought_below made.tabulate.ensures.0 (omega arith) (omega arith)
+    sought_below c.tabulate-table.ensures.0 (omega arith) (omega arith)
 
-loop_again : tie.Need-loop-preserved invariant_loop decreases_loop
+loop_again : tie.Need-loop-i-preserved invariant_loop decreases_loop
 loop_again c =
-    let turn = c.before.before.before.before.before.before.before in
-    let first = turn.before.before.before.before.before in
-    let inv = turn.before.loop.invariant in
-    (fill inv.0 c.seek.result turn.loop-test.true (rw first.least.ensures at c.seek.ensures), inv.1)
+    let inv = c.loop-i.invariant in
+    (fill inv.0 c.seek.result c.loop-i-test.true (rw c.least-below.ensures at c.seek.ensures), inv.1)
 
 returns : tie.Need-returns invariant_loop decreases_loop
 unfolding places_found places_of
 returns c =
-    let first = c.before.before.before.before in
-    let entry = first.before.before.before.before.args in
-    let inv = c.before.loop.invariant in
-    let all : min first.before.least.result claim_limit ≡ min entry.n claim_limit = omega arith in
-    let told = inv.1 ∙ first.tabulate.ensures.1 ∙ ap (λ k. distinct (take k entry.column.now)) all in
-    rw (full inv.0 c.loop-test.false, told, c.before.before.least3.ensures, c.before.before.before.least2.ensures)
+    let entry = c.args in
+    let inv = c.loop-i.invariant in
+    let all : min c.least-below.result claim_limit ≡ min entry.n claim_limit = omega arith in
+    let told = inv.1 ∙ c.tabulate-table.ensures.1 ∙ ap (λ k. distinct (take k entry.column.now)) all in
+    rw (full inv.0 c.loop-i-test.false, told, c.least-top.ensures, c.least.ensures)
 
 pub places_of_spec : {M : Type 1} → statement M
 places_of_spec =

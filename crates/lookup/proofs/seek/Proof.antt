@@ -9,34 +9,31 @@ use Rattle.lookup.proofs.Seeking.{Seeking, seeking_start, seeking_linked, seekin
 use Rattle.lookup.proofs.seek.Statement.{statement}
 use Rattle.lookup.proofs.seek.Tie as tie
 
-abbrev invariant_loop : tie.invariant-loop
+abbrev invariant_loop : tie.invariant-loop-link
 invariant_loop heads nexts column below x link₀ link = Seeking column heads nexts below x link
 
-abbrev decreases_loop : tie.decreases-loop
+abbrev decreases_loop : tie.decreases-loop-link
 decreases_loop heads nexts column below x link₀ link = link
 
-loop_holds : tie.Need-loop-init invariant_loop decreases_loop
-loop_holds c = rw c.before.bucket-of.ensures (seeking_start c.before.before.before.before.before.requires)
+loop_holds : tie.Need-loop-link-init invariant_loop decreases_loop
+loop_holds c = rw c.bucket_of.ensures (seeking_start c.requires)
 
-returns : tie.Need-returns invariant_loop decreases_loop
+returns : tie.Need-returns-then-at-below invariant_loop decreases_loop
 returns c =
-    let turn = c.before.before in
-    sym (ap (place_number claim_limit) (seeking_hit (seeking_linked turn.loop-test.true turn.before.loop.invariant) c.if1.true))
+    sym (ap (place_number claim_limit) (seeking_hit (seeking_linked c.loop-link-test.true c.loop-link.invariant) c.if-at-below.true))
 
-loop_less : tie.Need-loop-smaller invariant_loop decreases_loop
+loop_less : tie.Need-loop-link-smaller invariant_loop decreases_loop
 loop_less c =
-    let turn = c.before.before.before in
-    omega (arith, seeking_less (seeking_linked turn.loop-test.true turn.before.loop.invariant))
+    omega (arith, seeking_less (seeking_linked c.loop-link-test.true c.loop-link.invariant))
 
-loop_again : tie.Need-loop-preserved invariant_loop decreases_loop
+loop_again : tie.Need-loop-link-preserved invariant_loop decreases_loop
 loop_again c =
-    let turn = c.before.before.before in
-    seeking_next (seeking_linked turn.loop-test.true turn.before.loop.invariant) c.before.if1.false
+    seeking_next (seeking_linked c.loop-link-test.true c.loop-link.invariant) c.if-at-below.false
 
-returns_2 : tie.Need-returns-2 invariant_loop decreases_loop
+returns_2 : tie.Need-returns invariant_loop decreases_loop
 returns_2 c =
-    let none : c.before.loop.link ≡ 0 = omega arith in
-    sym (ap (place_number claim_limit) (seeking_done (rw none at c.before.loop.invariant)))
+    let none : c.loop-link.link ≡ 0 = omega arith in
+    sym (ap (place_number claim_limit) (seeking_done (rw none at c.loop-link.invariant)))
 
 pub seek_spec : {M : Type 1} → statement M
 seek_spec =

@@ -6,9 +6,8 @@ use Rattle.nested_plans.proofs.action_at.Tie as tie
 
 returns : tie.Need-returns
 returns c =
-    let l = c.before in
-    let a = l.before.before.before.args in
-    read_there a.text.now a.at l.before.behind.result l.read-lines.result.cursor l.read-lines.result.action l.before.behind.ensures l.read-lines.ensures
+    let a = c.args in
+    read_there a.text.now a.at c.behind.result c.read_lines-form.result.cursor c.read_lines-form.result.action c.behind.ensures c.read_lines-form.ensures
 
 pub action_at_spec : {M : Type 1} → statement M
 action_at_spec =

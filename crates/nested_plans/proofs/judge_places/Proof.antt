@@ -9,30 +9,28 @@ use borrow.Author.Rules.{rules}
 use Rattle.nested_plans.proofs.judge_places.Statement.{statement}
 use Rattle.nested_plans.proofs.judge_places.Tie as tie
 
-abbrev invariant_loop : tie.invariant-loop
+abbrev invariant_loop : tie.invariant-loop-i
 invariant_loop counts lens ends sheet bytes text found p list₀ flagged₀ i₀ list flagged i =
     Judging (lent_of counts found lens ends sheet bytes) found.actors.names counts.actors text p list flagged i
 
-abbrev decreases_loop : tie.decreases-loop
+abbrev decreases_loop : tie.decreases-loop-i
 decreases_loop counts lens ends sheet bytes text found p list₀ flagged₀ i₀ list flagged i = p.count - i
 
-loop_holds : tie.Need-loop-init invariant_loop decreases_loop
-loop_holds c = judging_start c.before.before.before.before.before.before.requires (search (rules, length_mapped)) c.no-verdicts.ensures
+loop_holds : tie.Need-loop-i-init invariant_loop decreases_loop
+loop_holds c = judging_start c.requires (search (rules, length_mapped)) c.no_verdicts-list.ensures
 
-returns : tie.Need-returns invariant_loop decreases_loop
+returns : tie.Need-returns-in-Refused invariant_loop decreases_loop
 returns c =
-    let turn = c.before.before.before.before.before.before.before.before.before.before in
     c.stopped.ensures
-    ∙ judging_stop turn.before.loop.invariant turn.loop-test.true c.before.before.before.before.before.before.before.before.action-at.ensures c.before.before.before.before.action_outcome.ensures c.before.before.outcome.given.1
+    ∙ judging_stop c.loop-i.invariant c.loop-i-test.true c.action_at-a.ensures c.action_outcome-outcome.ensures c.in-Refused.is
 
-loop_again : tie.Need-loop-preserved invariant_loop decreases_loop
+loop_again : tie.Need-loop-i-preserved invariant_loop decreases_loop
 loop_again c =
-    let turn = c.before.before.before.before.before.before.before.before.before.before in
-    judging_next turn.before.loop.invariant turn.loop-test.true c.before.before.before.before.before.before.before.before.action-at.ensures c.before.before.before.before.action_outcome.ensures
-    c.before.before.enum_told.given.1 c.before.judge.ensures
+    judging_next c.loop-i.invariant c.loop-i-test.true c.action_at-a.ensures c.action_outcome-outcome.ensures
+    c.in-Accepted.is c.judge-what.ensures
 
-returns_2 : tie.Need-returns-2 invariant_loop decreases_loop
-returns_2 c = judging_done c.before.loop.invariant c.loop-test.false
+returns_2 : tie.Need-returns invariant_loop decreases_loop
+returns_2 c = judging_done c.loop-i.invariant c.loop-i-test.false
 
 pub judge_places_spec : {M : Type 1} → statement M
 judge_places_spec =

@@ -3,7 +3,6 @@
 use mathlib.Core.Path.{◌≡◌, sym, ◌∙◌}
 use lib.ListN.{length, drop}
 use Prim.Native.Nat.{◌+◌}
-use borrow.Author.Tests.{not-true, not-false}
 use Rattle.lists.specs.Loops.{length_mapped}
 use Rattle.lists.specs.Lists.{All}
 use Rattle.register.specs.Limits.{actor_limit, resource_limit, claim_limit, path_limit}
@@ -33,56 +32,45 @@ shaped : (s : tie.Start) → All (λ o. length o.path ≡ path_limit) s.args.r.r
 shaped s sized = record { actors = actors_long s; resources = resources_long s; claims = claims_long s; paths = sized }
 
 -- the reading of the text goes on, where the first test failed
-goes : (e : tie.Else1) →
-    let s = e.before.before.before.before.before in
-    let cursor = e.before.before.before.read-text.result.cursor in
-    state_of s.args.text.now cursor ≡ going (drop cursor.at s.args.text.now) (cursor.line + 1)
+goes : (e : tie.Else-not-goes_on) →
+    let cursor = e.read_text-places.result.cursor in
+    state_of e.args.text.now cursor ≡ going (drop cursor.at e.args.text.now) (cursor.line + 1)
 goes e =
-    let s = e.before.before.before.before.before in
-    stands_going s.args.text.now e.before.before.before.read-text.result.cursor (sym e.before.goes_on.ensures ∙ not-false _ e.if1.false)
+    stands_going e.args.text.now e.read_text-places.result.cursor (sym e.goes_on.ensures ∙ e.if-not-goes_on.false)
 
-returns : tie.Need-returns
+returns : tie.Need-returns-then-not-goes_on
 returns c =
-    let s = c.before.before.before.before.before.before in
-    let a = s.args in
-    let read = c.before.before.before.before.read-text in
+    let a = c.args in
+    let read = c.read_text-places in
     let cursor = read.result.cursor in
-    let halted = stands_failed a.text.now cursor (sym c.before.before.goes_on.ensures ∙ not-true _ c.before.if1.true) in
+    let halted = stands_failed a.text.now cursor (sym c.goes_on.ensures ∙ c.if-not-goes_on.true) in
     c.stopped.ensures ∙ text_fails a.r a.text.now read.result read.ensures cursor.refusal cursor.line halted
 
-returns_2 : tie.Need-returns-2
+returns_2 : tie.Need-returns-then-not-found
 returns_2 c =
-    let opened = c.before.before.before in
-    let e = opened.before.before.before.before.before in
-    let s = e.before.before.before.before.before in
-    let a = s.args in
-    let read = e.before.before.before.read-text in
-    let found = opened.examine.ensures in
-    let soundly = found_sound a.r (claims_long s) found.0 found.1 in
-    c.stopped2.ensures
-    ∙ stop_unsound a.r (claims_long s) (actions_at a.text.now read.result) (sym soundly ∙ not-true opened.examine.result.sound c.before.if2.true)
-    ∙ sym (text_reads a.r a.text.now read.result read.ensures _ _ (goes e))
+    let a = c.args in
+    let read = c.read_text-places in
+    let found = c.examine-found.ensures in
+    let soundly = found_sound a.r (claims_long c.before.before.before.before.before.before.before.before.before.before.before.before.before) found.0 found.1 in
+    c.stopped-then-not-found.ensures
+    ∙ stop_unsound a.r (claims_long c.before.before.before.before.before.before.before.before.before.before.before.before.before) (actions_at a.text.now read.result) (sym soundly ∙ c.if-not-found.true)
+    ∙ sym (text_reads a.r a.text.now read.result read.ensures _ _ (goes c.before.before.before.before.before.before.before.before))
 
-judge_places_requires : tie.Need-judge-places-requires
-judge_places_requires c κs = c.before.before.before.before.before.before.before.before.before.before.before.before.before.before.before.before.before.before.before.before.before.before.read-text.ensures.room
+judge_places_requires : tie.Need-judge_places-requires
+judge_places_requires c κs = c.read_text-places.ensures.room
 
-returns_3 : tie.Need-returns-3
+returns_3 : tie.Need-returns
 returns_3 c =
-    let ending = c.before.before.before.before.before in
-    let laying = ending.before.before.before.before.before.before in
-    let opened = laying.before.before.before.before in
-    let e = opened.before.before.before.before.before in
-    let s = e.before.before.before.before.before in
-    let a = s.args in
-    let read = e.before.before.before.read-text in
+    let a = c.args in
+    let read = c.read_text-places in
     let actions = actions_at a.text.now read.result in
-    let found = opened.examine.ensures in
-    let h = sym (found_sound a.r (claims_long s) found.0 found.1) ∙ not-false opened.examine.result.sound laying.before.before.if2.false in
-    let paths = laid_zeros a.r.resources laying.lay.ensures.0 laying.lay.ensures.1.0 in
-    let lent = lent_told a.r (claims_long s) found.0 found.1 paths.1 ending.claim-ends.ensures paths.0 in
-    judged_lent a.r (claims_long s) actions (shaped s laying.lay.ensures.1.1) h
-    (text_few a.r a.text.now read.result read.ensures _ _ (goes e)) lent c.judge-places.ensures
-    ∙ sym (text_reads a.r a.text.now read.result read.ensures _ _ (goes e))
+    let found = c.examine-found.ensures in
+    let h = sym (found_sound a.r (claims_long c.before.before.before.before.before.before.before.before.before.before.before.before.before.before.before.before.before.before.before.before.before.before.before.before) found.0 found.1) ∙ c.if-not-found.false in
+    let paths = laid_zeros a.r.resources c.lay-lens.ensures.0 c.lay-lens.ensures.1.0 in
+    let lent = lent_told a.r (claims_long c.before.before.before.before.before.before.before.before.before.before.before.before.before.before.before.before.before.before.before.before.before.before.before.before) found.0 found.1 paths.1 c.claim_ends-ends.ensures paths.0 in
+    judged_lent a.r (claims_long c.before.before.before.before.before.before.before.before.before.before.before.before.before.before.before.before.before.before.before.before.before.before.before.before) actions (shaped c.before.before.before.before.before.before.before.before.before.before.before.before.before.before.before.before.before.before.before.before.before.before.before.before c.lay-lens.ensures.1.1) h
+    (text_few a.r a.text.now read.result read.ensures _ _ (goes c.before.before.before.before.before.before.before.before.before.before.before.before.before.before.before.before.before.before.before)) lent c.judge_places.ensures
+    ∙ sym (text_reads a.r a.text.now read.result read.ensures _ _ (goes c.before.before.before.before.before.before.before.before.before.before.before.before.before.before.before.before.before.before.before))
 
 pub plan_text_spec : {M : Type 1} → statement M
 plan_text_spec =

@@ -4,7 +4,7 @@ use Rattle.nested_plans.proofs.stopped.Statement.{statement}
 use Rattle.nested_plans.proofs.stopped.Tie as tie
 
 returns : tie.Need-returns
-returns c = rw c.no-verdicts.ensures
+returns c = rw c.no_verdicts-list.ensures
 
 pub stopped_spec : {M : Type 1} → statement M
 stopped_spec =

@@ -7,23 +7,21 @@ use Rattle.paper.proofs.Looking.{entered_there, entered_nowhere}
 use Rattle.paper.proofs.enter_claim.Statement.{statement}
 use Rattle.paper.proofs.enter_claim.Tie as tie
 
-enter_rows_requires : tie.Need-enter-rows-requires
+enter_rows_requires : tie.Need-enter_rows-requires
 enter_rows_requires c κs =
-    let start = c.before.before.before.before.before.before.before in
-    let found = place_found_lem start.args.reports.now _ _ _ (sym c.before.before.before.before.latest-place.ensures ∙ c.before.before.claimed.given.1) in
-    (start.requires.0, start.requires.1, omega (arith, found.1, start.requires.2), start.requires.3)
+    let found = place_found_lem c.args.reports.now _ _ _ (sym c.latest_place-claimed.ensures ∙ c.in-At.is) in
+    (c.requires.0, c.requires.1, omega (arith, found.1, c.requires.2), c.requires.3)
 
-returns : tie.Need-returns
+returns : tie.Need-returns-in-At
 returns c =
-    let told = c.before.before.before.before.before in
-    let a = told.before.before.before.before.before.args in
-    entered_there a.cells.now a.k a.c a.place _ _ (sym told.before.before.latest-place.ensures ∙ told.claimed.given.1)
-    c.before.before.enter-rows.ensures
+    let a = c.args in
+    entered_there a.cells.now a.k a.c a.place _ _ (sym c.latest_place-claimed.ensures ∙ c.in-At.is)
+    c.enter_rows.ensures
 
-returns_2 : tie.Need-returns-2
+returns_2 : tie.Need-returns-in-Nowhere
 returns_2 c =
-    let a = c.before.before.before.before.before.args in
-    entered_nowhere a.cells.now a.k a.c a.place (sym c.before.before.latest-place.ensures ∙ c.enum_told.given.1)
+    let a = c.args in
+    entered_nowhere a.cells.now a.k a.c a.place (sym c.latest_place-claimed.ensures ∙ c.in-Nowhere.is)
 
 pub enter_claim_spec : {M : Type 1} → statement M
 enter_claim_spec =

@@ -8,38 +8,36 @@ use Rattle.paper.proofs.Entering.{Entering, entering_start, entering_room, enter
 use Rattle.paper.proofs.enter_row.Statement.{statement}
 use Rattle.paper.proofs.enter_row.Tie as tie
 
-abbrev invariant_loop : tie.invariant-loop
+abbrev invariant_loop : tie.invariant-loop-right
 invariant_loop cells₀ row rights place far first mine right₀ cells right = Entering cells₀ row rights place far first mine right cells
 
-abbrev decreases_loop : tie.decreases-loop
+abbrev decreases_loop : tie.decreases-loop-right
 decreases_loop cells₀ row rights place far first mine right₀ cells right = right_count - right
 
-loop_holds : tie.Need-loop-init invariant_loop decreases_loop
-loop_holds c = entering_start refl refl c.before.requires.0 c.before.requires.1
+loop_holds : tie.Need-loop-right-init invariant_loop decreases_loop
+loop_holds c = entering_start refl refl c.requires.0 c.requires.1
 
-slice_read_if1 : tie.Need-slice-read-if1 invariant_loop decreases_loop
-slice_read_if1 c = entering_room c.before.before.before.loop.invariant c.before.before.loop-test.true
+slice_read_if1 : tie.Need-bounds-cells-at invariant_loop decreases_loop
+slice_read_if1 c = entering_room c.loop-right.invariant c.loop-right-test.true
 
-slice_write_cells : tie.Need-slice-write-cells invariant_loop decreases_loop
-slice_write_cells c = entering_room c.before.before.before.before.loop.invariant c.before.before.before.loop-test.true
+slice_write_cells : tie.Need-bounds-cells-at-then-has-cells invariant_loop decreases_loop
+slice_write_cells c = entering_room c.loop-right.invariant c.loop-right-test.true
 
-loop_again : tie.Need-loop-preserved invariant_loop decreases_loop
+loop_again : tie.Need-loop-right-preserved-then-has-cells invariant_loop decreases_loop
 loop_again c =
-    let has = c.before.before in
-    let s = has.before.before.loop in
-    entering_taken s.invariant has.before.loop-test.true (rw (← has.has.ensures) c.if1.true)
+    let s = c.loop-right in
+    entering_taken s.invariant c.loop-right-test.true (rw (← c.has.ensures) c.if-has-cells.true)
 
-loop_again_2 : tie.Need-loop-preserved-2 invariant_loop decreases_loop
+loop_again_2 : tie.Need-loop-right-preserved invariant_loop decreases_loop
 loop_again_2 c =
-    let has = c.before.before in
-    let s = has.before.before.loop in
-    entering_kept s.invariant has.before.loop-test.true (rw (← has.has.ensures) c.if1.false)
+    let s = c.loop-right in
+    entering_kept s.invariant c.loop-right-test.true (rw (← c.has.ensures) c.if-has-cells.false)
 
-same_length : tie.Need-same-length invariant_loop decreases_loop
-same_length c = c.before.loop.invariant.long
+same_length : tie.Need-shape_of-cells invariant_loop decreases_loop
+same_length c = c.loop-right.invariant.long
 
 returns : tie.Need-returns invariant_loop decreases_loop
-returns c = entering_done c.before.loop.invariant c.loop-test.false
+returns c = entering_done c.loop-right.invariant c.loop-right-test.false
 
 pub enter_row_spec : {M : Type 1} → statement M
 enter_row_spec =

@@ -7,44 +7,37 @@ use Rattle.paper.proofs.Filling.{Filling, filling_start, filling_length, filling
 use Rattle.paper.proofs.enter_rows.Statement.{statement}
 use Rattle.paper.proofs.enter_rows.Tie as tie
 
-abbrev invariant_loop : tie.invariant-loop
+abbrev invariant_loop : tie.invariant-loop-row
 invariant_loop cells₀ spot rights place k outer row₀ cells row = Filling cells₀ k spot outer rights place row cells
 
-abbrev decreases_loop : tie.decreases-loop
+abbrev decreases_loop : tie.decreases-loop-row
 decreases_loop cells₀ spot rights place k outer row₀ cells row = k.count - row
 
-loop_holds : tie.Need-loop-init invariant_loop decreases_loop
-loop_holds c = filling_start refl c.before.before.requires.0 c.before.before.requires.1
+loop_holds : tie.Need-loop-row-init invariant_loop decreases_loop
+loop_holds c = filling_start refl c.requires.0 c.requires.1
 
-loop_again : tie.Need-loop-preserved invariant_loop decreases_loop
+loop_again : tie.Need-loop-row-preserved-in-Outside invariant_loop decreases_loop
 loop_again c =
-    let met = c.before.before in
-    let turn = met.before.before in
-    filling_outside turn.before.loop.invariant turn.loop-test.true (sym met.reach.ensures.0 ∙ c.enum_told.given.1)
+    filling_outside c.loop-row.invariant c.loop-row-test.true (sym c.reach.ensures.0 ∙ c.in-Outside.is)
 
-enter_row_requires : tie.Need-enter-row-requires invariant_loop decreases_loop
-enter_row_requires c κs =
-    let met = c.before.before.before.before in
-    let turn = met.before.before in
-    let start = turn.before.before.before.before in (
-      filling_length turn.before.loop.invariant,
-      filling_room turn.before.loop.invariant turn.loop-test.true,
-      start.requires.3,
-      reach_short _ _ _ (sym met.reach.ensures.0 ∙ c.before.before.far.given.1) met.reach.ensures.1,
-    )
+enter_row_requires : tie.Need-enter_row-requires invariant_loop decreases_loop
+enter_row_requires c κs = (
+  filling_length c.loop-row.invariant,
+  filling_room c.loop-row.invariant c.loop-row-test.true,
+  c.requires.3,
+  reach_short _ _ _ (sym c.reach.ensures.0 ∙ c.in-Inside.is) c.reach.ensures.1,
+)
 
-loop_again_2 : tie.Need-loop-preserved-2 invariant_loop decreases_loop
+loop_again_2 : tie.Need-loop-row-preserved invariant_loop decreases_loop
 loop_again_2 c =
-    let met = c.before.before.before.before.before.before.before in
-    let turn = met.before.before in
-    filling_inside turn.before.loop.invariant turn.loop-test.true _ _ (sym met.reach.ensures.0 ∙ c.before.before.before.before.before.far.given.1)
-    c.before.before.enter-row.ensures
+    filling_inside c.loop-row.invariant c.loop-row-test.true _ _ (sym c.reach.ensures.0 ∙ c.in-Inside.is)
+    c.enter_row.ensures
 
-same_length : tie.Need-same-length invariant_loop decreases_loop
-same_length c = c.before.loop.invariant.long
+same_length : tie.Need-shape_of-cells invariant_loop decreases_loop
+same_length c = c.loop-row.invariant.long
 
 returns : tie.Need-returns invariant_loop decreases_loop
-returns c = filling_done c.before.loop.invariant c.loop-test.false
+returns c = filling_done c.loop-row.invariant c.loop-row-test.false
 
 pub enter_rows_spec : {M : Type 1} → statement M
 enter_rows_spec =

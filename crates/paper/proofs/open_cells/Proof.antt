@@ -11,33 +11,33 @@ use Rattle.paper.proofs.Opening.{Opening, opening_start, opening_public, opening
 use Rattle.paper.proofs.open_cells.Statement.{statement}
 use Rattle.paper.proofs.open_cells.Tie as tie
 
-abbrev invariant_loop : tie.invariant-loop
+abbrev invariant_loop : tie.invariant-loop-row
 invariant_loop k cells₀ row₀ cells row = Opening k row cells
 
-abbrev decreases_loop : tie.decreases-loop
+abbrev decreases_loop : tie.decreases-loop-row
 decreases_loop k cells₀ row₀ cells row = k.count - row
 
-loop_holds : tie.Need-loop-init invariant_loop decreases_loop
+loop_holds : tie.Need-loop-row-init invariant_loop decreases_loop
 loop_holds c = opening_start c.requires
 
-element_copy_out_if1 : tie.Need-element-copy-out-if1 invariant_loop decreases_loop
+element_copy_out_if1 : tie.Need-bounds-k-row invariant_loop decreases_loop
 element_copy_out_if1 c =
-    let room : length c.before.before.args.t1.list ≡ resource_limit = search (rules, length_mapped) in
-    omega (arith, room, c.before.before.requires, c.loop-test.true)
+    let room : length c.args.k.list ≡ resource_limit = search (rules, length_mapped) in
+    omega (arith, room, c.requires, c.loop-row-test.true)
 
-array_write_cells : tie.Need-array-write-cells invariant_loop decreases_loop
+array_write_cells : tie.Need-bounds-cells-row invariant_loop decreases_loop
 array_write_cells c =
-    let within = opening_room c.before.before.loop.invariant c.before.loop-test.true in
+    let within = opening_room c.loop-row.invariant c.loop-row-test.true in
     search rules
 
-loop_again : tie.Need-loop-preserved invariant_loop decreases_loop
-loop_again c = opening_public c.before.before.loop.invariant c.before.loop-test.true c.if1.true
+loop_again : tie.Need-loop-row-preserved-then-k-row-eq1 invariant_loop decreases_loop
+loop_again c = opening_public c.loop-row.invariant c.loop-row-test.true c.if-k-row-eq1.true
 
-loop_again_2 : tie.Need-loop-preserved-2 invariant_loop decreases_loop
-loop_again_2 c = opening_private c.before.before.loop.invariant c.before.loop-test.true c.if1.false
+loop_again_2 : tie.Need-loop-row-preserved invariant_loop decreases_loop
+loop_again_2 c = opening_private c.loop-row.invariant c.loop-row-test.true c.if-k-row-eq1.false
 
 returns : tie.Need-returns invariant_loop decreases_loop
-returns c = opening_done c.before.loop.invariant c.loop-test.false
+returns c = opening_done c.loop-row.invariant c.loop-row-test.false
 
 pub open_cells_spec : {M : Type 1} → statement M
 open_cells_spec =

@@ -6,26 +6,24 @@ use Rattle.paths.proofs.Verdicts.{elsewhere, climbs_out, stays_in}
 use Rattle.paths.proofs.contains.Statement.{statement}
 use Rattle.paths.proofs.contains.Tie as tie
 
-returns : tie.Need-returns
+returns : tie.Need-returns-in-Outside
 returns c =
-    let a = c.before.before.before.before.before.args in
-    sym (elsewhere a.outer.now a.inner.now (sym c.before.before.reach-beneath.ensures ∙ c.enum_told.given.1))
+    let a = c.args in
+    sym (elsewhere a.outer.now a.inner.now (sym c.reach_beneath.ensures ∙ c.in-Outside.is))
 
-returns_2 : tie.Need-returns-2
+returns_2 : tie.Need-returns-then-climbs
 returns_2 c =
-    let told = c.before.before.before in
-    let a = told.before.before.before.before.before.args in
+    let a = c.args in
     sym
-    (climbs_out a.outer.now a.inner.now _ (sym told.before.before.reach-beneath.ensures ∙ told.length.given.1)
-    (sym c.before.climbs.ensures ∙ c.if1.true))
+    (climbs_out a.outer.now a.inner.now _ (sym c.reach_beneath.ensures ∙ c.in-Inside.is)
+    (sym c.climbs.ensures ∙ c.if-climbs.true))
 
-returns_3 : tie.Need-returns-3
+returns_3 : tie.Need-returns-else-climbs
 returns_3 c =
-    let told = c.before.before.before in
-    let a = told.before.before.before.before.before.args in
+    let a = c.args in
     sym
-    (stays_in a.outer.now a.inner.now _ (sym told.before.before.reach-beneath.ensures ∙ told.length.given.1)
-    (sym c.before.climbs.ensures ∙ c.if1.false))
+    (stays_in a.outer.now a.inner.now _ (sym c.reach_beneath.ensures ∙ c.in-Inside.is)
+    (sym c.climbs.ensures ∙ c.if-climbs.false))
 
 pub contains_spec : {M : Type 1} → statement M
 contains_spec =

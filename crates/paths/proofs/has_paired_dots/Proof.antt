@@ -11,30 +11,28 @@ use Rattle.paths.proofs.Walks.{paired_end, paired_next}
 use Rattle.paths.proofs.has_paired_dots.Statement.{statement}
 use Rattle.paths.proofs.has_paired_dots.Tie as tie
 
-abbrev invariant_loop : tie.invariant-loop
+abbrev invariant_loop : tie.invariant-loop-i
 invariant_loop p hit₀ i₀ hit i = (0 < i) × (paired p ≡ hit || paired (drop (i - 1) p))
 
-abbrev decreases_loop : tie.decreases-loop
+abbrev decreases_loop : tie.decreases-loop-i
 decreases_loop p hit₀ i₀ hit i = length p - i
 
-loop_holds : tie.Need-loop-init invariant_loop decreases_loop
+loop_holds : tie.Need-loop-i-init invariant_loop decreases_loop
 loop_holds c = (omega arith, refl)
 
-loop_again : tie.Need-loop-preserved invariant_loop decreases_loop
+loop_again : tie.Need-loop-i-preserved invariant_loop decreases_loop
 loop_again c =
-    let l = c.before.before.before in
-    let p = l.before.args.p.now in (
+    let p = c.args.p.now in (
       omega arith,
-      l.loop.invariant.1
-          ∙ ap (λ b. l.loop.hit || b) (paired_next p l.loop.i (omega arith) (omega arith))
-          ∙ sym (or_assoc l.loop.hit _ _),
+      c.loop-i.invariant.1
+          ∙ ap (λ b. c.loop-i.hit || b) (paired_next p c.loop-i.i (omega arith) (omega arith))
+          ∙ sym (or_assoc c.loop-i.hit _ _),
     )
 
 returns : tie.Need-returns invariant_loop decreases_loop
 returns c =
-    let l = c.before in
-    let p = l.before.args.p.now in
-    sym (l.loop.invariant.1 ∙ rw (paired_end p l.loop.i c.loop-test.false) (or-false l.loop.hit))
+    let p = c.args.p.now in
+    sym (c.loop-i.invariant.1 ∙ rw (paired_end p c.loop-i.i c.loop-i-test.false) (or-false c.loop-i.hit))
 
 pub has_paired_dots_spec : {M : Type 1} → statement M
 has_paired_dots_spec =

@@ -7,59 +7,52 @@ use Rattle.paths.proofs.Verdicts.{outer_empty, too_short, apart, other_start, sa
 use Rattle.paths.proofs.reach_beneath.Statement.{statement}
 use Rattle.paths.proofs.reach_beneath.Tie as tie
 
-returns : tie.Need-returns
+returns : tie.Need-returns-then-outer-eq0
 returns c =
-    let a = c.before.before.before.args in
-    sym (outer_empty a.outer.now a.inner.now c.if1.true)
+    let a = c.args in
+    sym (outer_empty a.outer.now a.inner.now c.if-outer-eq0.true)
 
-returns_2 : tie.Need-returns-2
+returns_2 : tie.Need-returns-then-inner-n
 returns_2 c =
-    let trim = c.before.trimmed_len in
-    let a = c.before.before.before.before.before.args in
+    let trim = c.trimmed_len-n in
+    let a = c.args in
     sym
-    (too_short a.outer.now a.inner.now trim.result c.before.before.if1.false trim.ensures.0 trim.ensures.1
-    c.if2.true)
+    (too_short a.outer.now a.inner.now trim.result c.if-outer-eq0.false trim.ensures.0 trim.ensures.1
+    c.if-inner-n.true)
 
-slice_aggregate_starts : tie.Need-slice-aggregate-starts
+slice_aggregate_starts : tie.Need-slice_bounds-starts-end
 slice_aggregate_starts c =
-    let trimming = c.before.before.before.before.before in
-    let a = trimming.before.before.before.before.args in
-    sym (length-take-le trimming.trimmed_len.result a.outer.now trimming.trimmed_len.ensures.1)
+    let a = c.args in
+    sym (length-take-le c.trimmed_len-n.result a.outer.now c.trimmed_len-n.ensures.1)
 
-returns_3 : tie.Need-returns-3
+returns_3 : tie.Need-returns-then-starts
 returns_3 c =
-    let following = c.before.before.before.before in
-    let trimming = following.before.before.before in
-    let trim = trimming.trimmed_len in
-    let a = trimming.before.before.before.before.args in
+    let trim = c.trimmed_len-n in
+    let a = c.args in
     sym
-    (same_start a.outer.now a.inner.now trim.result trimming.before.if1.false trim.ensures.0 trim.ensures.1
-    following.before.before.if2.false
-    (sym following.follows.ensures ∙ c.before.before.before.if3.true)
-    (sym c.before.starts.ensures ∙ c.if4.true))
+    (same_start a.outer.now a.inner.now trim.result c.if-outer-eq0.false trim.ensures.0 trim.ensures.1
+    c.if-inner-n.false
+    (sym c.follows.ensures ∙ c.if-follows.true)
+    (sym c.starts.ensures ∙ c.if-starts.true))
 
-returns_4 : tie.Need-returns-4
+returns_4 : tie.Need-returns-else-starts
 returns_4 c =
-    let following = c.before.before.before.before in
-    let trimming = following.before.before.before in
-    let trim = trimming.trimmed_len in
-    let a = trimming.before.before.before.before.args in
+    let trim = c.trimmed_len-n in
+    let a = c.args in
     sym
-    (other_start a.outer.now a.inner.now trim.result trimming.before.if1.false trim.ensures.0 trim.ensures.1
-    following.before.before.if2.false
-    (sym following.follows.ensures ∙ c.before.before.before.if3.true)
-    (sym c.before.starts.ensures ∙ c.if4.false))
+    (other_start a.outer.now a.inner.now trim.result c.if-outer-eq0.false trim.ensures.0 trim.ensures.1
+    c.if-inner-n.false
+    (sym c.follows.ensures ∙ c.if-follows.true)
+    (sym c.starts.ensures ∙ c.if-starts.false))
 
-returns_5 : tie.Need-returns-5
+returns_5 : tie.Need-returns-else-follows
 returns_5 c =
-    let following = c.before in
-    let trimming = following.before.before.before in
-    let trim = trimming.trimmed_len in
-    let a = trimming.before.before.before.before.args in
+    let trim = c.trimmed_len-n in
+    let a = c.args in
     sym
-    (apart a.outer.now a.inner.now trim.result trimming.before.if1.false trim.ensures.0 trim.ensures.1
-    following.before.before.if2.false
-    (sym following.follows.ensures ∙ c.if3.false))
+    (apart a.outer.now a.inner.now trim.result c.if-outer-eq0.false trim.ensures.0 trim.ensures.1
+    c.if-inner-n.false
+    (sym c.follows.ensures ∙ c.if-follows.false))
 
 pub reach_beneath_spec : {M : Type 1} → statement M
 reach_beneath_spec =

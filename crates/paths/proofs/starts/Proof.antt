@@ -12,33 +12,31 @@ use Rattle.paths.proofs.Walks.{starting_short, starting_next, starting_end}
 use Rattle.paths.proofs.starts.Statement.{statement}
 use Rattle.paths.proofs.starts.Tie as tie
 
-abbrev invariant_loop : tie.invariant-loop
+abbrev invariant_loop : tie.invariant-loop-i
 invariant_loop o p alike₀ i₀ alike i = (length o ≤ length p) × (starting o p ≡ alike && starting (drop i o) (drop i p))
 
-abbrev decreases_loop : tie.decreases-loop
+abbrev decreases_loop : tie.decreases-loop-i
 decreases_loop o p alike₀ i₀ alike i = length o - i
 
-returns : tie.Need-returns invariant_loop decreases_loop
-returns c = sym (starting_short c.before.args.o.now c.before.args.p.now c.if1.true)
+returns : tie.Need-returns-then-p-o invariant_loop decreases_loop
+returns c = sym (starting_short c.args.o.now c.args.p.now c.if-p-o.true)
 
-loop_holds : tie.Need-loop-init invariant_loop decreases_loop
+loop_holds : tie.Need-loop-i-init invariant_loop decreases_loop
 loop_holds c = (omega arith, refl)
 
-loop_again : tie.Need-loop-preserved invariant_loop decreases_loop
+loop_again : tie.Need-loop-i-preserved invariant_loop decreases_loop
 loop_again c =
-    let l = c.before.before.before in
-    let a = l.before.before.args in (
+    let a = c.args in (
       omega arith,
-      l.loop.invariant.1
-          ∙ ap (λ b. l.loop.alike && b) (starting_next a.o.now a.p.now l.loop.i (omega arith) (omega arith))
-          ∙ sym (and_assoc l.loop.alike _ _),
+      c.loop-i.invariant.1
+          ∙ ap (λ b. c.loop-i.alike && b) (starting_next a.o.now a.p.now c.loop-i.i (omega arith) (omega arith))
+          ∙ sym (and_assoc c.loop-i.alike _ _),
     )
 
-returns_2 : tie.Need-returns-2 invariant_loop decreases_loop
+returns_2 : tie.Need-returns invariant_loop decreases_loop
 returns_2 c =
-    let l = c.before in
-    let a = l.before.before.args in
-    sym (l.loop.invariant.1 ∙ rw (starting_end a.o.now a.p.now l.loop.i c.loop-test.false) (and-true l.loop.alike))
+    let a = c.args in
+    sym (c.loop-i.invariant.1 ∙ rw (starting_end a.o.now a.p.now c.loop-i.i c.loop-i-test.false) (and-true c.loop-i.alike))
 
 pub starts_spec : {M : Type 1} → statement M
 starts_spec =

@@ -11,32 +11,29 @@ use Rattle.paths.proofs.Walks.{trimmed_none, trimmed_last_slash, trimmed_last_ot
 use Rattle.paths.proofs.trimmed_len.Statement.{statement}
 use Rattle.paths.proofs.trimmed_len.Tie as tie
 
-abbrev invariant_loop : tie.invariant-loop
+abbrev invariant_loop : tie.invariant-loop-n
 invariant_loop p n₀ n = (n ≤ length p) × (trimmed p ≡ trimmed (take n p))
 
-abbrev decreases_loop : tie.decreases-loop
+abbrev decreases_loop : tie.decreases-loop-n
 decreases_loop p n₀ n = n
 
-loop_holds : tie.Need-loop-init invariant_loop decreases_loop
+loop_holds : tie.Need-loop-n-init invariant_loop decreases_loop
 loop_holds c = (omega arith, ap trimmed (sym (take-length c.args.p.now)))
 
-returns : tie.Need-returns invariant_loop decreases_loop
+returns : tie.Need-returns-then-p-last-ne-SLASH invariant_loop decreases_loop
 returns c =
-    let l = c.before.before.before in
-    let p = l.before.args.p.now in
-    (sym (l.loop.invariant.1 ∙ trimmed_last_other p l.loop.n (omega arith) (omega arith) c.if1.true), omega arith)
+    let p = c.args.p.now in
+    (sym (c.loop-n.invariant.1 ∙ trimmed_last_other p c.loop-n.n (omega arith) (omega arith) c.if-p-last-ne-SLASH.true), omega arith)
 
-loop_again : tie.Need-loop-preserved invariant_loop decreases_loop
+loop_again : tie.Need-loop-n-preserved invariant_loop decreases_loop
 loop_again c =
-    let l = c.before.before.before in
-    let p = l.before.args.p.now in
-    (omega arith, l.loop.invariant.1 ∙ trimmed_last_slash p l.loop.n (omega arith) (omega arith) c.if1.false)
+    let p = c.args.p.now in
+    (omega arith, c.loop-n.invariant.1 ∙ trimmed_last_slash p c.loop-n.n (omega arith) (omega arith) c.if-p-last-ne-SLASH.false)
 
-returns_2 : tie.Need-returns-2 invariant_loop decreases_loop
+returns_2 : tie.Need-returns invariant_loop decreases_loop
 returns_2 c =
-    let l = c.before in
-    let p = l.before.args.p.now in
-    (sym (l.loop.invariant.1 ∙ trimmed_none p l.loop.n (omega arith)), omega arith)
+    let p = c.args.p.now in
+    (sym (c.loop-n.invariant.1 ∙ trimmed_none p c.loop-n.n (omega arith)), omega arith)
 
 pub trimmed_len_spec : {M : Type 1} → statement M
 trimmed_len_spec =

@@ -14,51 +14,47 @@ use Rattle.paths.proofs.Walks.{climbing_end, climbing_slash, climbing_byte}
 use Rattle.paths.proofs.walk_components.Statement.{statement}
 use Rattle.paths.proofs.walk_components.Tie as tie
 
-abbrev invariant_loop : tie.invariant-loop
+abbrev invariant_loop : tie.invariant-loop-i
 invariant_loop p dots₀ i₀ dots i = (dots ≤ 3) × (i ≤ length p) × (climbing p ≡ climbing (replicate dots dot ++ drop i p))
 
-abbrev decreases_loop : tie.decreases-loop
+abbrev decreases_loop : tie.decreases-loop-i
 decreases_loop p dots₀ i₀ dots i = length p - i
 
-loop_holds : tie.Need-loop-init invariant_loop decreases_loop
+loop_holds : tie.Need-loop-i-init invariant_loop decreases_loop
 loop_holds c = (omega arith, omega arith, refl)
 
-returns : tie.Need-returns invariant_loop decreases_loop
+returns : tie.Need-returns-then-dots-eq2 invariant_loop decreases_loop
 returns c =
-    let l = c.before.before.before.before in
-    let p = l.before.before.args.p.now in
+    let p = c.args.p.now in
     sym
-    (l.loop.invariant.2 ∙ climbing_slash p l.loop.dots l.loop.i l.loop.invariant.0 (omega arith) c.before.if1.true
-    ∙ rw (eq-eqb l.loop.dots 2 c.if2.true))
+    (c.loop-i.invariant.2 ∙ climbing_slash p c.loop-i.dots c.loop-i.i c.loop-i.invariant.0 (omega arith) c.if-b-eq-SLASH.true
+    ∙ rw (eq-eqb c.loop-i.dots 2 c.if-dots-eq2.true))
 
-loop_again : tie.Need-loop-preserved invariant_loop decreases_loop
+loop_again : tie.Need-loop-i-preserved-then-b-eq-SLASH invariant_loop decreases_loop
 loop_again c =
-    let l = c.before.before.before.before in
-    let p = l.before.before.args.p.now in (
+    let p = c.args.p.now in (
       omega arith,
       omega arith,
-      l.loop.invariant.2
-          ∙ climbing_slash p l.loop.dots l.loop.i l.loop.invariant.0 (omega arith) c.before.if1.true
-          ∙ rw (ne_eqb l.loop.dots 2 c.if2.false),
+      c.loop-i.invariant.2
+          ∙ climbing_slash p c.loop-i.dots c.loop-i.i c.loop-i.invariant.0 (omega arith) c.if-b-eq-SLASH.true
+          ∙ rw (ne_eqb c.loop-i.dots 2 c.if-dots-eq2.false),
     )
 
-loop_again_2 : tie.Need-loop-preserved-2 invariant_loop decreases_loop
+loop_again_2 : tie.Need-loop-i-preserved invariant_loop decreases_loop
 loop_again_2 c =
-    let l = c.before.before.before.before in
-    let p = l.before.before.args.p.now in
-    let b = get_or p l.loop.i 0 in (
-      rw c.dots-with.ensures (dots_most l.loop.dots b),
+    let p = c.args.p.now in
+    let b = get_or p c.loop-i.i 0 in (
+      rw c.dots_with-dots.ensures (dots_most c.loop-i.dots b),
       omega arith,
-      l.loop.invariant.2
-          ∙ climbing_byte p l.loop.dots l.loop.i l.loop.invariant.0 (omega arith) c.before.if1.false
-          ∙ rw c.dots-with.ensures,
+      c.loop-i.invariant.2
+          ∙ climbing_byte p c.loop-i.dots c.loop-i.i c.loop-i.invariant.0 (omega arith) c.if-b-eq-SLASH.false
+          ∙ rw c.dots_with-dots.ensures,
     )
 
-returns_2 : tie.Need-returns-2 invariant_loop decreases_loop
+returns_2 : tie.Need-returns invariant_loop decreases_loop
 returns_2 c =
-    let l = c.before in
-    let p = l.before.before.args.p.now in
-    sym (l.loop.invariant.2 ∙ climbing_end p l.loop.dots l.loop.i l.loop.invariant.0 (omega arith))
+    let p = c.args.p.now in
+    sym (c.loop-i.invariant.2 ∙ climbing_end p c.loop-i.dots c.loop-i.i c.loop-i.invariant.0 (omega arith))
 
 pub walk_components_spec : {M : Type 1} → statement M
 walk_components_spec =

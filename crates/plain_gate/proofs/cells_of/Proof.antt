@@ -10,24 +10,23 @@ use Rattle.plain_gate.specs.Cells.{cell_for, cells_of}
 use Rattle.plain_gate.proofs.cells_of.Statement.{statement}
 use Rattle.plain_gate.proofs.cells_of.Tie as tie
 
-abbrev invariant_loop : tie.invariant-loop
+abbrev invariant_loop : tie.invariant-loop-i
 invariant_loop cells reports m a top found₀ i₀ found i =
     Filling use_limit (λ j. cell_for cells reports m (get_or a.uses j no_use)) top 0 i found
 
-abbrev decreases_loop : tie.decreases-loop
+abbrev decreases_loop : tie.decreases-loop-i
 decreases_loop cells reports m a top found₀ i₀ found i = top - i
 
-loop_holds : tie.Need-loop-init invariant_loop decreases_loop
-loop_holds c = filling_start (omega (arith, c.least.ensures))
+loop_holds : tie.Need-loop-i-init invariant_loop decreases_loop
+loop_holds c = filling_start (omega (arith, c.least-top.ensures))
 
-loop_again : tie.Need-loop-preserved invariant_loop decreases_loop
+loop_again : tie.Need-loop-i-preserved invariant_loop decreases_loop
 loop_again c =
-    let turn = c.before.before in
-    filling_next turn.before.loop.invariant _ turn.loop-test.true c.cell_in.ensures
+    filling_next c.loop-i.invariant _ c.loop-i-test.true c.cell_in.ensures
 
 returns : tie.Need-returns invariant_loop decreases_loop
 unfolding cells_of
-returns c = rw (← c.before.before.least.ensures) (filling_end c.before.loop.invariant c.loop-test.false)
+returns c = rw (← c.least-top.ensures) (filling_end c.loop-i.invariant c.loop-i-test.false)
 
 pub cells_of_spec : {M : Type 1} → statement M
 cells_of_spec =

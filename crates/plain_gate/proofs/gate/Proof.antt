@@ -2,50 +2,42 @@
 use mathlib.Core.Path.{◌≡◌, sym, ◌∙◌}
 use lib.ListN.{length}
 use borrow.Author.Rules.{rules}
-use borrow.Author.Tests.{not-true, not-false}
 use Rattle.lists.specs.Loops.{length_mapped}
 use Rattle.register.specs.Limits.{claim_limit}
-use Rattle.gate_rules.specs.Laws.{action_tests_out}
+use Rattle.gate_rules.proofs.Laws.{action_tests_out}
 use Rattle.plain_gate.proofs.Answering.{unsound_examined, known_examined, tests_known, plain_unsound, plain_stopped, plain_judged}
 use Rattle.plain_gate.proofs.gate.Statement.{statement}
 use Rattle.plain_gate.proofs.gate.Tie as tie
 
--- the array of the claims has its length, by its type
-claims_long : (s : tie.Start) → length s.args.r.claims.list ≡ claim_limit
-claims_long s = search (rules, length_mapped)
-
-returns : tie.Need-returns
+returns : tie.Need-returns-then-not-found
 returns c =
-    let opened = c.before.before.before in
-    let s = opened.before.before.before.before.before in
+    -- the array of the claims has its length, by its type
+    let long : length c.args.r.claims.list ≡ claim_limit = search (rules, length_mapped) in
     c.stopped.ensures
-    ∙ plain_unsound s.args.r s.args.a
-    (unsound_examined s.args.r (claims_long s) opened.examine.ensures (not-true opened.examine.result.sound c.before.if1.true))
+    ∙ plain_unsound c.args.r c.args.a
+    (unsound_examined c.args.r long c.examine-found.ensures c.if-not-found.true)
 
-judge_requires : tie.Need-judge-requires
+judge_requires : tie.Need-judge-judged-requires
 judge_requires c κs =
-    let opened = c.before.before.before.before.before.before.before.before.before in
-    let s = opened.before.before.before.before.before in
-    let known = known_examined s.args.r (claims_long s) opened.examine.ensures (not-false opened.examine.result.sound c.before.before.before.before.before.before.before.if1.false) in
-    (known, action_tests_out s.args.r s.args.a (sym (tests_known s.args.r _ known s.args.a c.before.before.before.action_outcome.ensures) ∙ c.before.enum_told.given.1))
+    let long : length c.args.r.claims.list ≡ claim_limit = search (rules, length_mapped) in
+    let known = known_examined c.args.r long c.examine-found.ensures c.if-not-found.false in
+    (known, action_tests_out c.args.r c.args.a (sym (tests_known c.args.r _ known c.args.a c.action_outcome-outcome.ensures) ∙ c.in-Accepted.is))
 
-returns_2 : tie.Need-returns-2
+returns_2 : tie.Need-returns-in-Refused
 returns_2 c =
-    let opened = c.before.before.before.before.before.before.before.before.before.before in
-    let s = opened.before.before.before.before.before in
-    let known = known_examined s.args.r (claims_long s) opened.examine.ensures (not-false opened.examine.result.sound c.before.before.before.before.before.before.before.before.if1.false) in
-    c.stopped2.ensures
-    ∙ plain_stopped s.args.r s.args.a known.soundly c.before.before.outcome.given.0.0
-    (sym (tests_known s.args.r _ known s.args.a c.before.before.before.before.action_outcome.ensures) ∙ c.before.before.outcome.given.1)
+    let long : length c.args.r.claims.list ≡ claim_limit = search (rules, length_mapped) in
+    let known = known_examined c.args.r long c.examine-found.ensures c.if-not-found.false in
+    c.stopped-in-Refused.ensures
+    ∙ plain_stopped c.args.r c.args.a known.soundly c.in-Refused.why
+    (sym (tests_known c.args.r _ known c.args.a c.action_outcome-outcome.ensures) ∙ c.in-Refused.is)
 
-returns_3 : tie.Need-returns-3
+returns_3 : tie.Need-returns-in-Accepted
 returns_3 c =
-    let opened = c.before.before.before.before.before.before.before.before.before.before.before.before in
-    let s = opened.before.before.before.before.before in
-    let known = known_examined s.args.r (claims_long s) opened.examine.ensures (not-false opened.examine.result.sound c.before.before.before.before.before.before.before.before.before.before.if1.false) in
+    let long : length c.args.r.claims.list ≡ claim_limit = search (rules, length_mapped) in
+    let known = known_examined c.args.r long c.examine-found.ensures c.if-not-found.false in
     c.decided.ensures
-    ∙ plain_judged s.args.r s.args.a known.soundly
-    (sym (tests_known s.args.r _ known s.args.a c.before.before.before.before.before.before.action_outcome.ensures) ∙ c.before.before.before.before.enum_told.given.1) c.before.before.judge.result c.before.before.judge.ensures
+    ∙ plain_judged c.args.r c.args.a known.soundly
+    (sym (tests_known c.args.r _ known c.args.a c.action_outcome-outcome.ensures) ∙ c.in-Accepted.is) c.judge-judged.result c.judge-judged.ensures
 
 pub gate_spec : {M : Type 1} → statement M
 gate_spec =

@@ -10,31 +10,28 @@ use Rattle.plain_gate.specs.Cells.{hops_told, cell_hops}
 use Rattle.plain_gate.proofs.hops_in.Statement.{statement}
 use Rattle.plain_gate.proofs.hops_in.Tie as tie
 
-abbrev invariant_loop : tie.invariant-loop
+abbrev invariant_loop : tie.invariant-loop-i
 invariant_loop hops own n top counts₀ i₀ counts i =
     Filling use_limit (λ j. hops_told hops (get_or own j 0)) top 0 i counts
 
-abbrev decreases_loop : tie.decreases-loop
+abbrev decreases_loop : tie.decreases-loop-i
 decreases_loop hops own n top counts₀ i₀ counts i = top - i
 
-loop_holds : tie.Need-loop-init invariant_loop decreases_loop
-loop_holds c = filling_start (omega (arith, c.least2.ensures, c.before.least.ensures))
+loop_holds : tie.Need-loop-i-init invariant_loop decreases_loop
+loop_holds c = filling_start (omega (arith, c.least-top.ensures, c.least.ensures))
 
-shared_slice_read_hops_told : tie.Need-shared-slice-read-hops-told invariant_loop decreases_loop
+shared_slice_read_hops_told : tie.Need-bounds-own-i invariant_loop decreases_loop
 shared_slice_read_hops_told c =
-    let counted = c.before.before.before in
-    omega (arith, c.before.loop-test.true, counted.least2.ensures, counted.before.least.ensures)
+    omega (arith, c.loop-i-test.true, c.least-top.ensures, c.least.ensures)
 
-loop_again : tie.Need-loop-preserved invariant_loop decreases_loop
+loop_again : tie.Need-loop-i-preserved invariant_loop decreases_loop
 loop_again c =
-    let turn = c.before.before in
-    filling_next turn.before.loop.invariant _ turn.loop-test.true c.hops_told_lem.ensures
+    filling_next c.loop-i.invariant _ c.loop-i-test.true c.hops_told.ensures
 
 returns : tie.Need-returns invariant_loop decreases_loop
 unfolding cell_hops
 returns c =
-    let counted = c.before.before in
-    rw (← counted.before.least.ensures, ← counted.least2.ensures) (filling_end c.before.loop.invariant c.loop-test.false)
+    rw (← c.least.ensures, ← c.least-top.ensures) (filling_end c.loop-i.invariant c.loop-i-test.false)
 
 pub hops_in_spec : {M : Type 1} → statement M
 hops_in_spec =

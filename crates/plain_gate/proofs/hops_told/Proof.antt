@@ -7,17 +7,17 @@ use lib.ListN.{get_or-eq_default}
 use Rattle.plain_gate.proofs.hops_told.Statement.{statement}
 use Rattle.plain_gate.proofs.hops_told.Tie as tie
 
-returns : tie.Need-returns
-returns c = rw (lt-ltb _ _ c.if1.true)
+returns : tie.Need-returns-then-cell-lt-CLAIM
+returns c = rw (lt-ltb _ _ c.if-cell-lt-CLAIM.true)
 
-returns_2 : tie.Need-returns-2
-returns_2 c = rw (le-ltb _ _ c.before.if1.false) (sym (get_or-eq_default c.before.before.args.hops.now 0 c.if2.true))
+returns_2 : tie.Need-returns-then-hops-place
+returns_2 c = rw (le-ltb _ _ c.if-cell-lt-CLAIM.false) (sym (get_or-eq_default c.args.hops.now 0 c.if-hops-place.true))
 
-cast_result : tie.Need-overflow-cast-result
-cast_result c = Fits-widen tt (c.shared-slice-known.given _)
+cast_result : tie.Need-overflow_cast-result
+cast_result c = Fits-widen tt (c.shared_slice_known-1.given _)
 
-returns_3 : tie.Need-returns-3
-returns_3 c = rw (le-ltb _ _ c.before.before.if1.false)
+returns_3 : tie.Need-returns
+returns_3 c = rw (le-ltb _ _ c.if-cell-lt-CLAIM.false)
 
 pub hops_told_spec : {M : Type 1} → statement M
 hops_told_spec =

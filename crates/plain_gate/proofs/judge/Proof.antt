@@ -9,31 +9,18 @@ use Rattle.plain_gate.proofs.Judging.{walkable, judged_plain}
 use Rattle.plain_gate.proofs.judge.Statement.{statement}
 use Rattle.plain_gate.proofs.judge.Tie as tie
 
--- the arrays have their lengths, by their types
-resources_long : (s : tie.Start) → length s.args.r.resources.list ≡ resource_limit
-resources_long s = search (rules, length_mapped)
-
-uses_long : (s : tie.Start) → length s.args.a.uses ≡ use_limit
-uses_long s = search (rules, length_mapped)
-
-walk_requires : tie.Need-walk-requires
+walk_requires : tie.Need-walk-page-requires
 walk_requires c κs =
-    let s = c.before.before.before.before.before.before.before.before.before.before.before.before.before.before.before.before.before.before.before in
-    walkable s.args.r s.args.t3 s.requires.0
+    walkable c.args.r c.args.found c.requires.0
 
 returns : tie.Need-returns
 returns c =
-    let putting = c.before.before.before.before.before in
-    let covered = putting.before.before.before in
-    let looked = covered.before.before.before.before.before.before.before in
-    let walked = looked.before.before.before.before.before.before.before in
-    let first = walked.before.before.before.before.before.before in
-    let owning = first.before in
-    let begun = owning.before.before.before.before.before.before in
-    let s = begun.before.before.before.before.before.before.before in
-    judged_plain s.args.r s.args.t3 s.requires.0 s.args.a s.requires.1 (resources_long s) (uses_long s)
-    begun.is-beside.ensures owning.owner_of.ensures first.first-violations.ensures walked.walk.ensures
-    looked.Cells-of.ensures covered.cells-of2.ensures putting.put-faults.ensures c.hops-in.ensures
+    -- the arrays have their lengths, by their types
+    let resources_long : length c.args.r.resources.list ≡ resource_limit = search (rules, length_mapped) in
+    let uses_long : length c.args.a.uses ≡ use_limit = search (rules, length_mapped) in
+    judged_plain c.args.r c.args.found c.requires.0 c.args.a c.requires.1 resources_long uses_long
+    c.is_beside-machine.ensures c.owner_of-owner.ensures c.first_violations-first.ensures c.walk-page.ensures
+    c.cells_of-own.ensures c.cells_of-theirs.ensures c.put_faults-violations.ensures c.hops_in-hops.ensures
 
 pub judge_spec : {M : Type 1} → statement M
 judge_spec =

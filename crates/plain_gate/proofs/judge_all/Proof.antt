@@ -7,36 +7,35 @@ use borrow.Author.Rules.{rules}
 use lib.ListN.{length}
 use Rattle.lists.specs.Loops.{length_mapped}
 use Rattle.actions.specs.Actions.{action_limit}
-use Rattle.gate_rules.specs.Cancelling.{halt_runs}
+use Rattle.gate_rules.proofs.Cancelling.{halt_runs}
 use Rattle.plans.specs.Holding.{Holding, holding_start, holding_done}
 use Rattle.coverage_table.specs.Table.{plain_judgements}
 use Rattle.plain_gate.proofs.Answering.{fit_at, plainly_next}
 use Rattle.plain_gate.proofs.judge_all.Statement.{statement}
 use Rattle.plain_gate.proofs.judge_all.Tie as tie
 
-abbrev invariant_loop : tie.invariant-loop
+abbrev invariant_loop : tie.invariant-loop-i
 invariant_loop r sheet found p list₀ flagged₀ i₀ list flagged i = Holding (plain_judgements r) p p.count list flagged i
 
-abbrev decreases_loop : tie.decreases-loop
+abbrev decreases_loop : tie.decreases-loop-i
 decreases_loop r sheet found p list₀ flagged₀ i₀ list flagged i = p.count - i
 
--- the array of the actions has its length, by its type
-actions_long : (s : tie.Start invariant_loop decreases_loop) → length s.args.t4.actions ≡ action_limit
-actions_long s = search (rules, length_mapped)
+loop_holds : tie.Need-loop-i-init invariant_loop decreases_loop
+loop_holds c =
+    -- the array of the actions has its length, by its type
+    let long : length c.args.p.actions ≡ action_limit = search (rules, length_mapped) in
+    holding_start long (omega (arith, (halt_runs c.args.r c.args.p c.requires.1).most))
 
-loop_holds : tie.Need-loop-init invariant_loop decreases_loop
-loop_holds c = holding_start (actions_long c.before) (omega (arith, (halt_runs c.before.args.r c.before.args.t4 c.before.requires.1).most))
-
-judge_one_requires : tie.Need-judge-one-requires invariant_loop decreases_loop
+judge_one_requires : tie.Need-judge_one-what-requires invariant_loop decreases_loop
 judge_one_requires c κs =
-    let s = c.before.before.before.before in
-    (s.requires.0, fit_at s.args.r s.args.t4 s.requires.1 (actions_long s) _ c.before.before.loop.i c.before.loop-test.true)
+    let long : length c.args.p.actions ≡ action_limit = search (rules, length_mapped) in
+    (c.requires.0, fit_at c.args.r c.args.p c.requires.1 long _ c.loop-i.i c.loop-i-test.true)
 
-loop_again : tie.Need-loop-preserved invariant_loop decreases_loop
-loop_again c = plainly_next c.before.before.before.before.before.before.args.r c.before.before.before.before.loop.invariant _ c.before.before.before.loop-test.true c.before.judge-one.ensures
+loop_again : tie.Need-loop-i-preserved invariant_loop decreases_loop
+loop_again c = plainly_next c.args.r c.loop-i.invariant _ c.loop-i-test.true c.judge_one-what.ensures
 
 returns : tie.Need-returns invariant_loop decreases_loop
-returns c = holding_done c.before.loop.invariant c.loop-test.false refl
+returns c = holding_done c.loop-i.invariant c.loop-i-test.false refl
 
 pub judge_all_spec : {M : Type 1} → statement M
 judge_all_spec =

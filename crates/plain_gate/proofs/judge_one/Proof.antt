@@ -12,28 +12,27 @@ use Rattle.plain_gate.proofs.Answering.{agreed_plain, denied_plain}
 use Rattle.plain_gate.proofs.judge_one.Statement.{statement}
 use Rattle.plain_gate.proofs.judge_one.Tie as tie
 
-returns : tie.Need-returns
-returns c = rw c.if1.true
+returns : tie.Need-returns-then-cancelled
+returns c = rw c.if-cancelled.true
 
-returns_2 : tie.Need-returns-2
+returns_2 : tie.Need-returns-then-count-eq0
 returns_2 c =
-    let given = c.before.before.before.before.args in
-    rw c.before.before.if1.false
-    (agreed_plain (plain_violations given.r given.a) _ (ap (λ y. y.violations.count) c.before.judge.ensures) c.if2.true)
+    let given = c.args in
+    rw c.if-cancelled.false
+    (agreed_plain (plain_violations given.r given.a) _ (ap (λ y. y.violations.count) c.judge-judged.ensures) c.if-count-eq0.true)
 
-cast_t9 : tie.Need-overflow-cast-t9
+cast_t9 : tie.Need-overflow_cast-result
 cast_t9 c =
-    let s = c.before.before.before.before in
-    let counted = ap (λ y. y.violations.count) c.before.judge.ensures in
-    let most = plain_most s.args.r s.requires.0.soundly s.args.a s.requires.1.fits in
-    let few : c.before.judge.result.violations.count ≤ violation_limit = omega (arith, counted, most) in
+    let counted = ap (λ y. y.violations.count) c.judge-judged.ensures in
+    let most = plain_most c.args.r c.requires.0.soundly c.args.a c.requires.1.fits in
+    let few : c.judge-judged.result.violations.count ≤ violation_limit = omega (arith, counted, most) in
     Fits-below {n = violation_limit} tt few
 
-returns_3 : tie.Need-returns-3
+returns_3 : tie.Need-returns
 returns_3 c =
-    let given = c.before.before.before.before.args in
-    rw c.before.before.if1.false
-    (denied_plain (plain_violations given.r given.a) _ (ap (λ y. y.violations.count) c.before.judge.ensures) c.if2.false)
+    let given = c.args in
+    rw c.if-cancelled.false
+    (denied_plain (plain_violations given.r given.a) _ (ap (λ y. y.violations.count) c.judge-judged.ensures) c.if-count-eq0.false)
 
 pub judge_one_spec : {M : Type 1} → statement M
 judge_one_spec = tie.close (tie.spec returns (λ c κs. search rules) returns_2 cast_t9 returns_3)

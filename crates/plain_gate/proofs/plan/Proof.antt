@@ -3,7 +3,6 @@
 use mathlib.Core.Path.{◌≡◌, ◌∙◌}
 use lib.ListN.{length}
 use borrow.Author.Rules.{rules}
-use borrow.Author.Tests.{not-true, not-false}
 use Rattle.lists.specs.Loops.{length_mapped}
 use Rattle.register.specs.Limits.{claim_limit}
 use Rattle.refusals.specs.declared.Refusal.TheVariants.{Unsound, Range}
@@ -13,51 +12,43 @@ use Rattle.plain_gate.proofs.Answering.{unsound_examined, known_examined, plain_
 use Rattle.plain_gate.proofs.plan.Statement.{statement}
 use Rattle.plain_gate.proofs.plan.Tie as tie
 
--- the array of the claims has its length, by its type
-claims_long : (s : tie.Start) → length s.args.r.claims.list ≡ claim_limit
-claims_long s = search (rules, length_mapped)
-
-returns : tie.Need-returns
+returns : tie.Need-returns-then-not-found
 returns c =
-    let opened = c.before.before.before in
-    let s = opened.before.before.before.before.before in
+    -- the array of the claims has its length, by its type
+    let long : length c.args.r.claims.list ≡ claim_limit = search (rules, length_mapped) in
     c.stopped.ensures
-    ∙ plain_halts s.args.r s.args.p Unsound 0 (halt_unsound s.args.r s.args.p
-    (unsound_examined s.args.r (claims_long s) opened.examine.ensures (not-true opened.examine.result.sound c.before.if1.true)))
+    ∙ plain_halts c.args.r c.args.p Unsound 0 (halt_unsound c.args.r c.args.p
+    (unsound_examined c.args.r long c.examine-found.ensures c.if-not-found.true))
 
-returns_2 : tie.Need-returns-2
+returns_2 : tie.Need-returns-then-p-gt-ACTIONS
 returns_2 c =
-    let opened = c.before.before.before.before.before in
-    let s = opened.before.before.before.before.before in
-    let known = known_examined s.args.r (claims_long s) opened.examine.ensures (not-false opened.examine.result.sound c.before.before.before.if1.false) in
-    c.stopped2.ensures
-    ∙ plain_halts s.args.r s.args.p Range 0 (halt_many s.args.r s.args.p known.soundly c.before.if2.true)
+    let long : length c.args.r.claims.list ≡ claim_limit = search (rules, length_mapped) in
+    let known = known_examined c.args.r long c.examine-found.ensures c.if-not-found.false in
+    c.stopped-then-p-gt-ACTIONS.ensures
+    ∙ plain_halts c.args.r c.args.p Range 0 (halt_many c.args.r c.args.p known.soundly c.if-p-gt-ACTIONS.true)
 
-judge_all_requires : tie.Need-judge-all-requires
+judge_all_requires : tie.Need-judge_all-requires
 judge_all_requires c κs =
-    let opened = c.before.before.before.before.before.before.before.before.before.before.before in
-    let s = opened.before.before.before.before.before in
-    let known = known_examined s.args.r (claims_long s) opened.examine.ensures (not-false opened.examine.result.sound c.before.before.before.before.before.before.before.before.before.if1.false) in
-    let stop = stop_known s.args.r _ known s.args.p c.before.before.before.before.before.before.before.if2.false c.before.before.before.first-stop.ensures in
-    (known, told_runs (halt_of s.args.r s.args.p) stop c.before.enum_told.given.1)
+    let long : length c.args.r.claims.list ≡ claim_limit = search (rules, length_mapped) in
+    let known = known_examined c.args.r long c.examine-found.ensures c.if-not-found.false in
+    let stop = stop_known c.args.r _ known c.args.p c.if-p-gt-ACTIONS.false c.first_stop-stop.ensures in
+    (known, told_runs (halt_of c.args.r c.args.p) stop c.in-Accepted.is)
 
-returns_3 : tie.Need-returns-3
+returns_3 : tie.Need-returns-in-Refused
 returns_3 c =
-    let opened = c.before.before.before.before.before.before.before.before.before.before.before.before in
-    let s = opened.before.before.before.before.before in
-    let known = known_examined s.args.r (claims_long s) opened.examine.ensures (not-false opened.examine.result.sound c.before.before.before.before.before.before.before.before.before.before.if1.false) in
-    let stop = stop_known s.args.r _ known s.args.p c.before.before.before.before.before.before.before.before.if2.false c.before.before.before.before.first-stop.ensures in
-    c.stopped3.ensures
-    ∙ plain_halts s.args.r s.args.p c.before.before.outcome.given.0.0 c.before.before.before.before.first-stop.result.position
-    (told_halts (halt_of s.args.r s.args.p) stop c.before.before.outcome.given.0.0 c.before.before.outcome.given.1)
+    let long : length c.args.r.claims.list ≡ claim_limit = search (rules, length_mapped) in
+    let known = known_examined c.args.r long c.examine-found.ensures c.if-not-found.false in
+    let stop = stop_known c.args.r _ known c.args.p c.if-p-gt-ACTIONS.false c.first_stop-stop.ensures in
+    c.stopped-in-Refused.ensures
+    ∙ plain_halts c.args.r c.args.p c.in-Refused.why c.first_stop-stop.result.position
+    (told_halts (halt_of c.args.r c.args.p) stop c.in-Refused.why c.in-Refused.is)
 
-returns_4 : tie.Need-returns-4
+returns_4 : tie.Need-returns-in-Accepted
 returns_4 c =
-    let opened = c.before.before.before.before.before.before.before.before.before.before.before.before in
-    let s = opened.before.before.before.before.before in
-    let known = known_examined s.args.r (claims_long s) opened.examine.ensures (not-false opened.examine.result.sound c.before.before.before.before.before.before.before.before.before.before.if1.false) in
-    let stop = stop_known s.args.r _ known s.args.p c.before.before.before.before.before.before.before.before.if2.false c.before.before.before.before.first-stop.ensures in
-    c.judge-all.ensures ∙ plain_runs s.args.r s.args.p (told_runs (halt_of s.args.r s.args.p) stop c.before.before.enum_told.given.1)
+    let long : length c.args.r.claims.list ≡ claim_limit = search (rules, length_mapped) in
+    let known = known_examined c.args.r long c.examine-found.ensures c.if-not-found.false in
+    let stop = stop_known c.args.r _ known c.args.p c.if-p-gt-ACTIONS.false c.first_stop-stop.ensures in
+    c.judge_all.ensures ∙ plain_runs c.args.r c.args.p (told_runs (halt_of c.args.r c.args.p) stop c.in-Accepted.is)
 
 pub plan_spec : {M : Type 1} → statement M
 plan_spec =

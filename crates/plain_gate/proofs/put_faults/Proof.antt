@@ -8,47 +8,43 @@ use Rattle.plain_gate.proofs.Faulting.{Faulting, faulting_start, faulting_own, f
 use Rattle.plain_gate.proofs.put_faults.Statement.{statement}
 use Rattle.plain_gate.proofs.put_faults.Tie as tie
 
-abbrev invariant_loop : tie.invariant-loop
+abbrev invariant_loop : tie.invariant-loop-position
 invariant_loop own theirs owned n long top put₀ position₀ put position =
     Faulting own theirs owned top position put₀ put
 
-abbrev decreases_loop : tie.decreases-loop
+abbrev decreases_loop : tie.decreases-loop-position
 decreases_loop own theirs owned n long top put₀ position₀ put position = top - position
 
-loop_holds : tie.Need-loop-init invariant_loop decreases_loop
+loop_holds : tie.Need-loop-position-init invariant_loop decreases_loop
 loop_holds c =
-    faulting_start c.before.before.before.before.before.args.n
-    (c.least3.ensures ∙ rw (c.before.least2.ensures, c.before.before.least.ensures)) (omega arith)
+    faulting_start c.args.n
+    (c.least-top.ensures ∙ rw (c.least.ensures, c.least-long.ensures)) (omega arith)
 
-shared_slice_read_if1 : tie.Need-shared-slice-read-if1 invariant_loop decreases_loop
-shared_slice_read_if1 c = omega (arith, c.before.loop-test.true, c.before.before.loop.invariant.mine)
+shared_slice_read_if1 : tie.Need-bounds-own-i invariant_loop decreases_loop
+shared_slice_read_if1 c = omega (arith, c.loop-position-test.true, c.loop-position.invariant.mine)
 
 -- the actor's cell has nothing
-loop_again : tie.Need-loop-preserved invariant_loop decreases_loop
+loop_again : tie.Need-loop-position-preserved-then-own-i-eq-NOTHING invariant_loop decreases_loop
 loop_again c =
-    let turn = c.before.before.before in
-    faulting_own turn.before.loop.invariant turn.loop-test.true c.before.if1.true c.push.ensures
+    faulting_own c.loop-position.invariant c.loop-position-test.true c.if-own-i-eq-NOTHING.true c.push-put.ensures
 
-shared_slice_read_if2 : tie.Need-shared-slice-read-if2 invariant_loop decreases_loop
-shared_slice_read_if2 c = let turn = c.before.before.before in omega (arith, turn.loop-test.true, turn.before.loop.invariant.other)
+shared_slice_read_if2 : tie.Need-bounds-theirs-i invariant_loop decreases_loop
+shared_slice_read_if2 c = omega (arith, c.loop-position-test.true, c.loop-position.invariant.other)
 
 -- the owner's has nothing
-loop_again_2 : tie.Need-loop-preserved-2 invariant_loop decreases_loop
+loop_again_2 : tie.Need-loop-position-preserved-then-owned-theirs invariant_loop decreases_loop
 loop_again_2 c =
-    let turn = c.before.before.before.before.before in
-    faulting_owner turn.before.loop.invariant turn.loop-test.true c.before.before.before.if1.false c.before.if2.true c.push2.ensures
+    faulting_owner c.loop-position.invariant c.loop-position-test.true c.if-own-i-eq-NOTHING.false c.if-owned-theirs.true c.push-put-then-owned-theirs.ensures
 
 -- each has something, or there is no owner to ask
-loop_again_3 : tie.Need-loop-preserved-3 invariant_loop decreases_loop
+loop_again_3 : tie.Need-loop-position-preserved invariant_loop decreases_loop
 loop_again_3 c =
-    let turn = c.before.before.before.before in
-    faulting_kept turn.before.loop.invariant turn.loop-test.true c.before.before.if1.false c.if2.false
+    faulting_kept c.loop-position.invariant c.loop-position-test.true c.if-own-i-eq-NOTHING.false c.if-owned-theirs.false
 
 returns : tie.Need-returns invariant_loop decreases_loop
 returns c =
-    let counted = c.before.before in
-    faulting_end c.before.loop.invariant counted.before.before.before.before.before.args.n c.loop-test.false
-    (counted.least3.ensures ∙ rw (counted.before.least2.ensures, counted.before.before.least.ensures))
+    faulting_end c.loop-position.invariant c.args.n c.loop-position-test.false
+    (c.least-top.ensures ∙ rw (c.least.ensures, c.least-long.ensures))
 
 pub put_faults_spec : {M : Type 1} → statement M
 put_faults_spec =

@@ -18,27 +18,25 @@ use Rattle.plan_verdict_text.proofs.plan_verdict_text.Tie as tie
 blank_room : (n : ℕ) → n ≤ length {A = ℕ} (replicate n 0)
 blank_room n = omega (arith, length-replicate {A = ℕ} n 0)
 
-compose_requires : tie.Need-compose-requires
+compose_requires : tie.Need-compose-length-requires
 compose_requires c κs = blank_room 1944
 
 -- the sheet's front is the text
-front : (c : tie.After-compose) →
-    let a = c.before.before.before.before.before.args in
-    take c.compose.result c.compose.new.0 ≡ plan_printed a.register.now a.plan.now
-front c = rw (c.compose.ensures.0, c.compose.ensures.1.0) (splice_front _ _)
+front : (c : tie.After-compose-length) →
+    let a = c.args in
+    take c.compose-length.result c.compose-length.new.buf ≡ plan_printed a.register.now a.plan.now
+front c = rw (c.compose-length.ensures.0, c.compose-length.ensures.1.0) (splice_front _ _)
 
-slice_aggregate_deliver : tie.Need-slice-aggregate-deliver
+slice_aggregate_deliver : tie.Need-slice_bounds-deliver-end
 slice_aggregate_deliver c =
-    let composed = c.before.before.before.before in
-    let full : length composed.compose.new.0 ≡ plan_printed_limit = composed.compose.auto.0 ∙ length-replicate {A = ℕ} 1944 0 in
-    sym (length-take-le _ composed.compose.new.0 (omega (arith, full, composed.compose.ensures.1.1)))
+    let full : length c.compose-length.new.buf ≡ plan_printed_limit = c.compose-length.auto.buf ∙ length-replicate {A = ℕ} 1944 0 in
+    sym (length-take-le _ c.compose-length.new.buf (omega (arith, full, c.compose-length.ensures.1.1)))
 
 returns : tie.Need-returns
 returns c =
-    let call = c.before.before.deliver in
-    let composed = c.before.before.before.before.before.before.before in
-    let a = composed.before.before.before.before.before.args in
-    let text = front composed in (
+    let call = c.deliver in
+    let a = c.args in
+    let text = front c.before.before.before.before.before.before in (
       call.ensures.0 ∙ ap (λ (t : List ℕ). delivered t a.buf.now) text,
       call.ensures.1 ∙ ap (λ (t : List ℕ). put 0 t a.buf.now) text,
     )

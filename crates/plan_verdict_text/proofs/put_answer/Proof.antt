@@ -10,64 +10,49 @@ use Rattle.plan_verdict_text.proofs.Joining.{answer_lines, behind_room, both_wri
 use Rattle.plan_verdict_text.proofs.put_answer.Statement.{statement}
 use Rattle.plan_verdict_text.proofs.put_answer.Tie as tie
 
-put_verdicts_requires : tie.Need-put-verdicts-requires
+put_verdicts_requires : tie.Need-put_verdicts-requires
 put_verdicts_requires c κs =
-    let headed = c.before.before.before in
-    let told = headed.before.before.before in
-    let st = told.before.before.before in
-    let v = st.args.v in (
-      behind_room (plan_answer_text v) plan_judged_line (verdicts_text v) 0 st.args.buf.now (answer_lines v Accepted told.enum_told.given.1)
-          (omega (arith, st.requires.0)) headed.put-bytes.ensures.0 headed.put-bytes.ensures.1,
-      st.requires.1,
+    let v = c.args.v in (
+      behind_room (plan_answer_text v) plan_judged_line (verdicts_text v) 0 c.args.buf.now (answer_lines v Accepted c.in-Accepted.is)
+          (omega (arith, c.requires.0)) c.put_bytes-verdicts_at.ensures.0 c.put_bytes-verdicts_at.ensures.1,
+      c.requires.1,
     )
 
-put_stopped_requires : tie.Need-put-stopped-requires
+put_stopped_requires : tie.Need-put_stopped-place_at-requires
 put_stopped_requires c κs =
-    let told = c.before.before in
-    let st = told.before.before.before in
-    let v = st.args.v in
-    let why = told.outcome.given.0.0 in
-    omega (arith, st.requires.0, ap length (answer_lines v (Refused why) told.outcome.given.1), length-append (plan_stopped_text why) (place_text why v.line v.position))
+    let v = c.args.v in
+    let why = c.in-Refused.why in
+    omega (arith, c.requires.0, ap length (answer_lines v (Refused why) c.in-Refused.is), length-append (plan_stopped_text why) (place_text why v.line v.position))
 
-put_place_requires : tie.Need-put-place-requires
+put_place_requires : tie.Need-put_place-requires
 put_place_requires c κs =
-    let headed = c.before.before.before in
-    let told = headed.before.before.before in
-    let st = told.before.before.before in
-    let v = st.args.v in
-    let why = told.outcome.given.0.0 in
-    rest_room (plan_answer_text v) (plan_stopped_text why) (place_text why v.line v.position) st.args.buf.now
-    (answer_lines v (Refused why) told.outcome.given.1) st.requires.0 headed.put-stopped.ensures.0 headed.put-stopped.ensures.1
+    let v = c.args.v in
+    let why = c.in-Refused.why in
+    rest_room (plan_answer_text v) (plan_stopped_text why) (place_text why v.line v.position) c.args.buf.now
+    (answer_lines v (Refused why) c.in-Refused.is) c.requires.0 c.put_stopped-place_at.ensures.0 c.put_stopped-place_at.ensures.1
 
-returns : tie.Need-returns
+returns : tie.Need-returns-in-Accepted
 returns c =
-    let call = c.before.before.put-verdicts in
-    let headed = c.before.before.before.before.before.before in
-    let told = headed.before.before.before in
-    let st = told.before.before.before in
-    let v = st.args.v in
+    let call = c.put_verdicts in
+    let v = c.args.v in
     let all =
-    both_written (plan_answer_text v) plan_judged_line (verdicts_text v) 0 st.args.buf.now (answer_lines v Accepted told.enum_told.given.1)
-    (omega (arith, st.requires.0)) headed.put-bytes.ensures.0 headed.put-bytes.ensures.1 call.ensures.0 call.ensures.1 in
+    both_written (plan_answer_text v) plan_judged_line (verdicts_text v) 0 c.args.buf.now (answer_lines v Accepted c.in-Accepted.is)
+    (omega (arith, c.requires.0)) c.put_bytes-verdicts_at.ensures.0 c.put_bytes-verdicts_at.ensures.1 call.ensures.0 call.ensures.1 in
     (omega (arith, all.0), all.1)
 
-returns_2 : tie.Need-returns-2
+returns_2 : tie.Need-returns-in-Refused
 returns_2 c =
-    let call = c.before.before.put-place in
-    let headed = c.before.before.before.before.before.before in
-    let told = headed.before.before.before in
-    let st = told.before.before.before in
-    let v = st.args.v in
-    let why = told.outcome.given.0.0 in
-    rest_written (plan_answer_text v) (plan_stopped_text why) (place_text why v.line v.position) st.args.buf.now
-    (answer_lines v (Refused why) told.outcome.given.1) st.requires.0 headed.put-stopped.ensures.0 headed.put-stopped.ensures.1
+    let call = c.put_place in
+    let v = c.args.v in
+    let why = c.in-Refused.why in
+    rest_written (plan_answer_text v) (plan_stopped_text why) (place_text why v.line v.position) c.args.buf.now
+    (answer_lines v (Refused why) c.in-Refused.is) c.requires.0 c.put_stopped-place_at.ensures.0 c.put_stopped-place_at.ensures.1
     call.ensures.0 call.ensures.1
 
 pub put_answer_spec : {M : Type 1} → statement M
 put_answer_spec =
     tie.close
     (tie.spec
-    (λ c. search rules)
     (λ c. search rules)
     (λ c κs. search rules)
     put_verdicts_requires

@@ -7,45 +7,39 @@ use Rattle.plan_verdict_text.proofs.Joining.{part_written, nothing_written, plac
 use Rattle.plan_verdict_text.proofs.put_place.Statement.{statement}
 use Rattle.plan_verdict_text.proofs.put_place.Tie as tie
 
-returns : tie.Need-returns
+returns : tie.Need-returns-then-number-eq-ABSENT
 returns c =
-    let call = c.before.before.put-line in
-    let test = c.before.before.before.before.before in
-    let number = test.before.number in
-    let st = test.before.before.before in
-    let a = st.args in
+    let call = c.put_line in
+    let number = c.number-number in
+    let a = c.args in
     part_written (place_text a.why a.line a.position) (decimal_line position_key a.position) a.at a.buf.now
-    (place_position a.why a.line a.position (sym number.ensures ∙ test.if1.true)) st.requires call.ensures.0 call.ensures.1
+    (place_position a.why a.line a.position (sym number.ensures ∙ c.if-number-eq-ABSENT.true)) c.requires call.ensures.0 call.ensures.1
 
-returns_2 : tie.Need-returns-2
+returns_2 : tie.Need-returns-then-number-eq-UNSOUND
 returns_2 c =
-    let number = c.before.before.number in
-    let a = c.before.before.before.before.args in
+    let number = c.number-number in
+    let a = c.args in
     nothing_written (place_text a.why a.line a.position) a.at a.buf.now
-    (place_none a.why a.line a.position (sym number.ensures ∙ c.if2.true))
+    (place_none a.why a.line a.position (sym number.ensures ∙ c.if-number-eq-UNSOUND.true))
 
-returns_3 : tie.Need-returns-3
+returns_3 : tie.Need-returns
 returns_3 c =
-    let call = c.before.before.put-line2 in
-    let test = c.before.before.before.before.before in
-    let number = test.before.before.number in
-    let st = test.before.before.before.before in
-    let a = st.args in
+    let call = c.put_line-2 in
+    let number = c.number-number in
+    let a = c.args in
     part_written (place_text a.why a.line a.position) (decimal_line line_key a.line) a.at a.buf.now
-    (place_line a.why a.line a.position (λ e. test.before.if1.false (number.ensures ∙ e)) (λ e. test.if2.false (number.ensures ∙ e)))
-    st.requires call.ensures.0 call.ensures.1
+    (place_line a.why a.line a.position (λ e. c.if-number-eq-ABSENT.false (number.ensures ∙ e)) (λ e. c.if-number-eq-UNSOUND.false (number.ensures ∙ e)))
+    c.requires call.ensures.0 call.ensures.1
 
 pub put_place_spec : {M : Type 1} → statement M
 put_place_spec =
     tie.close
     (tie.spec
     (λ c κs. search rules)
-    (λ c. search rules)
     (λ c κs. search rules)
     (λ c. search rules)
     returns
     returns_2
-    (λ c. search rules)
     (λ c κs. search rules)
     (λ c. search rules)
     returns_3)

@@ -21,64 +21,53 @@ use Rattle.plan_verdict_text.proofs.put_verdicts.Tie as tie
 abbrev beyond : Judged
 beyond = record { what = Permitted }
 
-abbrev invariant_loop : tie.invariant-loop
+abbrev invariant_loop : tie.invariant-loop-i
 invariant_loop buf₀ at v count end₀ i₀ buf end i = (i ≤ count) × Going judged_text v.list count end₀ buf₀ i end buf
 
-abbrev decreases_loop : tie.decreases-loop
+abbrev decreases_loop : tie.decreases-loop-i
 decreases_loop buf₀ at v count end₀ i₀ buf end i = count - i
 
 -- the list has all its places
-full : (c : tie.Start invariant_loop decreases_loop) → length c.args.t3.list ≡ text_action_limit
+full : (c : tie.Start invariant_loop decreases_loop) → length c.args.v.list ≡ text_action_limit
 full c = search (rules, length_mapped)
 
 -- behind the line of their number the verdicts are left
-counted : (c : tie.After-put-line invariant_loop decreases_loop) →
-    let a = c.before.before.before.before.args in
-    Writing a.at (verdicts_text a.t3) a.buf.now (texts judged_text (take a.t3.count a.t3.list)) c.put-line.result c.put-line.new.0
+counted : (c : tie.After-put_line-end invariant_loop decreases_loop) →
+    let a = c.args in
+    Writing a.at (verdicts_text a.v) a.buf.now (texts judged_text (take a.v.count a.v.list)) c.put_line-end.result c.put_line-end.new.buf
 counted c =
-    let st = c.before.before.before.before in
-    verdicts_start st.args.t3 st.requires.0 c.put-line.ensures.0 c.put-line.ensures.1
+    verdicts_start c.args.v c.requires.0 c.put_line-end.ensures.0 c.put_line-end.ensures.1
 
-loop_holds : tie.Need-loop-init invariant_loop decreases_loop
+loop_holds : tie.Need-loop-i-init invariant_loop decreases_loop
 loop_holds c = (omega arith, writing_start _ _ _)
 
-element_copy_out_entry : tie.Need-element-copy-out-entry invariant_loop decreases_loop
-element_copy_out_entry c = omega (arith, full c.before.before.before.before.before.before.before.before, c.before.before.before.before.before.before.before.before.requires.1)
+element_copy_out_entry : tie.Need-bounds-v-i invariant_loop decreases_loop
+element_copy_out_entry c = omega (arith, full c.before.before.before.before.before.before.before.before.before, c.requires.1)
 
-put_judgement_requires : tie.Need-put-judgement-requires invariant_loop decreases_loop
+put_judgement_requires : tie.Need-put_judgement-end-requires invariant_loop decreases_loop
 put_judgement_requires c κs =
-    let l = c.before.before.before in
-    let head = l.before.before.before in
-    let st = head.before.before.before.before in
-    let v = st.args.t3 in
-    going_room judged_text v.list v.count beyond (omega (arith, full st, st.requires.1)) (writing_left st.requires.0 (counted head))
-    c.before.before.loop-test.true l.loop.invariant.1
+    let v = c.args.v in
+    going_room judged_text v.list v.count beyond (omega (arith, full c.before.before.before.before.before.before.before.before.before.before.before, c.requires.1)) (writing_left c.requires.0 (counted c.before.before.before.before.before.before))
+    c.loop-i-test.true c.loop-i.invariant.1
 
-loop_again : tie.Need-loop-preserved invariant_loop decreases_loop
+loop_again : tie.Need-loop-i-preserved invariant_loop decreases_loop
 loop_again c =
-    let call = c.before.before.put-judgement in
-    let l = c.before.before.before.before.before.before in
-    let head = l.before.before.before in
-    let st = head.before.before.before.before in
-    let v = st.args.t3 in (
+    let call = c.put_judgement-end in
+    let v = c.args.v in (
       omega arith,
-      going_next judged_text v.list v.count beyond (omega (arith, full st, st.requires.1)) (writing_left st.requires.0 (counted head))
-          c.before.before.before.before.before.loop-test.true l.loop.invariant.1 call.ensures.0 call.ensures.1,
+      going_next judged_text v.list v.count beyond (omega (arith, full c.before.before.before.before.before.before.before.before.before.before.before.before.before.before, c.requires.1)) (writing_left c.requires.0 (counted c.before.before.before.before.before.before.before.before.before))
+          c.loop-i-test.true c.loop-i.invariant.1 call.ensures.0 call.ensures.1,
     )
 
-same_length : tie.Need-same-length invariant_loop decreases_loop
+same_length : tie.Need-shape_of-buf invariant_loop decreases_loop
 same_length c =
-    let head = c.before.before.before.before in
-    writing_length (writing_left head.before.before.before.before.requires.0 (counted head)) c.before.loop.invariant.1 ∙ head.put-line.auto.0
+    writing_length (writing_left c.requires.0 (counted c.before.before.before.before)) c.loop-i.invariant.1 ∙ c.put_line-end.auto.buf
 
 returns : tie.Need-returns invariant_loop decreases_loop
 returns c =
-    let l = c.before in
-    let head = l.before.before.before in
-    let st = head.before.before.before.before in
-    let v = st.args.t3 in
-    let all = going_done judged_text v.list v.count beyond (omega (arith, full st, st.requires.1)) c.loop-test.false l.loop.invariant.1 in
-    writing_last st.requires.0 (counted head) all.0 all.1
+    let v = c.args.v in
+    let all = going_done judged_text v.list v.count beyond (omega (arith, full c.before.before.before.before.before.before.before.before.before, c.requires.1)) c.loop-i-test.false c.loop-i.invariant.1 in
+    writing_last c.requires.0 (counted c.before.before.before.before) all.0 all.1
 
 pub put_verdicts_spec : {M : Type 1} → statement M
 put_verdicts_spec =
@@ -86,7 +75,6 @@ put_verdicts_spec =
     (tie.spec
     invariant_loop
     decreases_loop
-    (λ c. search rules)
     (λ c κs. search rules)
     loop_holds
     (λ c. search rules)

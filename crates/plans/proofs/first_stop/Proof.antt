@@ -7,27 +7,25 @@ use borrow.Author.Rules.{rules}
 use Rattle.plans.proofs.first_stop.Statement.{statement}
 use Rattle.plans.proofs.first_stop.Tie as tie
 
-abbrev invariant_loop : tie.invariant-loop
+abbrev invariant_loop : tie.invariant-loop-i
 invariant_loop names n p top i₀ i = Stopping names n p top i
 
-abbrev decreases_loop : tie.decreases-loop
+abbrev decreases_loop : tie.decreases-loop-i
 decreases_loop names n p top i₀ i = top - i
 
-loop_holds : tie.Need-loop-init invariant_loop decreases_loop
-loop_holds c = stopping_start (search (rules, length_mapped)) c.least.ensures
+loop_holds : tie.Need-loop-i-init invariant_loop decreases_loop
+loop_holds c = stopping_start (search (rules, length_mapped)) c.least-top.ensures
 
-returns : tie.Need-returns invariant_loop decreases_loop
+returns : tie.Need-returns-in-Refused invariant_loop decreases_loop
 returns c =
-    let turn = c.before.before.before.before.before in
-    stopping_here turn.before.loop.invariant _ turn.loop-test.true c.before.before.before.action_outcome.ensures c.before.outcome.given.1
+    stopping_here c.loop-i.invariant _ c.loop-i-test.true c.action_outcome-outcome.ensures c.in-Refused.is
 
-loop_again : tie.Need-loop-preserved invariant_loop decreases_loop
+loop_again : tie.Need-loop-i-preserved invariant_loop decreases_loop
 loop_again c =
-    let turn = c.before.before.before.before in
-    stopping_next turn.before.loop.invariant _ turn.loop-test.true c.before.before.action_outcome.ensures c.enum_told.given.1
+    stopping_next c.loop-i.invariant _ c.loop-i-test.true c.action_outcome-outcome.ensures c.in-Accepted.is
 
-returns_2 : tie.Need-returns-2 invariant_loop decreases_loop
-returns_2 c = stopping_done c.before.loop.invariant c.loop-test.false
+returns_2 : tie.Need-returns invariant_loop decreases_loop
+returns_2 c = stopping_done c.loop-i.invariant c.loop-i-test.false
 
 pub first_stop_spec : {M : Type 1} → statement M
 first_stop_spec =

@@ -12,33 +12,31 @@ use borrow.Author.Rules.{rules}
 use Rattle.plans.proofs.judge_all.Statement.{statement}
 use Rattle.plans.proofs.judge_all.Tie as tie
 
-abbrev invariant_loop : tie.invariant-loop
+abbrev invariant_loop : tie.invariant-loop-i
 invariant_loop counts found lens ends sheet bytes p top list₀ flagged₀ i₀ list flagged i =
     Holding (judgements_by (lent_of counts found lens ends sheet bytes)) p top list flagged i
 
-abbrev decreases_loop : tie.decreases-loop
+abbrev decreases_loop : tie.decreases-loop-i
 decreases_loop counts found lens ends sheet bytes p top list₀ flagged₀ i₀ list flagged i = top - i
 
-loop_holds : tie.Need-loop-init invariant_loop decreases_loop
-loop_holds c = holding_start (search (rules, length_mapped)) c.least.ensures
+loop_holds : tie.Need-loop-i-init invariant_loop decreases_loop
+loop_holds c = holding_start (search (rules, length_mapped)) c.least-top.ensures
 
-loop_again : tie.Need-loop-preserved invariant_loop decreases_loop
+loop_again : tie.Need-loop-i-preserved-then-cancelled invariant_loop decreases_loop
 loop_again c =
-    let turn = c.before.before.before in
-    judging_next _ turn.before.loop.invariant _ turn.loop-test.true (rw c.if1.true)
+    judging_next _ c.loop-i.invariant _ c.loop-i-test.true (rw c.if-cancelled.true)
 
-loop_again_2 : tie.Need-loop-preserved-2 invariant_loop decreases_loop
+loop_again_2 : tie.Need-loop-i-preserved invariant_loop decreases_loop
 loop_again_2 c =
-    let turn = c.before.before.before.before.before in
-    judging_next _ turn.before.loop.invariant _ turn.loop-test.true
-    (rw c.before.before.if1.false (c.verdict-by.ensures ∙ ap (λ y. judged_as y.violations.count) c.before.judge-by.ensures))
+    judging_next _ c.loop-i.invariant _ c.loop-i-test.true
+    (rw c.if-cancelled.false (c.verdict_by-what.ensures ∙ ap (λ y. judged_as y.violations.count) c.judge_by-judged.ensures))
 
 -- there are never more violations than places
-verdict_by_requires : tie.Need-verdict-by-requires invariant_loop decreases_loop
-verdict_by_requires c κs = rw c.judge-by.ensures (judged_most _ _)
+verdict_by_requires : tie.Need-verdict_by-what-requires invariant_loop decreases_loop
+verdict_by_requires c κs = rw c.judge_by-judged.ensures (judged_most _ _)
 
 returns : tie.Need-returns invariant_loop decreases_loop
-returns c = judging_done _ c.before.loop.invariant c.loop-test.false
+returns c = judging_done _ c.loop-i.invariant c.loop-i-test.false
 
 pub judge_all_spec : {M : Type 1} → statement M
 judge_all_spec =

@@ -2,10 +2,10 @@
 -- nothing stops is judged whole (`planned_lent`), each of the register whose claims are read from their sheet. Assumes nothing.
 use mathlib.Core.Path.{◌≡◌, sym, ◌∙◌}
 use lib.ListN.{length}
-use borrow.Author.Tests.{not-true, not-false}
 use Rattle.lists.specs.Loops.{length_mapped}
 use Rattle.lists.specs.Lists.{All}
 use Rattle.register.specs.Limits.{actor_limit, resource_limit, claim_limit, path_limit}
+use Rattle.register.specs.declared.Register.{Register}
 use Rattle.register.specs.Register.{Shaped}
 use Rattle.coverage.specs.LaidLaws.{laid_zeros}
 use Rattle.gate_rules.specs.Plans.{halt_of}
@@ -18,72 +18,57 @@ use borrow.Author.Rules.{rules}
 use Rattle.plans.proofs.plan.Statement.{statement}
 use Rattle.plans.proofs.plan.Tie as tie
 
--- the register's arrays have their lengths, by their types
-actors_long : (s : tie.Start) → length s.args.r.actors.list ≡ actor_limit
-actors_long s = search (rules, length_mapped)
+-- a register whose arrays have their lengths is shaped
+shaped : (r : Register) → length r.actors.list ≡ actor_limit → length r.resources.list ≡ resource_limit → length r.claims.list ≡ claim_limit
+    → All (λ o. length o.path ≡ path_limit) r.resources.list → Shaped r
+shaped r actors resources claims sized = record { actors = actors; resources = resources; claims = claims; paths = sized }
 
-resources_long : (s : tie.Start) → length s.args.r.resources.list ≡ resource_limit
-resources_long s = search (rules, length_mapped)
-
-claims_long : (s : tie.Start) → length s.args.r.claims.list ≡ claim_limit
-claims_long s = search (rules, length_mapped)
-
-shaped : (s : tie.Start) → All (λ o. length o.path ≡ path_limit) s.args.r.resources.list → Shaped s.args.r
-shaped s sized = record { actors = actors_long s; resources = resources_long s; claims = claims_long s; paths = sized }
-
-returns : tie.Need-returns
+returns : tie.Need-returns-then-not-found
 returns c =
-    let opened = c.before.before.before in
-    let s = opened.before.before.before.before.before in
-    let a = s.args in
-    let found = opened.examine.ensures in
-    let soundly = found_sound a.r (claims_long s) found.0 found.1 in
-    c.stopped.ensures ∙ stop_unsound (sheeted a.r) a.p (sym soundly ∙ not-true opened.examine.result.sound c.before.if1.true)
-    ∙ planned_sheeted a.r (claims_long s) a.p
+    let a = c.args in
+    -- the register's arrays have their lengths, by their types
+    let long : length a.r.claims.list ≡ claim_limit = search (rules, length_mapped) in
+    let found = c.examine-found.ensures in
+    let soundly = found_sound a.r long found.0 found.1 in
+    c.stopped.ensures ∙ stop_unsound (sheeted a.r) a.p (sym soundly ∙ c.if-not-found.true)
+    ∙ planned_sheeted a.r long a.p
 
-returns_2 : tie.Need-returns-2
+returns_2 : tie.Need-returns-then-p-gt-ACTIONS
 returns_2 c =
-    let opened = c.before.before.before.before.before in
-    let s = opened.before.before.before.before.before in
-    let a = s.args in
-    let found = opened.examine.ensures in
-    let soundly = found_sound a.r (claims_long s) found.0 found.1 in
-    c.stopped2.ensures
-    ∙ stop_many (sheeted a.r) a.p (sym soundly ∙ not-false opened.examine.result.sound c.before.before.before.if1.false) c.before.if2.true
-    ∙ planned_sheeted a.r (claims_long s) a.p
+    let a = c.args in
+    let long : length a.r.claims.list ≡ claim_limit = search (rules, length_mapped) in
+    let found = c.examine-found.ensures in
+    let soundly = found_sound a.r long found.0 found.1 in
+    c.stopped-then-p-gt-ACTIONS.ensures
+    ∙ stop_many (sheeted a.r) a.p (sym soundly ∙ c.if-not-found.false) c.if-p-gt-ACTIONS.true
+    ∙ planned_sheeted a.r long a.p
 
-returns_3 : tie.Need-returns-3
+returns_3 : tie.Need-returns-in-Refused
 returns_3 c =
-    let stopping = c.before.before.before.before in
-    let ending = stopping.before.before.before.before in
-    let laying = ending.before.before.before.before.before.before in
-    let opened = laying.before.before.before.before.before.before in
-    let s = opened.before.before.before.before.before in
-    let a = s.args in
-    let found = opened.examine.ensures in
-    let h = sym (found_sound a.r (claims_long s) found.0 found.1) ∙ not-false opened.examine.result.sound laying.before.before.before.before.if1.false in
-    let paths = laid_zeros a.r.resources laying.lay.ensures.0 laying.lay.ensures.1.0 in
-    let same = lent_told a.r (claims_long s) found.0 found.1 paths.1 ending.claim-ends.ensures paths.0 in
-    let stop = stop_found a.r a.p h laying.before.before.if2.false same stopping.first-stop.ensures in
-    c.stopped3.ensures ∙ found_halts (sheeted a.r) a.p stop c.before.before.outcome.given.0.0 c.before.before.outcome.given.1
-    ∙ planned_sheeted a.r (claims_long s) a.p
+    let a = c.args in
+    let long : length a.r.claims.list ≡ claim_limit = search (rules, length_mapped) in
+    let found = c.examine-found.ensures in
+    let h = sym (found_sound a.r long found.0 found.1) ∙ c.if-not-found.false in
+    let paths = laid_zeros a.r.resources c.lay-lens.ensures.0 c.lay-lens.ensures.1.0 in
+    let same = lent_told a.r long found.0 found.1 paths.1 c.claim_ends-ends.ensures paths.0 in
+    let stop = stop_found a.r a.p h c.if-p-gt-ACTIONS.false same c.first_stop-stop.ensures in
+    c.stopped-in-Refused.ensures ∙ found_halts (sheeted a.r) a.p stop c.in-Refused.why c.in-Refused.is
+    ∙ planned_sheeted a.r long a.p
 
-returns_4 : tie.Need-returns-4
+returns_4 : tie.Need-returns-in-Accepted
 returns_4 c =
-    let stopping = c.before.before.before.before.before.before.before in
-    let ending = stopping.before.before.before.before in
-    let laying = ending.before.before.before.before.before.before in
-    let opened = laying.before.before.before.before.before.before in
-    let s = opened.before.before.before.before.before in
-    let a = s.args in
-    let found = opened.examine.ensures in
-    let h = sym (found_sound a.r (claims_long s) found.0 found.1) ∙ not-false opened.examine.result.sound laying.before.before.before.before.if1.false in
-    let paths = laid_zeros a.r.resources laying.lay.ensures.0 laying.lay.ensures.1.0 in
-    let same = lent_told a.r (claims_long s) found.0 found.1 paths.1 ending.claim-ends.ensures paths.0 in
-    let stop = stop_found a.r a.p h laying.before.before.if2.false same stopping.first-stop.ensures in
-    planned_lent a.r a.p (shaped s laying.lay.ensures.1.1) (told_runs (halt_of (sheeted a.r) a.p) stop c.before.before.before.before.before.enum_told.given.1)
-    same c.judge-all.ensures
-    ∙ planned_sheeted a.r (claims_long s) a.p
+    let a = c.args in
+    let long : length a.r.claims.list ≡ claim_limit = search (rules, length_mapped) in
+    let found = c.examine-found.ensures in
+    let h = sym (found_sound a.r long found.0 found.1) ∙ c.if-not-found.false in
+    let paths = laid_zeros a.r.resources c.lay-lens.ensures.0 c.lay-lens.ensures.1.0 in
+    let same = lent_told a.r long found.0 found.1 paths.1 c.claim_ends-ends.ensures paths.0 in
+    let stop = stop_found a.r a.p h c.if-p-gt-ACTIONS.false same c.first_stop-stop.ensures in
+    let actors : length a.r.actors.list ≡ actor_limit = search (rules, length_mapped) in
+    let resources : length a.r.resources.list ≡ resource_limit = search (rules, length_mapped) in
+    planned_lent a.r a.p (shaped a.r actors resources long c.lay-lens.ensures.1.1) (told_runs (halt_of (sheeted a.r) a.p) stop c.in-Accepted.is)
+    same c.judge_all.ensures
+    ∙ planned_sheeted a.r long a.p
 
 pub plan_spec : {M : Type 1} → statement M
 plan_spec =

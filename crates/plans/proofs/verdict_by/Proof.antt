@@ -6,11 +6,11 @@ use Rattle.plans.specs.Laws.{agreed_counted, denied_counted}
 use Rattle.plans.proofs.verdict_by.Statement.{statement}
 use Rattle.plans.proofs.verdict_by.Tie as tie
 
-returns : tie.Need-returns
-returns c = agreed_counted c.before.args.count c.if1.true
+returns : tie.Need-returns-then-count-eq0
+returns c = agreed_counted c.args.count c.if-count-eq0.true
 
-returns_2 : tie.Need-returns-2
-returns_2 c = denied_counted c.before.args.count c.if1.false
+returns_2 : tie.Need-returns
+returns_2 c = denied_counted c.args.count c.if-count-eq0.false
 
 pub verdict_by_spec : {M : Type 1} → statement M
-verdict_by_spec = tie.close (tie.spec returns (λ c. Fits-below {n = violation_limit} tt c.before.requires) returns_2)
+verdict_by_spec = tie.close (tie.spec returns (λ c. Fits-below {n = violation_limit} tt c.requires) returns_2)

@@ -5,7 +5,7 @@ use Rattle.portal.proofs.guvrendik_attach.Statement.{statement}
 use Rattle.portal.proofs.guvrendik_attach.Tie as tie
 
 returns : tie.Need-returns
-returns c = attach_told_lem c.before.before.before.attach.ensures c.before.accepted.ensures c.refusal.ensures
+returns c = attach_told_lem c.attach-answer.ensures c.accepted.ensures c.refusal.ensures
 
 pub guvrendik_attach_spec : {M : Type 1} → statement M
 guvrendik_attach_spec = tie.close (tie.spec (λ c κs. search rules) (λ c κs. search rules) (λ c κs. search rules) returns)

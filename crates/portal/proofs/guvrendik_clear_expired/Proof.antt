@@ -8,8 +8,8 @@ use Rattle.portal.proofs.guvrendik_clear_expired.Tie as tie
 
 returns : tie.Need-returns
 returns c =
-    let given = c.before.before.args in
-    c.withdrawn.ensures ∙ ap (withdrawn_answer given.r) c.before.clear-expired.ensures ∙ withdrawn_natural given.r (clear_expired given.caller given.moment)
+    let given = c.args in
+    c.withdrawn.ensures ∙ ap (withdrawn_answer given.r) c.clear_expired-struck.ensures ∙ withdrawn_natural given.r (clear_expired given.caller given.moment)
 
 pub guvrendik_clear_expired_spec : {M : Type 1} → statement M
 guvrendik_clear_expired_spec = tie.close (tie.spec (λ c κs. search rules) (λ c κs. search rules) returns)

@@ -8,8 +8,8 @@ use Rattle.portal.proofs.guvrendik_clear_resource.Tie as tie
 
 returns : tie.Need-returns
 returns c =
-    let given = c.before.before.args in
-    c.withdrawn.ensures ∙ ap (withdrawn_answer given.r) c.before.clear-resource.ensures ∙ withdrawn_natural given.r (clear_resource given.caller given.resource)
+    let given = c.args in
+    c.withdrawn.ensures ∙ ap (withdrawn_answer given.r) c.clear_resource-struck.ensures ∙ withdrawn_natural given.r (clear_resource given.caller given.resource)
 
 pub guvrendik_clear_resource_spec : {M : Type 1} → statement M
 guvrendik_clear_resource_spec = tie.close (tie.spec (λ c κs. search rules) (λ c κs. search rules) returns)

@@ -6,7 +6,7 @@ use Rattle.portal.proofs.guvrendik_contains.Statement.{statement}
 use Rattle.portal.proofs.guvrendik_contains.Tie as tie
 
 returns : tie.Need-returns
-returns c = c.contained.ensures ∙ ap containment_of c.before.contains.ensures ∙ containment_told _ _
+returns c = c.contained.ensures ∙ ap containment_of c.contains.ensures ∙ containment_told _ _
 
 pub guvrendik_contains_spec : {M : Type 1} → statement M
 guvrendik_contains_spec = tie.close (tie.spec (λ c κs. search rules) (λ c κs. search rules) returns)

@@ -5,7 +5,7 @@ use Rattle.portal.proofs.guvrendik_cover_table.Statement.{statement}
 use Rattle.portal.proofs.guvrendik_cover_table.Tie as tie
 
 returns : tie.Need-returns
-returns c = table_told c.before.before.before.before.before.before.cover-table.ensures c.before.accepted.ensures c.refusal.ensures
+returns c = table_told c.cover_table-shown.ensures c.accepted.ensures c.refusal.ensures
 
 pub guvrendik_cover_table_spec : {M : Type 1} → statement M
 guvrendik_cover_table_spec = tie.close (tie.spec (λ c κs. search rules) (λ c κs. search rules) (λ c κs. search rules) returns)

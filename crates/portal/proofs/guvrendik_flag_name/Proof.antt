@@ -7,7 +7,7 @@ use Rattle.portal.proofs.guvrendik_flag_name.Tie as tie
 
 returns : tie.Need-returns
 returns c =
-    let call = c.before.before.before.flag-name in
+    let call = c.flag_name in
     (c.written.ensures ∙ ap written_answer call.ensures.0, call.ensures.1)
 
 pub guvrendik_flag_name_spec : {M : Type 1} → statement M

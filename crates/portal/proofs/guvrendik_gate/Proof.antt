@@ -6,7 +6,7 @@ use Rattle.portal.proofs.guvrendik_gate.Tie as tie
 
 returns : tie.Need-returns
 returns c =
-    gate_told c.before.before.before.before.before.gate.ensures c.before.before.decision.ensures c.before.stop.ensures c.violations.ensures
+    gate_told c.gate-verdict.ensures c.decision.ensures c.stop.ensures c.violations.ensures
 
 pub guvrendik_gate_spec : {M : Type 1} → statement M
 guvrendik_gate_spec = tie.close (tie.spec (λ c κs. search rules) (λ c κs. search rules) (λ c κs. search rules) (λ c κs. search rules) returns)

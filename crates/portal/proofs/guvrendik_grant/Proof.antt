@@ -7,9 +7,9 @@ use Rattle.portal.proofs.guvrendik_grant.Tie as tie
 
 returns : tie.Need-returns
 returns c =
-    let given = c.before.before.before.args in
+    let given = c.args in
     c.granted.ensures
-    ∙ ap (λ g. granted_answer given.r g.claim g.outcome) c.before.before.grant_outcome_lem.ensures
+    ∙ ap (λ g. granted_answer given.r g.claim g.outcome) c.grant_outcome-settled.ensures
     ∙ granted_natural given.r given.c given.moment
 
 pub guvrendik_grant_spec : {M : Type 1} → statement M

@@ -7,7 +7,7 @@ use Rattle.portal.proofs.guvrendik_json_verdict_text.Tie as tie
 
 returns : tie.Need-returns
 returns c =
-    let call = c.before.before.before.json-verdict-text in
+    let call = c.json_verdict_text in
     (c.written.ensures ∙ ap written_answer call.ensures.0, call.ensures.1)
 
 pub guvrendik_json_verdict_text_spec : {M : Type 1} → statement M

@@ -5,7 +5,7 @@ use Rattle.portal.proofs.guvrendik_judge_plan.Statement.{statement}
 use Rattle.portal.proofs.guvrendik_judge_plan.Tie as tie
 
 returns : tie.Need-returns
-returns c = plan_told c.before.before.before.plan.ensures c.before.before.accepted.ensures c.before.refusal.ensures c.judgements.ensures
+returns c = plan_told c.plan-verdict.ensures c.accepted.ensures c.refusal.ensures c.judgements.ensures
 
 pub guvrendik_judge_plan_spec : {M : Type 1} → statement M
 guvrendik_judge_plan_spec = tie.close (tie.spec (λ c κs. search rules) (λ c κs. search rules) (λ c κs. search rules) (λ c κs. search rules) returns)

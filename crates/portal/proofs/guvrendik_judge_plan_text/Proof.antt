@@ -6,7 +6,7 @@ use Rattle.portal.proofs.guvrendik_judge_plan_text.Tie as tie
 
 returns : tie.Need-returns
 returns c =
-    plan_text_told c.before.before.before.plan-text.ensures c.before.before.accepted.ensures c.before.refusal.ensures c.text-judgements.ensures
+    plan_text_told c.plan_text-verdict.ensures c.accepted.ensures c.refusal.ensures c.text_judgements.ensures
 
 pub guvrendik_judge_plan_text_spec : {M : Type 1} → statement M
 guvrendik_judge_plan_text_spec = tie.close (tie.spec (λ c κs. search rules) (λ c κs. search rules) (λ c κs. search rules) (λ c κs. search rules) returns)

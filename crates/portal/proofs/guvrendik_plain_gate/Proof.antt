@@ -2,15 +2,14 @@
 -- answer. Assumes nothing.
 use mathlib.Core.Path.{◌∙◌}
 use borrow.Author.Rules.{rules}
-use Rattle.coverage_table.specs.Sameness.{gate_same}
+use Rattle.coverage_table.proofs.Sameness.{gate_same}
 use Rattle.answers.specs.Laws.{gate_told}
 use Rattle.portal.proofs.guvrendik_plain_gate.Statement.{statement}
 use Rattle.portal.proofs.guvrendik_plain_gate.Tie as tie
 
 returns : tie.Need-returns
 returns c =
-    let judged = c.before.before.before.before.before in
-    gate_told (judged.gate.ensures ∙ gate_same _ _) c.before.before.decision.ensures c.before.stop.ensures c.violations.ensures
+    gate_told (c.gate-verdict.ensures ∙ gate_same _ _) c.decision.ensures c.stop.ensures c.violations.ensures
 
 pub guvrendik_plain_gate_spec : {M : Type 1} → statement M
 guvrendik_plain_gate_spec = tie.close (tie.spec (λ c κs. search rules) (λ c κs. search rules) (λ c κs. search rules) (λ c κs. search rules) returns)

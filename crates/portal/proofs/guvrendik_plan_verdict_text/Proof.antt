@@ -7,7 +7,7 @@ use Rattle.portal.proofs.guvrendik_plan_verdict_text.Tie as tie
 
 returns : tie.Need-returns
 returns c =
-    let call = c.before.before.before.plan-verdict-text in
+    let call = c.plan_verdict_text in
     (c.written.ensures ∙ ap written_answer call.ensures.0, call.ensures.1)
 
 pub guvrendik_plan_verdict_text_spec : {M : Type 1} → statement M

@@ -4,7 +4,7 @@ use Rattle.portal.proofs.guvrendik_propose.Statement.{statement}
 use Rattle.portal.proofs.guvrendik_propose.Tie as tie
 
 returns : tie.Need-returns
-returns c = rw (c.proposed.ensures, c.before.propose.ensures)
+returns c = rw (c.proposed.ensures, c.propose.ensures)
 
 pub guvrendik_propose_spec : {M : Type 1} → statement M
 guvrendik_propose_spec = tie.close (tie.spec (λ c κs. search rules) (λ c κs. search rules) returns)

@@ -5,7 +5,7 @@ use Rattle.portal.proofs.guvrendik_read_action.Statement.{statement}
 use Rattle.portal.proofs.guvrendik_read_action.Tie as tie
 
 returns : tie.Need-returns
-returns c = action_told c.before.before.before.read-action.ensures c.before.accepted.ensures c.refusal.ensures
+returns c = action_told c.read_action-asked.ensures c.accepted.ensures c.refusal.ensures
 
 pub guvrendik_read_action_spec : {M : Type 1} → statement M
 guvrendik_read_action_spec = tie.close (tie.spec (λ c κs. search rules) (λ c κs. search rules) (λ c κs. search rules) returns)

@@ -5,7 +5,7 @@ use Rattle.portal.proofs.guvrendik_read_json.Statement.{statement}
 use Rattle.portal.proofs.guvrendik_read_json.Tie as tie
 
 returns : tie.Need-returns
-returns c = json_told c.before.before.before.before.read-json.ensures c.before.accepted.ensures c.refusal.ensures
+returns c = json_told c.read_json-posed.ensures c.accepted.ensures c.refusal.ensures
 
 pub guvrendik_read_json_spec : {M : Type 1} → statement M
 guvrendik_read_json_spec = tie.close (tie.spec (λ c κs. search rules) (λ c κs. search rules) (λ c κs. search rules) returns)

@@ -7,7 +7,7 @@ use Rattle.portal.proofs.guvrendik_refusal_text.Tie as tie
 
 returns : tie.Need-returns
 returns c =
-    let call = c.before.before.before.refusal-text in
+    let call = c.refusal_text in
     (c.written.ensures ∙ ap written_answer call.ensures.0, call.ensures.1)
 
 pub guvrendik_refusal_text_spec : {M : Type 1} → statement M

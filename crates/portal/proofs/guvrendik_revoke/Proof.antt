@@ -8,8 +8,8 @@ use Rattle.portal.proofs.guvrendik_revoke.Tie as tie
 
 returns : tie.Need-returns
 returns c =
-    let given = c.before.before.args in
-    c.withdrawn.ensures ∙ ap (withdrawn_answer given.r) c.before.revoke.ensures ∙ withdrawn_natural given.r (revoke given.revoker given.claim)
+    let given = c.args in
+    c.withdrawn.ensures ∙ ap (withdrawn_answer given.r) c.revoke-struck.ensures ∙ withdrawn_natural given.r (revoke given.revoker given.claim)
 
 pub guvrendik_revoke_spec : {M : Type 1} → statement M
 guvrendik_revoke_spec = tie.close (tie.spec (λ c κs. search rules) (λ c κs. search rules) returns)

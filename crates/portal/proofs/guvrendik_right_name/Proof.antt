@@ -7,7 +7,7 @@ use Rattle.portal.proofs.guvrendik_right_name.Tie as tie
 
 returns : tie.Need-returns
 returns c =
-    let call = c.before.before.before.right-name in
+    let call = c.right_name in
     (c.written.ensures ∙ ap written_answer call.ensures.0, call.ensures.1)
 
 pub guvrendik_right_name_spec : {M : Type 1} → statement M

@@ -7,7 +7,7 @@ use Rattle.portal.proofs.guvrendik_violation_text.Tie as tie
 
 returns : tie.Need-returns
 returns c =
-    let call = c.before.before.before.violation-text in
+    let call = c.violation_text in
     (c.written.ensures ∙ ap written_answer call.ensures.0, call.ensures.1)
 
 pub guvrendik_violation_text_spec : {M : Type 1} → statement M

@@ -7,7 +7,7 @@ use Rattle.portal.proofs.guvrendik_write_json.Tie as tie
 
 returns : tie.Need-returns
 returns c =
-    let call = c.before.before.before.write-json in
+    let call = c.write_json in
     (c.written.ensures ∙ ap written_answer call.ensures.0, call.ensures.1)
 
 pub guvrendik_write_json_spec : {M : Type 1} → statement M

@@ -19,23 +19,23 @@ bytes_long s = search rules
 room : (s : tie.Start) → {n : ℕ} → n ≡ min s.args.o.len path_limit → n ≤ length s.args.o.path
 room s e = omega (arith, e, bytes_long s)
 
-slice_aggregate_contains : tie.Need-slice-aggregate-contains
-slice_aggregate_contains c = sym (length-take-le _ _ (room c.before.before.before.before.before c.before.before.before.least.ensures))
+slice_aggregate_contains : tie.Need-slice_bounds-contains-end
+slice_aggregate_contains c = sym (length-take-le _ _ (room c.before.before.before.before c.least-len.ensures))
 
-slice_aggregate_contains_2 : tie.Need-slice-aggregate-contains-2
-slice_aggregate_contains_2 c = sym (length-take-le _ _ (room c.before.before.before.before.before.before c.before.before.before.before.least.ensures))
+slice_aggregate_contains_2 : tie.Need-slice_bounds-contains-end-2
+slice_aggregate_contains_2 c = sym (length-take-le _ _ (room c.before.before.before.before c.least-len.ensures))
 
-returns : tie.Need-returns
+returns : tie.Need-returns-in-Outside
 returns c =
-    let s = c.before.before.before.before.before.before.before.before.before in
-    let same = path_least s.args.o (bytes_long s) c.before.before.before.before.before.before.before.least.ensures in
-    reach_outside _ _ (sym c.before.before.contains.ensures ∙ c.enum_told.given.1) ∙ ap (λ p. contained p p) same
+    let s = c.before.before.before.before.before.before in
+    let same = path_least s.args.o (bytes_long s) c.least-len.ensures in
+    reach_outside _ _ (sym c.contains.ensures ∙ c.in-Outside.is) ∙ ap (λ p. contained p p) same
 
-returns_2 : tie.Need-returns-2
+returns_2 : tie.Need-returns-in-Inside
 returns_2 c =
-    let s = c.before.before.before.before.before.before.before.before.before in
-    let same = path_least s.args.o (bytes_long s) c.before.before.before.before.before.before.before.least.ensures in
-    reach_inside _ _ c.enum-told2.given.0.0 (sym c.before.before.contains.ensures ∙ c.enum-told2.given.1) ∙ ap (λ p. contained p p) same
+    let s = c.before.before.before.before.before.before in
+    let same = path_least s.args.o (bytes_long s) c.least-len.ensures in
+    reach_inside _ _ c.in-Inside.field-0 (sym c.contains.ensures ∙ c.in-Inside.is) ∙ ap (λ p. contained p p) same
 
 pub contains_itself_spec : {M : Type 1} → statement M
 contains_itself_spec =

@@ -11,37 +11,35 @@ use borrow.Author.Rules.{rules}
 use Rattle.proposing.proofs.draw.Statement.{statement}
 use Rattle.proposing.proofs.draw.Tie as tie
 
-rooms_requires : tie.Need-rooms-requires
+rooms_requires : tie.Need-rooms-left-requires
 rooms_requires c κs =
-    let e = c.before.before.before.before.before.before.before.before.before.before.before in
-    let s = e.args.sheet.now in (
-      e.requires.0,
+    let s = c.args.sheet.now in (
+      c.requires.0,
       search rules,
-      ap length c.before.before.before.before.before.before.before.before.before.column.ensures ∙ column_length s 2 e.requires.1 (omega arith),
-      ap length c.before.before.before.before.before.before.before.before.column2.ensures ∙ column_length s 3 e.requires.1 (omega arith),
+      ap length c.column-grantors.ensures ∙ column_length s 2 c.requires.1 (omega arith),
+      ap length c.column-holders.ensures ∙ column_length s 3 c.requires.1 (omega arith),
     )
 
-marks_requires : tie.Need-marks-requires
-marks_requires c κs =
-    let e = c.before.before.before.before.before.before.before.before.before.before.before.before.before.before in (
-      e.requires.0,
-      ap length c.before.before.before.before.before.before.before.claim-ends.ensures ∙ ends_long _ _ _ _,
-      ap length c.before.before.rooms.ensures ∙ rooms_long _ _ _ _ _ _ e.requires.0,
-    )
+marks_requires : tie.Need-marks-marked-requires
+marks_requires c κs = (
+  c.requires.0,
+  ap length c.claim_ends-ends.ensures ∙ ends_long _ _ _ _,
+  ap length c.rooms-left.ensures ∙ rooms_long _ _ _ _ _ _ c.requires.0,
+)
 
-least_free_requires : tie.Need-least-free-requires
-least_free_requires c κs = let e = c.before.before.before.before.before.before.before.before.before.before.before.before.before.before.before in (e.requires.0, e.requires.1)
+least_free_requires : tie.Need-least_free-requires
+least_free_requires c κs = (c.requires.0, c.requires.1)
 
 sign_requires : tie.Need-sign-requires
 sign_requires c κs =
-    let e = c.before.before.before.before.before.before.before.before.before.before.before.before.before.before.before.before.before.before in (e.requires.0, e.requires.1, ap length c.before.before.before.marks.ensures ∙ marks_long _ _ _ _ _ _ _ e.requires.0)
+    (c.requires.0, c.requires.1, ap length c.marks-marked.ensures ∙ marks_long _ _ _ _ _ _ _ c.requires.0)
 
 returns : tie.Need-returns
 returns c =
-    let a = c.before.before.before.before.before.before.before.before.before.before.before.before.before.before.before.before.before.before.before.args in
-    drawn_told a.version a.counts a.t3 a.sheet.now a.actor a.usage a.moment a.signers
-    c.before.before.before.before.before.before.before.before.before.before.before.before.before.before.before.before.before.column.ensures c.before.before.before.before.before.before.before.before.before.before.before.before.before.before.before.before.column2.ensures c.before.before.before.before.before.before.before.before.before.before.before.before.claim-ends.ensures c.before.before.before.before.before.before.before.before.before.before.before.hands-taken.ensures c.before.before.before.before.before.before.before.rooms.ensures
-    c.before.before.before.before.marks.ensures c.before.before.before.least-free.ensures c.before.before.worth.ensures c.sign.ensures
+    let a = c.args in
+    drawn_told a.version a.counts a.found a.sheet.now a.actor a.usage a.moment a.signers
+    c.column-grantors.ensures c.column-holders.ensures c.claim_ends-ends.ensures c.hands_taken-step.ensures c.rooms-left.ensures
+    c.marks-marked.ensures c.least_free.ensures c.worth.ensures c.sign.ensures
 
 pub draw_spec : {M : Type 1} → statement M
 draw_spec =

@@ -7,10 +7,9 @@ use Rattle.proposing.proofs.gate_permits.Tie as tie
 
 returns : tie.Need-returns
 returns c =
-    let e = c.before.before.before.before in
-    let a = e.args in
-    c.is_permitted_lem.ensures
-    ∙ permits_read a.r a.usage a.moment c.before.before.one-use.ensures (c.before.gate-by.ensures.1 e.requires.put e.requires.told) refl
+    let a = c.args in
+    c.is_permitted.ensures
+    ∙ permits_read a.r a.usage a.moment c.one_use.ensures (c.gate_by-verdict.ensures.1 c.requires.put c.requires.told) refl
 
 pub gate_permits_spec : {M : Type 1} → statement M
 gate_permits_spec =

@@ -3,11 +3,11 @@ use Rattle.proposing.proofs.Leaves.{taken_none, taken_one}
 use Rattle.proposing.proofs.hands_taken.Statement.{statement}
 use Rattle.proposing.proofs.hands_taken.Tie as tie
 
-returns : tie.Need-returns
-returns c = taken_none c.before.args.version c.if1.true
+returns : tie.Need-returns-then-version-eq-VERSION_TWO
+returns c = taken_none c.args.version c.if-version-eq-VERSION_TWO.true
 
-returns_2 : tie.Need-returns-2
-returns_2 c = taken_one c.before.args.version c.if1.false
+returns_2 : tie.Need-returns-else-version-eq-VERSION_TWO
+returns_2 c = taken_one c.args.version c.if-version-eq-VERSION_TWO.false
 
 pub hands_taken_spec : {M : Type 1} → statement M
 hands_taken_spec =

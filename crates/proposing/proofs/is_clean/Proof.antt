@@ -8,18 +8,17 @@ use borrow.Author.Rules.{rules}
 use Rattle.proposing.proofs.is_clean.Statement.{statement}
 use Rattle.proposing.proofs.is_clean.Tie as tie
 
-places : (s : tie.Start) → length s.args.t1.list ≡ resource_limit
+places : (s : tie.Start) → length s.args.k.list ≡ resource_limit
 places s = search (rules, length_mapped)
 
-returns : tie.Need-returns
+returns : tie.Need-returns-then-spot-least
 returns c =
     let s = c.before.before.before.before in
-    c.contains_itself.ensures ∙ clean_there s.args.t1 s.args.spot _ (rw (← c.before.before.before.least.ensures) c.before.before.if1.true) (places s)
+    c.contains_itself.ensures ∙ clean_there s.args.k s.args.spot _ (rw (← c.least.ensures) c.if-spot-least.true) (places s)
 
-returns_2 : tie.Need-returns-2
+returns_2 : tie.Need-returns-else-spot-least
 returns_2 c =
-    let s = c.before.before in
-    clean_nowhere s.args.t1 s.args.spot (rw (← c.before.least.ensures) c.if1.false)
+    clean_nowhere c.args.k c.args.spot (rw (← c.least.ensures) c.if-spot-least.false)
 
 pub is_clean_spec : {M : Type 1} → statement M
 is_clean_spec =

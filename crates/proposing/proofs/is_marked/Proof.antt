@@ -6,8 +6,8 @@ use Rattle.proposing.proofs.is_marked.Tie as tie
 
 returns : tie.Need-returns
 returns c =
-    let a = c.before.before.before.before.before.args in
-    marks_joined a.version a.usage a.moment a.c a.end a.room c.before.before.has.ensures c.before.has2.ensures
+    let a = c.args in
+    marks_joined a.version a.usage a.moment a.c a.end a.room c.has.ensures c.has-2.ensures
 
 pub is_marked_spec : {M : Type 1} → statement M
 is_marked_spec =

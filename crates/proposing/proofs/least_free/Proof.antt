@@ -10,45 +10,43 @@ use borrow.Author.Rules.{rules}
 use Rattle.proposing.proofs.least_free.Statement.{statement}
 use Rattle.proposing.proofs.least_free.Tie as tie
 
-abbrev invariant_loop : tie.invariant-loop
+abbrev invariant_loop : tie.invariant-loop-id
 invariant_loop sheet n used id₀ id = Trying sheet n used id
 
-abbrev decreases_loop : tie.decreases-loop
+abbrev decreases_loop : tie.decreases-loop-id
 decreases_loop sheet n used id₀ id = n + 1 - id
 
-used_ids_requires : tie.Need-used-ids-requires invariant_loop decreases_loop
+used_ids_requires : tie.Need-used_ids-used-requires invariant_loop decreases_loop
 used_ids_requires c κs =
-    let e = c.before.before in
-    omega (arith, e.requires.0, ap length c.column.ensures, column_length e.args.sheet.now 0 e.requires.1 (omega arith))
+    omega (arith, c.requires.0, ap length c.column.ensures, column_length c.args.sheet.now 0 c.requires.1 (omega arith))
 
-loop_holds : tie.Need-loop-init invariant_loop decreases_loop
+loop_holds : tie.Need-loop-id-init invariant_loop decreases_loop
 loop_holds c =
-    let e = c.before.before.before in
-    trying_start e.requires.0 e.requires.1 (c.used-ids.ensures ∙ ap (λ l. ids_used (take e.args.n l)) c.before.column.ensures)
+    trying_start c.requires.0 c.requires.1 (c.used_ids-used.ensures ∙ ap (λ l. ids_used (take c.args.n l)) c.column.ensures)
 
-array_read_if1 : tie.Need-array-read-if1 invariant_loop decreases_loop
-array_read_if1 c = let inside = c.loop-test.true in omega (arith, inside, c.before.loop.invariant.few)
+array_read_if1 : tie.Need-bounds-used-id invariant_loop decreases_loop
+array_read_if1 c = let inside = c.loop-id-test.true in omega (arith, inside, c.loop-id.invariant.few)
 
-add_id : tie.Need-overflow-add-id invariant_loop decreases_loop
-add_id c = let small = trying_small c.before.before.loop.invariant in search rules
+add_id : tie.Need-overflow_add-id invariant_loop decreases_loop
+add_id c = let small = trying_small c.loop-id.invariant in search rules
 
-loop_less : tie.Need-loop-smaller invariant_loop decreases_loop
-loop_less c = omega (arith, c.before.loop-test.true, c.before.before.loop.invariant.least)
+loop_less : tie.Need-loop-id-smaller invariant_loop decreases_loop
+loop_less c = omega (arith, c.loop-id-test.true, c.loop-id.invariant.least)
 
-loop_again : tie.Need-loop-preserved invariant_loop decreases_loop
-loop_again c = trying_next c.before.before.loop.invariant c.before.loop-test.true c.if1.true
+loop_again : tie.Need-loop-id-preserved invariant_loop decreases_loop
+loop_again c = trying_next c.loop-id.invariant c.loop-id-test.true c.if-used-id.true
 
-cast_result : tie.Need-overflow-cast-result invariant_loop decreases_loop
-cast_result c = let small = trying_small c.before.before.loop.invariant in search rules
+cast_result : tie.Need-overflow_cast-result invariant_loop decreases_loop
+cast_result c = let small = trying_small c.loop-id.invariant in search rules
 
-returns : tie.Need-returns invariant_loop decreases_loop
-returns c = trying_found c.before.before.loop.invariant c.before.loop-test.true c.if1.false
+returns : tie.Need-returns-else-used-id invariant_loop decreases_loop
+returns c = trying_found c.loop-id.invariant c.loop-id-test.true c.if-used-id.false
 
-cast_result_2 : tie.Need-overflow-cast-result-2 invariant_loop decreases_loop
-cast_result_2 c = let small = trying_small c.before.loop.invariant in search rules
+cast_result_2 : tie.Need-overflow_cast-result-2 invariant_loop decreases_loop
+cast_result_2 c = let small = trying_small c.loop-id.invariant in search rules
 
-returns_2 : tie.Need-returns-2 invariant_loop decreases_loop
-returns_2 c = trying_done c.before.loop.invariant c.loop-test.false
+returns_2 : tie.Need-returns invariant_loop decreases_loop
+returns_2 c = trying_done c.loop-id.invariant c.loop-id-test.false
 
 pub least_free_spec : {M : Type 1} → statement M
 least_free_spec =

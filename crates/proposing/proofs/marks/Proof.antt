@@ -12,37 +12,37 @@ use borrow.Author.Rules.{rules}
 use Rattle.proposing.proofs.marks.Statement.{statement}
 use Rattle.proposing.proofs.marks.Tie as tie
 
-abbrev invariant_loop : tie.invariant-loop
+abbrev invariant_loop : tie.invariant-loop-i
 invariant_loop version usage moment sheet ends rooms n found₀ i₀ found i = Filling claim_limit (mark_at version usage moment sheet ends rooms) n false i found
 
-abbrev decreases_loop : tie.decreases-loop
+abbrev decreases_loop : tie.decreases-loop-i
 decreases_loop version usage moment sheet ends rooms n found₀ i₀ found i = n - i
 
-loop_holds : tie.Need-loop-init invariant_loop decreases_loop
-loop_holds c = filling_start c.before.before.before.requires.0
+loop_holds : tie.Need-loop-i-init invariant_loop decreases_loop
+loop_holds c = filling_start c.requires.0
 
-shared_slice_read_is_marked : tie.Need-shared-slice-read-is-marked invariant_loop decreases_loop
-shared_slice_read_is_marked c = omega (arith, c.before.before.loop-test.true, c.before.before.before.before.before.before.before.requires.0, c.before.before.before.before.before.before.before.requires.1)
+shared_slice_read_is_marked : tie.Need-bounds-ends-i invariant_loop decreases_loop
+shared_slice_read_is_marked c = omega (arith, c.loop-i-test.true, c.requires.0, c.requires.1)
 
-shared_slice_read_is_marked_2 : tie.Need-shared-slice-read-is-marked-2 invariant_loop decreases_loop
-shared_slice_read_is_marked_2 c = omega (arith, c.before.before.before.loop-test.true, c.before.before.before.before.before.before.before.before.requires.0, c.before.before.before.before.before.before.before.before.requires.2)
+shared_slice_read_is_marked_2 : tie.Need-bounds-rooms-i invariant_loop decreases_loop
+shared_slice_read_is_marked_2 c = omega (arith, c.loop-i-test.true, c.requires.0, c.requires.2)
 
-array_write_found : tie.Need-array-write-found invariant_loop decreases_loop
-array_write_found c = let inside = c.before.before.before.before.loop-test.true in let few = c.before.before.before.before.before.before.before.before.before.requires.0 in search rules
+array_write_found : tie.Need-bounds-found-i invariant_loop decreases_loop
+array_write_found c = let inside = c.loop-i-test.true in let few = c.requires.0 in search rules
 
-loop_less : tie.Need-loop-smaller invariant_loop decreases_loop
-loop_less c = less _ _ c.before.before.before.before.loop-test.true
+loop_less : tie.Need-loop-i-smaller invariant_loop decreases_loop
+loop_less c = less _ _ c.loop-i-test.true
 
-loop_again : tie.Need-loop-preserved invariant_loop decreases_loop
+loop_again : tie.Need-loop-i-preserved invariant_loop decreases_loop
 loop_again c =
-    let a = c.before.before.before.before.before.before.before.before.before.args in
-    filling_next c.before.before.before.before.before.loop.invariant _ c.before.before.before.before.loop-test.true
-    (c.is-marked.ensures
-    ∙ ap (λ d. marked_by a.version a.usage a.moment d (get_or a.ends.now c.before.before.before.before.before.loop.i 0) (get_or a.rooms.now c.before.before.before.before.before.loop.i 0)) c.before.before.before.claim-at.ensures)
+    let a = c.args in
+    filling_next c.loop-i.invariant _ c.loop-i-test.true
+    (c.is_marked.ensures
+    ∙ ap (λ d. marked_by a.version a.usage a.moment d (get_or a.ends.now c.loop-i.i 0) (get_or a.rooms.now c.loop-i.i 0)) c.claim_at-c.ensures)
 
 returns : tie.Need-returns invariant_loop decreases_loop
 unfolding marks_by
-returns c = filling_end c.before.loop.invariant c.loop-test.false
+returns c = filling_end c.loop-i.invariant c.loop-i-test.false
 
 pub marks_spec : {M : Type 1} → statement M
 marks_spec =
@@ -52,9 +52,9 @@ marks_spec =
     decreases_loop
     loop_holds
     (λ c κs. search rules)
-    (λ c. let inside = c.before.loop-test.true in search rules)
+    (λ c. let inside = c.loop-i-test.true in search rules)
     shared_slice_read_is_marked
-    (λ c. let inside = c.before.before.loop-test.true in search rules)
+    (λ c. let inside = c.loop-i-test.true in search rules)
     shared_slice_read_is_marked_2
     (λ c κs. search rules)
     array_write_found

@@ -6,8 +6,9 @@ use Rattle.lists.specs.Lists.{All}
 use Rattle.register.specs.Limits.{actor_limit, resource_limit, claim_limit, path_limit}
 use Rattle.register.specs.Register.{Shaped}
 use Rattle.soundness.specs.Laws.{examined}
-use Rattle.proposals.specs.Planning.{planned_proposed}
-use Rattle.proposals.specs.Exact.{asked_out}
+use Rattle.proposals.proofs.Planning.{planned_proposed}
+use Rattle.proposals.proofs.Exact.{asked_out}
+use Rattle.register.specs.contracts.Resource.{the_row}
 use Rattle.proposing.proofs.Owned.{each_told}
 use Rattle.proposing.proofs.Answering.{asked_told, marks_stopped}
 use borrow.Author.Rules.{rules}
@@ -25,36 +26,36 @@ claims_long : (s : tie.Start) → length s.args.r.claims.list ≡ claim_limit
 claims_long s = search (rules, length_mapped)
 
 paths_told : (s : tie.Start) → All (λ o. length o.path ≡ path_limit) s.args.r.resources.list
-paths_told s = each_told _ _ _ (λ o. length o.path ≡ path_limit) (λ o u told. search (rules, told)) s.args.r.resources.list _ s.well-formed.0.1.1.1.0.1.1.0.1.1
+paths_told s = each_told the_row.own_val (λ o. length o.path ≡ path_limit) (λ o u told. search (rules, told)) s.args.r.resources.list _ s.well_formed.0.1.1.1.0.1.1.0.1.1
 
 shaped : (s : tie.Start) → Shaped s.args.r
 shaped s = record { actors = actors_long s; resources = resources_long s; claims = claims_long s; paths = paths_told s }
 
-propose_by_requires : tie.Need-propose-by-requires
+propose_by_requires : tie.Need-propose_by-requires
 propose_by_requires c κs =
-    let s = c.before.before.before.before.before.before.before.before.before.before.before.before.before.before.before in
+    let s = c.before.before.before.before.before.before.before.before.before.before.before.before.before in
     let a = s.args in
-    let opened = examined a.r c.before.before.before.before.before.before.before.before.before.before.examine.ensures in
-    let passed = sym (c.before.before.before.asked.ensures ∙ asked_told a.r a.actor a.usage a.moment a.signers opened (claims_long s) c.before.before.before.before.before.before.before.before.asks-fit.ensures c.before.before.before.before.is_among.ensures)
-    ∙ c.before.enum_told.given.1 in
+    let opened = examined a.r c.examine-found.ensures in
+    let passed = sym (c.asked-outcome.ensures ∙ asked_told a.r a.actor a.usage a.moment a.signers opened (claims_long s) c.asks_fit-inside.ensures c.is_among-known.ensures)
+    ∙ c.in-Accepted.is in
     (record { opened = opened; shaped = shaped s; asked = asked_out a.r a.actor a.usage a.moment a.signers passed }, passed)
 
-returns : tie.Need-returns
+returns : tie.Need-returns-in-Refused
 returns c =
-    let s = c.before.before.before.before.before.before.before.before.before.before.before.before.before.before.before.before in
+    let s = c.before.before.before.before.before.before.before.before.before.before.before.before.before in
     let a = s.args in
-    let opened = examined a.r c.before.before.before.before.before.before.before.before.before.before.before.examine.ensures in
+    let opened = examined a.r c.examine-found.ensures in
     c.refused.ensures
-    ∙ marks_stopped a.r a.actor a.usage a.moment a.signers c.before.before.outcome.given.0.0
-    (sym (c.before.before.before.before.asked.ensures ∙ asked_told a.r a.actor a.usage a.moment a.signers opened (claims_long s) c.before.before.before.before.before.before.before.before.before.asks-fit.ensures c.before.before.before.before.before.is_among.ensures)
-    ∙ c.before.before.outcome.given.1)
+    ∙ marks_stopped a.r a.actor a.usage a.moment a.signers c.in-Refused.why
+    (sym (c.asked-outcome.ensures ∙ asked_told a.r a.actor a.usage a.moment a.signers opened (claims_long s) c.asks_fit-inside.ensures c.is_among-known.ensures)
+    ∙ c.in-Refused.is)
     ∙ planned_proposed a.r a.actor a.usage a.moment a.signers (shaped s)
 
-returns_2 : tie.Need-returns-2
+returns_2 : tie.Need-returns-in-Accepted
 returns_2 c =
-    let s = c.before.before.before.before.before.before.before.before.before.before.before.before.before.before.before.before in
+    let s = c.before.before.before.before.before.before.before.before.before.before.before.before.before.before in
     let a = s.args in
-    c.propose-by.ensures ∙ planned_proposed a.r a.actor a.usage a.moment a.signers (shaped s)
+    c.propose_by.ensures ∙ planned_proposed a.r a.actor a.usage a.moment a.signers (shaped s)
 
 pub propose_spec : {M : Type 1} → statement M
 propose_spec =

@@ -10,38 +10,38 @@ use borrow.Author.Rules.{rules}
 use Rattle.proposing.proofs.sign.Statement.{statement}
 use Rattle.proposing.proofs.sign.Tie as tie
 
-abbrev invariant_loop : tie.invariant-loop
+abbrev invariant_loop : tie.invariant-loop-i
 invariant_loop counts found sheet marks blank s top i₀ i = Hearing (signing_by counts found sheet marks blank) s top i
 
-abbrev decreases_loop : tie.decreases-loop
+abbrev decreases_loop : tie.decreases-loop-i
 decreases_loop counts found sheet marks blank s top i₀ i = top - i
 
-signers_long : (e : tie.Start invariant_loop decreases_loop) → length e.args.t6.list ≡ signer_limit
+signers_long : (e : tie.Start invariant_loop decreases_loop) → length e.args.s.list ≡ signer_limit
 signers_long e = search rules
 
-loop_holds : tie.Need-loop-init invariant_loop decreases_loop
-loop_holds c = hearing_start c.least.ensures (signers_long c.before.before.before)
+loop_holds : tie.Need-loop-i-init invariant_loop decreases_loop
+loop_holds c = hearing_start c.least-top.ensures (signers_long c.before.before.before)
 
-mul_signed_by : tie.Need-overflow-mul-signed-by invariant_loop decreases_loop
-mul_signed_by c = let place = hearing_place c.before.loop.invariant c.loop-test.true (signers_long c.before.before.before.before.before) in search rules
+mul_signed_by : tie.Need-offset_bounds-s-i invariant_loop decreases_loop
+mul_signed_by c = let place = hearing_place c.loop-i.invariant c.loop-i-test.true (signers_long c.before.before.before.before.before) in search rules
 
-element_copy_out_signed_by : tie.Need-element-copy-out-signed-by invariant_loop decreases_loop
-element_copy_out_signed_by c = let place = hearing_place c.before.loop.invariant c.loop-test.true (signers_long c.before.before.before.before.before) in search rules
+element_copy_out_signed_by : tie.Need-bounds-s-i invariant_loop decreases_loop
+element_copy_out_signed_by c = let place = hearing_place c.loop-i.invariant c.loop-i-test.true (signers_long c.before.before.before.before.before) in search rules
 
-signed_by_requires : tie.Need-signed-by-requires invariant_loop decreases_loop
-signed_by_requires c κs = c.before.before.before.before.before.before.requires
+signed_by_requires : tie.Need-signed_by-proposal-requires invariant_loop decreases_loop
+signed_by_requires c κs = c.requires
 
-returns : tie.Need-returns invariant_loop decreases_loop
-returns c = hearing_hit c.before.before.before.before.before.loop.invariant c.before.before.before.before.loop-test.true c.before.before.Signed-by.ensures c.if1.true
+returns : tie.Need-returns-then-proposal-eq-GRANT invariant_loop decreases_loop
+returns c = hearing_hit c.loop-i.invariant c.loop-i-test.true c.signed_by-proposal.ensures c.if-proposal-eq-GRANT.true
 
-loop_less : tie.Need-loop-smaller invariant_loop decreases_loop
-loop_less c = less _ _ c.before.before.before.before.loop-test.true
+loop_less : tie.Need-loop-i-smaller invariant_loop decreases_loop
+loop_less c = less _ _ c.loop-i-test.true
 
-loop_again : tie.Need-loop-preserved invariant_loop decreases_loop
-loop_again c = hearing_miss c.before.before.before.before.before.loop.invariant c.before.before.before.before.loop-test.true c.before.before.Signed-by.ensures c.if1.false
+loop_again : tie.Need-loop-i-preserved invariant_loop decreases_loop
+loop_again c = hearing_miss c.loop-i.invariant c.loop-i-test.true c.signed_by-proposal.ensures c.if-proposal-eq-GRANT.false
 
-returns_2 : tie.Need-returns-2 invariant_loop decreases_loop
-returns_2 c = c.refused.ensures ∙ hearing_done c.before.before.loop.invariant c.before.loop-test.false
+returns_2 : tie.Need-returns invariant_loop decreases_loop
+returns_2 c = c.refused.ensures ∙ hearing_done c.loop-i.invariant c.loop-i-test.false
 
 pub sign_spec : {M : Type 1} → statement M
 sign_spec =

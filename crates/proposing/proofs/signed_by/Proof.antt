@@ -5,7 +5,6 @@ use mathlib.Core.List.{List}
 use Prim.Native.Nat.{ℕ}
 use native.Mathlib.Omega.{arith}
 use lib.ListN.{length, take}
-use borrow.Author.Tests.{not-true, not-false}
 use Rattle.register.specs.Limits.{weight_limit}
 use Rattle.register.specs.declared.Claim.{Claim}
 use Rattle.columns.specs.Columns.{beside}
@@ -24,10 +23,10 @@ below_at e j = signed_as e.args.blank e.args.g (claim_at e.args.sheet.now j).id 
 
 abbrev kept_by : (e : tie.Start) → Bool
 kept_by e =
-    beside (take e.args.counts.resources e.args.t2.resources.reports) (take e.args.counts.resources e.args.t2.resources.keepers) e.args.blank.resource e.args.g
+    beside (take e.args.counts.resources e.args.found.resources.reports) (take e.args.counts.resources e.args.found.resources.keepers) e.args.blank.resource e.args.g
 
 abbrev may_by : (e : tie.Start) → Bool
-may_by e = may_sign_by e.args.t2.actors e.args.counts.actors e.args.blank.rights e.args.g
+may_by e = may_sign_by e.args.found.actors e.args.counts.actors e.args.blank.rights e.args.g
 
 abbrev root_of : (e : tie.Start) → Claim
 root_of e = signed_as e.args.blank e.args.g 0 weight_limit
@@ -35,42 +34,41 @@ root_of e = signed_as e.args.blank e.args.g 0 weight_limit
 abbrev places_of : (e : tie.Start) → List ℕ
 places_of e = first_marked (column_of holder_column e.args.sheet.now) e.args.marks.now e.args.counts.claims e.args.g
 
-returns : tie.Need-returns
+returns : tie.Need-returns-then-kept
 returns c =
-    let e = c.before.before.before.before.before.before.before.before.before.before.before in
-    c.grant-of.ensures ∙ ap a_grant c.before.signed-as.ensures
-    ∙ told_root (kept_by e) (may_by e) (root_of e) (below_at e) (places_of e) (sym c.before.before.before.is-beside.ensures ∙ c.before.before.if1.true)
+    let e = c.before.before.before.before.before.before.before.before.before.before in
+    c.grant_of.ensures ∙ ap a_grant c.signed_as.ensures
+    ∙ told_root (kept_by e) (may_by e) (root_of e) (below_at e) (places_of e) (sym c.is_beside-kept.ensures ∙ c.if-kept.true)
 
-returns_2 : tie.Need-returns-2
+returns_2 : tie.Need-returns-then-not-may_sign
 returns_2 c =
-    let e = c.before.before.before.before.before.before.before.before.before.before.before.before.before in
+    let e = c.before.before.before.before.before.before.before.before.before.before.before.before in
     c.nothing.ensures
-    ∙ told_barred (kept_by e) (may_by e) (root_of e) (below_at e) (places_of e) (sym c.before.before.before.before.before.is-beside.ensures ∙ c.before.before.before.before.if1.false) (sym c.before.before.may-sign.ensures ∙ not-true _ c.before.if2.true)
+    ∙ told_barred (kept_by e) (may_by e) (root_of e) (below_at e) (places_of e) (sym c.is_beside-kept.ensures ∙ c.if-kept.false) (sym c.may_sign.ensures ∙ c.if-not-may_sign.true)
 
-first_marked_requires : tie.Need-first-marked-requires
+first_marked_requires : tie.Need-first_marked-place-requires
 first_marked_requires c κs =
-    let e = c.before.before.before.before.before.before.before.before.before.before.before.before.before in
-    (e.requires.0, ap length c.column.ensures ∙ column_length e.args.sheet.now 3 e.requires.1 (omega arith), e.requires.2)
+    (c.requires.0, ap length c.column-holders.ensures ∙ column_length c.args.sheet.now 3 c.requires.1 (omega arith), c.requires.2)
 
 -- the first place, by the holders' column
 placed : (e : tie.Start) → {holders : List ℕ} → holders ≡ column_of holder_column e.args.sheet.now
     → place_first (first_marked holders e.args.marks.now e.args.counts.claims e.args.g) ≡ place_first (places_of e)
 placed e same = ap (λ l. place_first (first_marked l e.args.marks.now e.args.counts.claims e.args.g)) same
 
-returns_3 : tie.Need-returns-3
+returns_3 : tie.Need-returns-in-Nowhere
 returns_3 c =
-    let e = c.before.before.before.before.before.before.before.before.before.before.before.before.before.before.before.before.before in
-    c.nothing2.ensures
-    ∙ told_nowhere (kept_by e) (may_by e) (root_of e) (below_at e) (places_of e) (sym c.before.before.before.before.before.before.before.before.before.is-beside.ensures ∙ c.before.before.before.before.before.before.before.before.if1.false) (sym c.before.before.before.before.before.before.may-sign.ensures ∙ not-false _ c.before.before.before.before.before.if2.false)
-    (sym (c.before.before.before.first-marked.ensures ∙ placed e c.before.before.before.before.column.ensures) ∙ c.before.enum_told.given.1)
+    let e = c.before.before.before.before.before.before.before.before.before.before.before.before.before.before.before in
+    c.nothing-in-Nowhere.ensures
+    ∙ told_nowhere (kept_by e) (may_by e) (root_of e) (below_at e) (places_of e) (sym c.is_beside-kept.ensures ∙ c.if-kept.false) (sym c.may_sign.ensures ∙ c.if-not-may_sign.false)
+    (sym (c.first_marked-place.ensures ∙ placed e c.column-holders.ensures) ∙ c.in-Nowhere.is)
 
-returns_4 : tie.Need-returns-4
+returns_4 : tie.Need-returns-in-At
 returns_4 c =
-    let e = c.before.before.before.before.before.before.before.before.before.before.before.before.before.before.before.before.before.before.before.before in
-    let j = c.before.before.before.before.place.given.0.0 in
-    c.grant-of2.ensures ∙ ap a_grant (c.before.signed-as2.ensures ∙ ap (λ p. signed_as e.args.blank e.args.g p.id p.weight) c.before.before.claim-at.ensures)
-    ∙ told_below (kept_by e) (may_by e) (root_of e) (below_at e) (places_of e) (sym c.before.before.before.before.before.before.before.before.before.before.before.before.is-beside.ensures ∙ c.before.before.before.before.before.before.before.before.before.before.before.if1.false) (sym c.before.before.before.before.before.before.before.before.before.may-sign.ensures ∙ not-false _ c.before.before.before.before.before.before.before.before.if2.false)
-    j (sym (c.before.before.before.before.before.before.first-marked.ensures ∙ placed e c.before.before.before.before.before.before.before.column.ensures) ∙ c.before.before.before.before.place.given.1)
+    let e = c.before.before.before.before.before.before.before.before.before.before.before.before.before.before.before.before.before in
+    let j = c.in-At.j in
+    c.grant_of-in-At.ensures ∙ ap a_grant (c.signed_as-in-At.ensures ∙ ap (λ p. signed_as e.args.blank e.args.g p.id p.weight) c.claim_at-p.ensures)
+    ∙ told_below (kept_by e) (may_by e) (root_of e) (below_at e) (places_of e) (sym c.is_beside-kept.ensures ∙ c.if-kept.false) (sym c.may_sign.ensures ∙ c.if-not-may_sign.false)
+    j (sym (c.first_marked-place.ensures ∙ placed e c.column-holders.ensures) ∙ c.in-At.is)
 
 pub signed_by_spec : {M : Type 1} → statement M
 signed_by_spec =

@@ -4,17 +4,15 @@ use Rattle.reason_finding.proofs.Assembling.{both_alone, both_owned}
 use Rattle.reason_finding.proofs.both.Statement.{statement}
 use Rattle.reason_finding.proofs.both.Tie as tie
 
-returns : tie.Need-returns
+returns : tie.Need-returns-then-owner-eq0
 returns c =
-    let owned = c.before.before in
-    let given = c.before.before.before.before.before.before.before.before.args in
-    both_alone given.counts given.found given.lens.now given.ends.now given.sheet.now given.bytes.now given.ask owned.before.reason.ensures owned.machine-owner.ensures c.before.if1.true c.no-claim.ensures
+    let given = c.args in
+    both_alone given.counts given.found given.lens.now given.ends.now given.sheet.now given.bytes.now given.ask c.reason-actor.ensures c.machine_owner-owner.ensures c.if-owner-eq0.true c.no_claim.ensures
 
-returns_2 : tie.Need-returns-2
+returns_2 : tie.Need-returns
 returns_2 c =
-    let owned = c.before.before in
-    let given = c.before.before.before.before.before.before.before.before.args in
-    both_owned given.counts given.found given.lens.now given.ends.now given.sheet.now given.bytes.now given.ask owned.before.reason.ensures owned.machine-owner.ensures c.before.if1.false c.reason2.ensures
+    let given = c.args in
+    both_owned given.counts given.found given.lens.now given.ends.now given.sheet.now given.bytes.now given.ask c.reason-actor.ensures c.machine_owner-owner.ensures c.if-owner-eq0.false c.reason-owners.ensures
 
 pub both_spec : {M : Type 1} → statement M
 both_spec =

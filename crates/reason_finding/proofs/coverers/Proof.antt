@@ -13,49 +13,47 @@ use Rattle.reason_finding.proofs.Deciding.{coverers_told}
 use Rattle.reason_finding.proofs.coverers.Statement.{statement}
 use Rattle.reason_finding.proofs.coverers.Tie as tie
 
-abbrev invariant_loop : tie.invariant-loop
+abbrev invariant_loop : tie.invariant-loop-i
 invariant_loop sheet ends spots marks n right moment holders rights top found₀ i₀ found i =
     Filling claim_limit (λ j. coverer_of (get_or holders j 0) (get_or ends j 0) (get_or rights j 0) (get_or marks (get_or spots j 0) false) right moment) top 0 i found
 
-abbrev decreases_loop : tie.decreases-loop
+abbrev decreases_loop : tie.decreases-loop-i
 decreases_loop sheet ends spots marks n right moment holders rights top found₀ i₀ found i = top - i
 
-loop_holds : tie.Need-loop-init invariant_loop decreases_loop
-loop_holds c = filling_start (omega (arith, c.least.ensures))
+loop_holds : tie.Need-loop-i-init invariant_loop decreases_loop
+loop_holds c = filling_start (omega (arith, c.least-top.ensures))
 
-mul_is_marked : tie.Need-overflow-mul-is-marked invariant_loop decreases_loop
+mul_is_marked : tie.Need-offset_bounds-spots-i invariant_loop decreases_loop
 mul_is_marked c = search rules
 
-shared_slice_read_is_marked : tie.Need-shared-slice-read-is-marked invariant_loop decreases_loop
+shared_slice_read_is_marked : tie.Need-bounds-spots-i invariant_loop decreases_loop
 shared_slice_read_is_marked c = search rules
 
-cast_is_marked : tie.Need-overflow-cast-is-marked invariant_loop decreases_loop
-cast_is_marked c = Fits-widen tt (c.shared-slice-known5.given c.before.before.before.before.loop.i)
+cast_is_marked : tie.Need-overflow_cast-spots invariant_loop decreases_loop
+cast_is_marked c = Fits-widen tt (c.shared_slice_known-in-loop-i-1.given c.loop-i.i)
 
-mul_coverer : tie.Need-overflow-mul-coverer invariant_loop decreases_loop
+mul_coverer : tie.Need-offset_bounds-ends-i invariant_loop decreases_loop
 mul_coverer c = search rules
 
-shared_slice_read_coverer : tie.Need-shared-slice-read-coverer invariant_loop decreases_loop
+shared_slice_read_coverer : tie.Need-bounds-ends-i invariant_loop decreases_loop
 shared_slice_read_coverer c = search rules
 
-mul_found : tie.Need-overflow-mul-found invariant_loop decreases_loop
+mul_found : tie.Need-offset_bounds-found-i invariant_loop decreases_loop
 mul_found c = search rules
 
-array_write_found : tie.Need-array-write-found invariant_loop decreases_loop
+array_write_found : tie.Need-bounds-found-i invariant_loop decreases_loop
 array_write_found c = search rules
 
-loop_again : tie.Need-loop-preserved invariant_loop decreases_loop
+loop_again : tie.Need-loop-i-preserved invariant_loop decreases_loop
 loop_again c =
-    let loop = c.before.before.before.before.before.before.before in
-    filling_next loop.loop.invariant _ c.before.before.before.before.before.before.loop-test.true
-    (c.coverer.ensures ∙ rw (c.before.before.before.before.before.number_at.ensures, c.before.before.before.before.number-at2.ensures, c.before.before.is-marked.ensures))
+    filling_next c.loop-i.invariant _ c.loop-i-test.true
+    (c.coverer.ensures ∙ rw (c.number_at-holder.ensures, c.number_at-held.ensures, c.is_marked-marked.ensures))
 
 returns : tie.Need-returns invariant_loop decreases_loop
 returns c =
-    let read = c.before.before.before in
-    let a = c.before.before.before.before.before.before.before.before.before.args in
-    filling_end c.before.loop.invariant c.loop-test.false
-    ∙ coverers_told a.ends.now a.spots.now a.marks.now a.n a.right a.moment read.before.column.ensures read.column2.ensures c.before.before.least.ensures
+    let a = c.args in
+    filling_end c.loop-i.invariant c.loop-i-test.false
+    ∙ coverers_told a.ends.now a.spots.now a.marks.now a.n a.right a.moment c.column-holders.ensures c.column-rights.ensures c.least-top.ensures
 
 pub coverers_spec : {M : Type 1} → statement M
 coverers_spec =

@@ -10,39 +10,31 @@ use Rattle.reason_finding.proofs.Climbing.{Looking, looking_start, looking_hit, 
 use Rattle.reason_finding.proofs.ended.Statement.{statement}
 use Rattle.reason_finding.proofs.ended.Tie as tie
 
-abbrev invariant_loop : tie.invariant-loop
+abbrev invariant_loop : tie.invariant-loop-steps
 invariant_loop sheet ups from moment at₀ steps₀ at steps = Looking sheet ups moment from at steps
 
-abbrev decreases_loop : tie.decreases-loop
+abbrev decreases_loop : tie.decreases-loop-steps
 decreases_loop sheet ups from moment at₀ steps₀ at steps = chain_limit - steps
 
-loop_holds : tie.Need-loop-init invariant_loop decreases_loop
+loop_holds : tie.Need-loop-steps-init invariant_loop decreases_loop
 loop_holds c = looking_start
 
-returns : tie.Need-returns invariant_loop decreases_loop
+returns : tie.Need-returns-then-not-is_current invariant_loop decreases_loop
 returns c =
-    let asked = c.before in
-    let turn = asked.before.before in
-    looking_hit turn.before.loop.invariant turn.loop-test.true asked.before.claim-at.ensures (sym (ap not asked.is-current.ensures) ∙ c.if1.true)
+    looking_hit c.loop-steps.invariant c.loop-steps-test.true c.claim_at-claim.ensures (ap not (sym c.is_current.ensures ∙ c.if-not-is_current.true))
 
-returns_2 : tie.Need-returns-2 invariant_loop decreases_loop
+returns_2 : tie.Need-returns-then-at-up invariant_loop decreases_loop
 returns_2 c =
-    let climbed = c.before in
-    let asked = climbed.before.before in
-    let turn = asked.before.before in
-    looking_root turn.before.loop.invariant turn.loop-test.true asked.before.claim-at.ensures (sym (ap not asked.is-current.ensures) ∙ climbed.before.if1.false)
-    climbed.place_above.ensures c.if2.true
+    looking_root c.loop-steps.invariant c.loop-steps-test.true c.claim_at-claim.ensures (ap not (sym c.is_current.ensures ∙ c.if-not-is_current.false))
+    c.place_above-up.ensures c.if-at-up.true
 
-loop_again : tie.Need-loop-preserved invariant_loop decreases_loop
+loop_again : tie.Need-loop-steps-preserved invariant_loop decreases_loop
 loop_again c =
-    let climbed = c.before in
-    let asked = climbed.before.before in
-    let turn = asked.before.before in
-    looking_next turn.before.loop.invariant turn.loop-test.true asked.before.claim-at.ensures (sym (ap not asked.is-current.ensures) ∙ climbed.before.if1.false)
-    climbed.place_above.ensures (omega (arith, c.if2.false))
+    looking_next c.loop-steps.invariant c.loop-steps-test.true c.claim_at-claim.ensures (ap not (sym c.is_current.ensures ∙ c.if-not-is_current.false))
+    c.place_above-up.ensures (omega (arith, c.if-at-up.false))
 
-returns_3 : tie.Need-returns-3 invariant_loop decreases_loop
-returns_3 c = looking_done c.before.loop.invariant c.loop-test.false
+returns_3 : tie.Need-returns invariant_loop decreases_loop
+returns_3 c = looking_done c.loop-steps.invariant c.loop-steps-test.false
 
 pub ended_spec : {M : Type 1} → statement M
 ended_spec =

@@ -6,8 +6,8 @@ use lib.ListN.{get_or-eq_default}
 use Rattle.reason_finding.proofs.is_marked.Statement.{statement}
 use Rattle.reason_finding.proofs.is_marked.Tie as tie
 
-returns_2 : tie.Need-returns-2
-returns_2 c = sym (get_or-eq_default c.before.args.marks.now false c.if1.false)
+returns_2 : tie.Need-returns-else-at-marks
+returns_2 c = sym (get_or-eq_default c.args.marks.now false c.if-at-marks.false)
 
 pub is_marked_spec : {M : Type 1} → statement M
 is_marked_spec = tie.close (tie.spec (λ c. search rules) (λ c. search rules) returns_2)

@@ -17,35 +17,31 @@ outer_long s = search rules
 inner_long : (s : tie.Start) → length s.args.inner.path ≡ path_limit
 inner_long s = search rules
 
-slice_aggregate_contains : tie.Need-slice-aggregate-contains
+slice_aggregate_contains : tie.Need-slice_bounds-contains-end
 slice_aggregate_contains c =
-    let start = c.before.before.before.before.before.before.before.before.before in
+    let start = c.before.before.before.before.before.before.before.before in
     let a = start.args in
     let long = outer_long start in
-    sym (length-take-le _ a.outer.path (omega (arith, long, c.before.before.before.before.before.before.before.least.ensures)))
+    sym (length-take-le _ a.outer.path (omega (arith, long, c.least-long.ensures)))
 
-slice_aggregate_contains_2 : tie.Need-slice-aggregate-contains-2
+slice_aggregate_contains_2 : tie.Need-slice_bounds-contains-end-2
 slice_aggregate_contains_2 c =
-    let start = c.before.before.before.before.before.before.before.before.before.before in
+    let start = c.before.before.before.before.before.before.before.before in
     let a = start.args in
     let long = inner_long start in
-    sym (length-take-le _ a.inner.path (omega (arith, long, c.before.before.before.before.before.before.least2.ensures)))
+    sym (length-take-le _ a.inner.path (omega (arith, long, c.least-wide.ensures)))
 
-returns : tie.Need-returns
+returns : tie.Need-returns-in-Inside
 returns c =
-    let second = c.before.before.before.before.before.before.before.before.before in
-    let first = second.before.before in
-    let s = first.before.before in
-    sym (ap is_inside c.enum_told.given.1)
-    ∙ within_told s.args.outer s.args.inner (outer_long s) (inner_long s) first.least.ensures second.least2.ensures c.before.before.contains.ensures
+    let s = c.before.before.before.before.before.before.before.before.before.before in
+    sym (ap is_inside c.in-Inside.is)
+    ∙ within_told s.args.outer s.args.inner (outer_long s) (inner_long s) c.least-long.ensures c.least-wide.ensures c.contains.ensures
 
-returns_2 : tie.Need-returns-2
+returns_2 : tie.Need-returns-in-Outside
 returns_2 c =
-    let second = c.before.before.before.before.before.before.before.before.before in
-    let first = second.before.before in
-    let s = first.before.before in
-    sym (ap is_inside c.enum-told2.given.1)
-    ∙ within_told s.args.outer s.args.inner (outer_long s) (inner_long s) first.least.ensures second.least2.ensures c.before.before.contains.ensures
+    let s = c.before.before.before.before.before.before.before.before.before.before in
+    sym (ap is_inside c.in-Outside.is)
+    ∙ within_told s.args.outer s.args.inner (outer_long s) (inner_long s) c.least-long.ensures c.least-wide.ensures c.contains.ensures
 
 pub is_within_spec : {M : Type 1} → statement M
 is_within_spec =

@@ -4,19 +4,17 @@ use Rattle.reason_finding.proofs.Assembling.{lacking_at, lacking_none}
 use Rattle.reason_finding.proofs.lacking.Statement.{statement}
 use Rattle.reason_finding.proofs.lacking.Tie as tie
 
-returns : tie.Need-returns
+returns : tie.Need-returns-in-At
 returns c =
-    let given = c.before.before.before.before.before.before.before.before.before.before.before.before.before.before.before.before.before.args in
-    let found = c.before.before.before.before.before.before.before in
-    lacking_at given.n given.t2 given.lens.now given.sheet.now given.bytes.now given.ask
-    found.before.before.before.before.before.before.column.ensures found.nearest.ensures c.before.before.before.before.before.place.given.0.0 c.before.before.before.before.before.place.given.1 c.told.ensures
+    let given = c.args in
+    lacking_at given.n given.found given.lens.now given.sheet.now given.bytes.now given.ask
+    c.column-holders.ensures c.nearest-place.ensures c.in-At.j c.in-At.is c.told.ensures
 
-returns_2 : tie.Need-returns-2
+returns_2 : tie.Need-returns-in-Nowhere
 returns_2 c =
-    let given = c.before.before.before.before.before.before.before.before.before.before.before.before.before.args in
-    let found = c.before.before.before in
-    lacking_none given.n given.t2 given.lens.now given.sheet.now given.bytes.now given.ask
-    found.before.before.before.before.before.before.column.ensures found.nearest.ensures c.before.enum_told.given.1 c.no-claim.ensures
+    let given = c.args in
+    lacking_none given.n given.found given.lens.now given.sheet.now given.bytes.now given.ask
+    c.column-holders.ensures c.nearest-place.ensures c.in-Nowhere.is c.no_claim.ensures
 
 pub lacking_spec : {M : Type 1} → statement M
 lacking_spec =

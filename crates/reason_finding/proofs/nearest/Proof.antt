@@ -9,11 +9,10 @@ use Rattle.reason_finding.proofs.nearest.Tie as tie
 
 returns : tie.Need-returns
 returns c =
-    let gathered = c.before.before.before.before in
-    let given = gathered.before.before.before.before.before.before.before.args in
-    c.nearest-covering.ensures
+    let given = c.args in
+    c.nearest_covering.ensures
     ∙ ap (λ places. nearest_covering places given.rights.now given.spots.now given.bytes.now given.lens.now given.ask.right given.ask.spot)
-    (ap (λ g. take g.count g.places) gathered.gather.ensures
+    (ap (λ g. take g.count g.places) c.gather-held.ensures
     ∙ gathered_first given.holders.now given.ends.now given.n given.ask.actor given.ask.moment)
 
 pub nearest_spec : {M : Type 1} → statement M

@@ -12,56 +12,51 @@ use Rattle.reason_finding.proofs.Keeping.{Keeping, keeping_start, keeping_room, 
 use Rattle.reason_finding.proofs.permitted.Statement.{statement}
 use Rattle.reason_finding.proofs.permitted.Tie as tie
 
-abbrev invariant_loop : tie.invariant-loop
+abbrev invariant_loop : tie.invariant-loop-i
 invariant_loop freely coverers n actors top ids₀ count₀ i₀ ids count i = Keeping (may_by freely (take n coverers)) actors.count actors.list top i count ids
 
-abbrev decreases_loop : tie.decreases-loop
+abbrev decreases_loop : tie.decreases-loop-i
 decreases_loop freely coverers n actors top ids₀ count₀ i₀ ids count i = top - i
 
-loop_holds : tie.Need-loop-init invariant_loop decreases_loop
+loop_holds : tie.Need-loop-i-init invariant_loop decreases_loop
 loop_holds c =
-    let long : length c.before.before.args.t1.list ≡ actor_limit = search (rules, length_mapped) in
-    keeping_start long c.least.ensures
+    let long : length c.args.actors.list ≡ actor_limit = search (rules, length_mapped) in
+    keeping_start long c.least-top.ensures
 
-mul_a : tie.Need-overflow-mul-a invariant_loop decreases_loop
-mul_a c = let inside = c.before.loop.invariant.room in search rules
+mul_a : tie.Need-offset_bounds-actors-i invariant_loop decreases_loop
+mul_a c = let inside = c.loop-i.invariant.room in search rules
 
-element_copy_out_a : tie.Need-element-copy-out-a invariant_loop decreases_loop
-element_copy_out_a c = let inside = c.before.loop.invariant.room in search rules
+element_copy_out_a : tie.Need-bounds-actors-i invariant_loop decreases_loop
+element_copy_out_a c = let inside = c.loop-i.invariant.room in search rules
 
-mul_ids : tie.Need-overflow-mul-ids invariant_loop decreases_loop
+mul_ids : tie.Need-offset_bounds-ids-count invariant_loop decreases_loop
 mul_ids c =
-    let turn = c.before.before.before in
-    let kept = turn.before.loop.invariant in
-    let free : turn.before.loop.count < actor_limit = omega (arith, kept.room, keeping_room kept, turn.loop-test.true) in
+    let kept = c.loop-i.invariant in
+    let free : c.loop-i.count < actor_limit = omega (arith, kept.room, keeping_room kept, c.loop-i-test.true) in
     search rules
 
-array_write_ids : tie.Need-array-write-ids invariant_loop decreases_loop
+array_write_ids : tie.Need-bounds-ids-count invariant_loop decreases_loop
 array_write_ids c =
-    let turn = c.before.before.before in
-    let kept = turn.before.loop.invariant in
-    let free : turn.before.loop.count < actor_limit = omega (arith, kept.room, keeping_room kept, turn.loop-test.true) in
+    let kept = c.loop-i.invariant in
+    let free : c.loop-i.count < actor_limit = omega (arith, kept.room, keeping_room kept, c.loop-i-test.true) in
     search rules
 
-add_count : tie.Need-overflow-add-count invariant_loop decreases_loop
+add_count : tie.Need-overflow_add-count invariant_loop decreases_loop
 add_count c =
-    let turn = c.before.before.before in
-    let kept = turn.before.loop.invariant in
-    let free : turn.before.loop.count < actor_limit = omega (arith, kept.room, keeping_room kept, turn.loop-test.true) in
+    let kept = c.loop-i.invariant in
+    let free : c.loop-i.count < actor_limit = omega (arith, kept.room, keeping_room kept, c.loop-i-test.true) in
     search rules
 
-loop_again : tie.Need-loop-preserved invariant_loop decreases_loop
+loop_again : tie.Need-loop-i-preserved-then-may invariant_loop decreases_loop
 loop_again c =
-    let turn = c.before.before.before in
-    keeping_hit turn.before.loop.invariant turn.loop-test.true (sym c.before.may.ensures ∙ c.if1.true)
+    keeping_hit c.loop-i.invariant c.loop-i-test.true (sym c.may.ensures ∙ c.if-may.true)
 
-loop_again_2 : tie.Need-loop-preserved-2 invariant_loop decreases_loop
+loop_again_2 : tie.Need-loop-i-preserved invariant_loop decreases_loop
 loop_again_2 c =
-    let turn = c.before.before.before in
-    keeping_miss turn.before.loop.invariant turn.loop-test.true (sym c.before.may.ensures ∙ c.if1.false)
+    keeping_miss c.loop-i.invariant c.loop-i-test.true (sym c.may.ensures ∙ c.if-may.false)
 
 returns : tie.Need-returns invariant_loop decreases_loop
-returns c = keeping_done c.before.loop.invariant c.loop-test.false
+returns c = keeping_done c.loop-i.invariant c.loop-i-test.false
 
 pub permitted_spec : {M : Type 1} → statement M
 permitted_spec =

@@ -4,33 +4,25 @@ use Rattle.reason_finding.proofs.Assembling.{reason_at, reason_open, reason_miss
 use Rattle.reason_finding.proofs.reason.Statement.{statement}
 use Rattle.reason_finding.proofs.reason.Tie as tie
 
-returns : tie.Need-returns
+returns : tie.Need-returns-then-ask-public
 returns c =
-    let given = c.before.before.before.before.before.before.before.before.before.before.before.before.before.before.before.before.before.before.before.args in
-    let asked = c.before.before.before in
-    let found = asked.before.before.before.before.before.before in
-    let columns = found.before.before.before.before in
-    reason_open given.n given.t2 given.lens.now given.sheet.now given.bytes.now given.ask
-    columns.before.column.ensures columns.column2.ensures given.ends.now found.nearest.ensures asked.before.before.before.before.enum_told.given.1
-    asked.number_at.ensures c.before.if1.true c.no-claim.ensures
+    let given = c.args in
+    reason_open given.n given.found given.lens.now given.sheet.now given.bytes.now given.ask
+    c.column-holders.ensures c.column-rights.ensures given.ends.now c.nearest-place.ensures c.in-Nowhere.is
+    c.number_at-public.ensures c.if-ask-public.true c.no_claim.ensures
 
-returns_2 : tie.Need-returns-2
+returns_2 : tie.Need-returns-in-At
 returns_2 c =
-    let given = c.before.before.before.before.before.before.before.before.before.before.before.before.before.before.before.before.before.args in
-    let found = c.before.before.before.before.before.before.before in
-    let columns = found.before.before.before.before in
-    reason_at given.n given.t2 given.lens.now given.sheet.now given.bytes.now given.ask
-    columns.before.column.ensures columns.column2.ensures given.ends.now found.nearest.ensures c.before.before.before.before.before.place.given.0.0 c.before.before.before.before.before.place.given.1 c.told.ensures
+    let given = c.args in
+    reason_at given.n given.found given.lens.now given.sheet.now given.bytes.now given.ask
+    c.column-holders.ensures c.column-rights.ensures given.ends.now c.nearest-place.ensures c.in-At.j c.in-At.is c.told.ensures
 
-returns_3 : tie.Need-returns-3
+returns_3 : tie.Need-returns-else-ask-public
 returns_3 c =
-    let given = c.before.before.before.before.before.before.before.before.before.before.before.before.before.before.before.before.before.before.before.args in
-    let asked = c.before.before.before in
-    let found = asked.before.before.before.before.before.before in
-    let columns = found.before.before.before.before in
-    reason_missing given.n given.t2 given.lens.now given.sheet.now given.bytes.now given.ask
-    columns.before.column.ensures columns.column2.ensures given.ends.now found.nearest.ensures asked.before.before.before.before.enum_told.given.1
-    asked.number_at.ensures c.before.if1.false c.missing.ensures
+    let given = c.args in
+    reason_missing given.n given.found given.lens.now given.sheet.now given.bytes.now given.ask
+    c.column-holders.ensures c.column-rights.ensures given.ends.now c.nearest-place.ensures c.in-Nowhere.is
+    c.number_at-public.ensures c.if-ask-public.false c.missing.ensures
 
 pub reason_spec : {M : Type 1} → statement M
 reason_spec =

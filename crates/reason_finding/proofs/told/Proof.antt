@@ -11,52 +11,46 @@ use Rattle.reason_finding.proofs.Climbing.{Climbing, climbing_start, climbing_ne
 use Rattle.reason_finding.proofs.told.Statement.{statement}
 use Rattle.reason_finding.proofs.told.Tie as tie
 
-abbrev invariant_loop : tie.invariant-loop
+abbrev invariant_loop : tie.invariant-loop-up
 invariant_loop kind sheet ups from chain₀ keeper₀ at₀ up₀ count₀ chain keeper at up count = Climbing sheet ups from chain keeper at up count
 
-abbrev decreases_loop : tie.decreases-loop
+abbrev decreases_loop : tie.decreases-loop-up
 decreases_loop kind sheet ups from chain₀ keeper₀ at₀ up₀ count₀ chain keeper at up count = chain_limit - count
 
-loop_holds : tie.Need-loop-init invariant_loop decreases_loop
-loop_holds c = climbing_start c.before.claim-at.ensures c.place_above.ensures
+loop_holds : tie.Need-loop-up-init invariant_loop decreases_loop
+loop_holds c = climbing_start c.claim_at-first.ensures c.place_above-up.ensures
 
-cast_chain : tie.Need-overflow-cast-chain invariant_loop decreases_loop
+cast_chain : tie.Need-overflow_cast-chain invariant_loop decreases_loop
 cast_chain c =
-    let turn = c.before in
-    let room : turn.before.loop.count < chain_limit = ltb-true turn.before.loop.count chain_limit (and_right (ltb turn.before.loop.up turn.before.loop.at) (ltb turn.before.loop.count chain_limit) turn.loop-test.true) in
+    let room : c.loop-up.count < chain_limit = ltb-true c.loop-up.count chain_limit (and_right (ltb c.loop-up.up c.loop-up.at) (ltb c.loop-up.count chain_limit) c.loop-up-test.true) in
     search rules
 
-mul_chain : tie.Need-overflow-mul-chain invariant_loop decreases_loop
+mul_chain : tie.Need-offset_bounds-chain-count invariant_loop decreases_loop
 mul_chain c =
-    let turn = c.before in
-    let room : turn.before.loop.count < chain_limit = ltb-true turn.before.loop.count chain_limit (and_right (ltb turn.before.loop.up turn.before.loop.at) (ltb turn.before.loop.count chain_limit) turn.loop-test.true) in
+    let room : c.loop-up.count < chain_limit = ltb-true c.loop-up.count chain_limit (and_right (ltb c.loop-up.up c.loop-up.at) (ltb c.loop-up.count chain_limit) c.loop-up-test.true) in
     search rules
 
-array_write_chain_2 : tie.Need-array-write-chain-2 invariant_loop decreases_loop
+array_write_chain_2 : tie.Need-bounds-chain-count invariant_loop decreases_loop
 array_write_chain_2 c =
-    let turn = c.before in
-    let room : turn.before.loop.count < chain_limit = ltb-true turn.before.loop.count chain_limit (and_right (ltb turn.before.loop.up turn.before.loop.at) (ltb turn.before.loop.count chain_limit) turn.loop-test.true) in
+    let room : c.loop-up.count < chain_limit = ltb-true c.loop-up.count chain_limit (and_right (ltb c.loop-up.up c.loop-up.at) (ltb c.loop-up.count chain_limit) c.loop-up-test.true) in
     search rules
 
-add_count : tie.Need-overflow-add-count invariant_loop decreases_loop
+add_count : tie.Need-overflow_add-count invariant_loop decreases_loop
 add_count c =
-    let turn = c.before in
-    let room : turn.before.loop.count < chain_limit = ltb-true turn.before.loop.count chain_limit (and_right (ltb turn.before.loop.up turn.before.loop.at) (ltb turn.before.loop.count chain_limit) turn.loop-test.true) in
+    let room : c.loop-up.count < chain_limit = ltb-true c.loop-up.count chain_limit (and_right (ltb c.loop-up.up c.loop-up.at) (ltb c.loop-up.count chain_limit) c.loop-up-test.true) in
     search rules
 
-loop_less : tie.Need-loop-smaller invariant_loop decreases_loop
+loop_less : tie.Need-loop-up-smaller invariant_loop decreases_loop
 loop_less c =
-    let turn = c.before.before in
-    let room : turn.before.loop.count < chain_limit = ltb-true turn.before.loop.count chain_limit (and_right (ltb turn.before.loop.up turn.before.loop.at) (ltb turn.before.loop.count chain_limit) turn.loop-test.true) in
+    let room : c.loop-up.count < chain_limit = ltb-true c.loop-up.count chain_limit (and_right (ltb c.loop-up.up c.loop-up.at) (ltb c.loop-up.count chain_limit) c.loop-up-test.true) in
     omega (arith, room)
 
-loop_again : tie.Need-loop-preserved invariant_loop decreases_loop
+loop_again : tie.Need-loop-up-preserved invariant_loop decreases_loop
 loop_again c =
-    let turn = c.before.before in
-    climbing_next turn.before.loop.invariant turn.loop-test.true c.before.claim-at2.ensures c.place-above2.ensures
+    climbing_next c.loop-up.invariant c.loop-up-test.true c.claim_at-claim.ensures c.place_above-up-in-loop-up.ensures
 
 returns : tie.Need-returns invariant_loop decreases_loop
-returns c = climbing_done c.before.loop.invariant c.loop-test.false c.before.before.before.before.before.before.args.kind
+returns c = climbing_done c.loop-up.invariant c.loop-up-test.false c.args.kind
 
 pub told_spec : {M : Type 1} → statement M
 told_spec =

@@ -3,13 +3,13 @@
 use mathlib.Core.Path.{◌≡◌, sym, ◌∙◌}
 use lib.ListN.{length}
 use borrow.Author.Rules.{rules}
-use borrow.Author.Tests.{not-true, not-false}
 use Rattle.lists.specs.Loops.{length_mapped}
 use Rattle.lists.specs.Lists.{All}
 use Rattle.register.specs.Limits.{actor_limit, resource_limit, claim_limit, path_limit}
 use Rattle.register.specs.Register.{Shaped}
 use Rattle.soundness.specs.Laws.{judged_sound}
-use Rattle.reasons.specs.HoldersLaws.{held_unsound, held_ranged}
+use Rattle.reasons.proofs.HoldersLaws.{held_unsound, held_ranged}
+use Rattle.register.specs.contracts.Resource.{the_row}
 use Rattle.reason_finding.proofs.Owned.{each_told}
 use Rattle.reason_finding.proofs.Permitting.{held_found}
 use Rattle.reason_finding.proofs.who.Statement.{statement}
@@ -26,46 +26,38 @@ claims_long : (s : tie.Start) → length s.args.r.claims.list ≡ claim_limit
 claims_long s = search (rules, length_mapped)
 
 paths_told : (s : tie.Start) → All (λ o. length o.path ≡ path_limit) s.args.r.resources.list
-paths_told s = each_told _ _ _ (λ o. length o.path ≡ path_limit) (λ o u told. search (rules, told)) s.args.r.resources.list _ s.well-formed.0.1.1.1.0.1.1.0.1.1
+paths_told s = each_told the_row.own_val (λ o. length o.path ≡ path_limit) (λ o u told. search (rules, told)) s.args.r.resources.list _ s.well_formed.0.1.1.1.0.1.1.0.1.1
 
 shaped : (s : tie.Start) → Shaped s.args.r
 shaped s = record { actors = actors_long s; resources = resources_long s; claims = claims_long s; paths = paths_told s }
 
-returns : tie.Need-returns
+returns : tie.Need-returns-then-not-found
 returns c =
-    let opened = c.before.before.before in
-    let s = opened.before.before in
+    let s = c.before.before.before.before.before.before.before.before in
     let a = s.args in
-    let found = opened.examine.ensures in
+    let found = c.examine-found.ensures in
     let soundly = judged_sound a.r (record { put = found.0; told = found.1 }) (claims_long s) in
-    c.nobody.ensures ∙ sym (held_unsound a.r a.usage a.moment (sym soundly ∙ not-true opened.examine.result.sound c.before.if1.true))
+    c.nobody.ensures ∙ sym (held_unsound a.r a.usage a.moment (sym soundly ∙ c.if-not-found.true))
 
-returns_2 : tie.Need-returns-2
+returns_2 : tie.Need-returns-then-not-ask_fits
 returns_2 c =
-    let asked = c.before.before in
-    let opened = asked.before.before.before in
-    let s = opened.before.before in
+    let s = c.before.before.before.before.before.before.before.before.before.before in
     let a = s.args in
-    let found = opened.examine.ensures in
+    let found = c.examine-found.ensures in
     let soundly = judged_sound a.r (record { put = found.0; told = found.1 }) (claims_long s) in
-    c.nobody2.ensures
-    ∙ sym (held_ranged a.r a.usage a.moment (sym soundly ∙ not-false opened.examine.result.sound asked.before.if1.false)
-    (sym asked.ask-fits.ensures ∙ not-true _ c.before.if2.true))
+    c.nobody-then-not-ask_fits.ensures
+    ∙ sym (held_ranged a.r a.usage a.moment (sym soundly ∙ c.if-not-found.false)
+    (sym c.ask_fits.ensures ∙ c.if-not-ask_fits.true))
 
-returns_3 : tie.Need-returns-3
+returns_3 : tie.Need-returns
 returns_3 c =
-    let covering = c.before.before.before.before.before.before.before in
-    let ending = covering.before.before.before.before.before.before.before in
-    let marking = ending.before.before.before.before.before in
-    let asked = marking.before.before.before.before.before.before in
-    let opened = asked.before.before.before in
-    let s = opened.before.before in
+    let s = c.before.before.before.before.before.before.before.before.before.before.before.before.before.before.before.before.before.before.before.before.before.before.before.before.before.before.before.before.before.before.before in
     let a = s.args in
-    let found = opened.examine.ensures in
+    let found = c.examine-found.ensures in
     let soundly = judged_sound a.r (record { put = found.0; told = found.1 }) (claims_long s) in
-    held_found a.r (shaped s) a.usage a.moment (sym soundly ∙ not-false opened.examine.result.sound asked.before.if1.false)
-    (sym asked.ask-fits.ensures ∙ not-false _ marking.before.before.before.before.before.if2.false) found.0 found.1 marking.before.spot.ensures marking.containers.ensures
-    ending.claim-ends.ensures covering.coverers.ensures c.before.before.before.number_at.ensures c.permitted.ensures
+    held_found a.r (shaped s) a.usage a.moment (sym soundly ∙ c.if-not-found.false)
+    (sym c.ask_fits.ensures ∙ c.if-not-ask_fits.false) found.0 found.1 c.spot-spot.ensures c.containers-marks.ensures
+    c.claim_ends-ends.ensures c.coverers-holders.ensures c.number_at-public.ensures c.permitted.ensures
 
 pub who_spec : {M : Type 1} → statement M
 who_spec =

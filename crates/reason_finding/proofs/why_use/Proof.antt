@@ -3,7 +3,6 @@
 use mathlib.Core.Path.{◌≡◌, sym, ◌∙◌}
 use lib.ListN.{length}
 use borrow.Author.Rules.{rules}
-use borrow.Author.Tests.{not-true, not-false}
 use Rattle.lists.specs.Loops.{length_mapped}
 use Rattle.lists.specs.Lists.{All}
 use Rattle.register.specs.Limits.{actor_limit, resource_limit, claim_limit, path_limit}
@@ -27,44 +26,34 @@ claims_long s = search (rules, length_mapped)
 shaped : (s : tie.Start) → All (λ o. length o.path ≡ path_limit) s.args.r.resources.list → Shaped s.args.r
 shaped s sized = record { actors = actors_long s; resources = resources_long s; claims = claims_long s; paths = sized }
 
-returns : tie.Need-returns
+returns : tie.Need-returns-then-not-found
 returns c =
-    let opened = c.before.before.before in
-    let s = opened.before.before in
+    let s = c.before.before.before.before.before.before.before.before in
     let a = s.args in
-    let found = opened.examine.ensures in
+    let found = c.examine-found.ensures in
     let soundly = judged_sound a.r (record { put = found.0; told = found.1 }) (claims_long s) in
-    c.unasked.ensures ∙ why_unsound a.r a.actor a.usage a.moment (sym soundly ∙ not-true opened.examine.result.sound c.before.if1.true)
+    c.unasked.ensures ∙ why_unsound a.r a.actor a.usage a.moment (sym soundly ∙ c.if-not-found.true)
 
-returns_2 : tie.Need-returns-2
+returns_2 : tie.Need-returns-in-Refused
 returns_2 c =
-    let asked = c.before.before.before.before in
-    let made = asked.before.before.before.before in
-    let opened = c.before.before.before.before.before.before.before.before.before.before.before.before.before.before.before.before.before.before.before in
-    let s = opened.before.before in
+    let s = c.before.before.before.before.before.before.before.before.before.before.before.before.before.before.before.before.before.before.before.before.before in
     let a = s.args in
-    let found = opened.examine.ensures in
+    let found = c.examine-found.ensures in
     let soundly = judged_sound a.r (record { put = found.0; told = found.1 }) (claims_long s) in
-    c.unasked2.ensures
-    ∙ why_stopped a.r a.actor a.usage a.moment (sym soundly ∙ not-false opened.examine.result.sound c.before.before.before.before.before.before.before.before.before.before.before.before.before.before.before.before.before.if1.false)
-    found.0 found.1 made.one-use.ensures asked.action_outcome.ensures c.before.before.outcome.given.0.0 c.before.before.outcome.given.1
+    c.unasked-in-Refused.ensures
+    ∙ why_stopped a.r a.actor a.usage a.moment (sym soundly ∙ c.if-not-found.false)
+    found.0 found.1 c.one_use-action.ensures c.action_outcome-outcome.ensures c.in-Refused.why c.in-Refused.is
 
-returns_3 : tie.Need-returns-3
+returns_3 : tie.Need-returns-in-Accepted
 returns_3 c =
-    let spotted = c.before.before.before.before.before in
-    let asked = c.before.before.before.before.before.before.before.before.before.before.before in
-    let made = asked.before.before.before.before in
-    let ending = made.before in
-    let laying = ending.before.before.before.before.before.before in
-    let opened = c.before.before.before.before.before.before.before.before.before.before.before.before.before.before.before.before.before.before.before.before.before.before.before.before.before.before in
-    let s = opened.before.before in
+    let s = c.before.before.before.before.before.before.before.before.before.before.before.before.before.before.before.before.before.before.before.before.before.before.before.before.before.before.before.before in
     let a = s.args in
-    let found = opened.examine.ensures in
+    let found = c.examine-found.ensures in
     let soundly = judged_sound a.r (record { put = found.0; told = found.1 }) (claims_long s) in
-    let paths = laid_zeros a.r.resources laying.lay.ensures.0 laying.lay.ensures.1.0 in
-    why_held a.r a.actor a.usage a.moment (sym soundly ∙ not-false opened.examine.result.sound c.before.before.before.before.before.before.before.before.before.before.before.before.before.before.before.before.before.before.before.before.before.before.before.before.if1.false)
-    found.0 found.1 made.one-use.ensures asked.action_outcome.ensures (shaped s laying.lay.ensures.1.1) c.before.before.before.before.before.before.before.before.before.enum_told.given.1
-    paths.1 ending.claim-ends.ensures paths.0 spotted.spot.ensures c.both.ensures
+    let paths = laid_zeros a.r.resources c.lay-lens.ensures.0 c.lay-lens.ensures.1.0 in
+    why_held a.r a.actor a.usage a.moment (sym soundly ∙ c.if-not-found.false)
+    found.0 found.1 c.one_use-action.ensures c.action_outcome-outcome.ensures (shaped s c.lay-lens.ensures.1.1) c.in-Accepted.is
+    paths.1 c.claim_ends-ends.ensures paths.0 c.spot-spot.ensures c.both.ensures
 
 pub why_use_spec : {M : Type 1} → statement M
 why_use_spec =

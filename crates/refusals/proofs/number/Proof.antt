@@ -3,104 +3,104 @@ use borrow.Author.Rules.{rules}
 use Rattle.refusals.proofs.number.Statement.{statement}
 use Rattle.refusals.proofs.number.Tie as tie
 
-returns : tie.Need-returns
-returns c = rw c.enum_told.given.1
+returns : tie.Need-returns-in-Unsound
+returns c = rw c.in-Unsound.is
 
-returns_2 : tie.Need-returns-2
-returns_2 c = rw c.enum-told2.given.1
+returns_2 : tie.Need-returns-in-Range
+returns_2 c = rw c.in-Range.is
 
-returns_3 : tie.Need-returns-3
-returns_3 c = rw c.enum-told3.given.1
+returns_3 : tie.Need-returns-in-Absent
+returns_3 c = rw c.in-Absent.is
 
-returns_4 : tie.Need-returns-4
-returns_4 c = rw c.enum-told4.given.1
+returns_4 : tie.Need-returns-in-Stands
+returns_4 c = rw c.in-Stands.is
 
-returns_5 : tie.Need-returns-5
-returns_5 c = rw c.enum-told5.given.1
+returns_5 : tie.Need-returns-in-Full
+returns_5 c = rw c.in-Full.is
 
-returns_6 : tie.Need-returns-6
-returns_6 c = rw c.enum-told6.given.1
+returns_6 : tie.Need-returns-in-NotKeeper
+returns_6 c = rw c.in-NotKeeper.is
 
-returns_7 : tie.Need-returns-7
-returns_7 c = rw c.enum-told7.given.1
+returns_7 : tie.Need-returns-in-Ownerless
+returns_7 c = rw c.in-Ownerless.is
 
-returns_8 : tie.Need-returns-8
-returns_8 c = rw c.enum-told8.given.1
+returns_8 : tie.Need-returns-in-NotByMachine
+returns_8 c = rw c.in-NotByMachine.is
 
-returns_9 : tie.Need-returns-9
-returns_9 c = rw c.enum-told9.given.1
+returns_9 : tie.Need-returns-in-NoParent
+returns_9 c = rw c.in-NoParent.is
 
-returns_10 : tie.Need-returns-10
-returns_10 c = rw c.enum-told10.given.1
+returns_10 : tie.Need-returns-in-NotHeld
+returns_10 c = rw c.in-NotHeld.is
 
-returns_11 : tie.Need-returns-11
-returns_11 c = rw c.enum-told11.given.1
+returns_11 : tie.Need-returns-in-NotLive
+returns_11 c = rw c.in-NotLive.is
 
-returns_12 : tie.Need-returns-12
-returns_12 c = rw c.enum-told12.given.1
+returns_12 : tie.Need-returns-in-NoDelegate
+returns_12 c = rw c.in-NoDelegate.is
 
-returns_13 : tie.Need-returns-13
-returns_13 c = rw c.enum-told13.given.1
+returns_13 : tie.Need-returns-in-RightLacking
+returns_13 c = rw c.in-RightLacking.is
 
-returns_14 : tie.Need-returns-14
-returns_14 c = rw c.enum-told14.given.1
+returns_14 : tie.Need-returns-in-WeightAbove
+returns_14 c = rw c.in-WeightAbove.is
 
-returns_15 : tie.Need-returns-15
-returns_15 c = rw c.enum-told15.given.1
+returns_15 : tie.Need-returns-in-TooManyHops
+returns_15 c = rw c.in-TooManyHops.is
 
-returns_16 : tie.Need-returns-16
-returns_16 c = rw c.enum-told16.given.1
+returns_16 : tie.Need-returns-in-Circle
+returns_16 c = rw c.in-Circle.is
 
-returns_17 : tie.Need-returns-17
-returns_17 c = rw c.enum-told17.given.1
+returns_17 : tie.Need-returns-in-NoClaim
+returns_17 c = rw c.in-NoClaim.is
 
-returns_18 : tie.Need-returns-18
-returns_18 c = rw c.enum-told18.given.1
+returns_18 : tie.Need-returns-in-NoGrantor
+returns_18 c = rw c.in-NoGrantor.is
 
-returns_19 : tie.Need-returns-19
-returns_19 c = rw c.enum-told19.given.1
+returns_19 : tie.Need-returns-in-Form
+returns_19 c = rw c.in-Form.is
 
-returns_20 : tie.Need-returns-20
-returns_20 c = rw c.enum-told20.given.1
+returns_20 : tie.Need-returns-in-Count
+returns_20 c = rw c.in-Count.is
 
-returns_21 : tie.Need-returns-21
-returns_21 c = rw c.enum-told21.given.1
+returns_21 : tie.Need-returns-in-Buffer
+returns_21 c = rw c.in-Buffer.is
 
-returns_22 : tie.Need-returns-22
-returns_22 c = rw c.enum-told22.given.1
+returns_22 : tie.Need-returns-in-TooDeep
+returns_22 c = rw c.in-TooDeep.is
 
-returns_23 : tie.Need-returns-23
-returns_23 c = rw c.enum-told23.given.1
+returns_23 : tie.Need-returns-in-TooManyActions
+returns_23 c = rw c.in-TooManyActions.is
 
-returns_24 : tie.Need-returns-24
-returns_24 c = rw c.enum-told24.given.1
+returns_24 : tie.Need-returns-in-JsonForm
+returns_24 c = rw c.in-JsonForm.is
 
-returns_25 : tie.Need-returns-25
-returns_25 c = rw c.enum-told25.given.1
+returns_25 : tie.Need-returns-in-JsonLacks
+returns_25 c = rw c.in-JsonLacks.is
 
-returns_26 : tie.Need-returns-26
-returns_26 c = rw c.enum-told26.given.1
+returns_26 : tie.Need-returns-in-NoProposal
+returns_26 c = rw c.in-NoProposal.is
 
-returns_27 : tie.Need-returns-27
-returns_27 c = rw c.enum-told27.given.1
+returns_27 : tie.Need-returns-in-NotPermitted
+returns_27 c = rw c.in-NotPermitted.is
 
-returns_28 : tie.Need-returns-28
-returns_28 c = rw c.enum-told28.given.1
+returns_28 : tie.Need-returns-in-NoEntry
+returns_28 c = rw c.in-NoEntry.is
 
-returns_29 : tie.Need-returns-29
-returns_29 c = rw c.enum-told29.given.1
+returns_29 : tie.Need-returns-in-BookFull
+returns_29 c = rw c.in-BookFull.is
 
-returns_30 : tie.Need-returns-30
-returns_30 c = rw c.enum-told30.given.1
+returns_30 : tie.Need-returns-in-BadBook
+returns_30 c = rw c.in-BadBook.is
 
-returns_31 : tie.Need-returns-31
-returns_31 c = rw c.enum-told31.given.1
+returns_31 : tie.Need-returns-in-Doubled
+returns_31 c = rw c.in-Doubled.is
 
-returns_32 : tie.Need-returns-32
-returns_32 c = rw c.enum-told32.given.1
+returns_32 : tie.Need-returns-in-BadOwner
+returns_32 c = rw c.in-BadOwner.is
 
-returns_33 : tie.Need-returns-33
-returns_33 c = rw c.enum-told33.given.1
+returns_33 : tie.Need-returns-in-BadKeeper
+returns_33 c = rw c.in-BadKeeper.is
 
 pub number_spec : {M : Type 1} → statement M
 number_spec =

@@ -7,24 +7,24 @@ use Rattle.register_reading.specs.Runs.{stands_failed, stands_going}
 use Rattle.register_reading.proofs.answer.Statement.{statement}
 use Rattle.register_reading.proofs.answer.Tie as tie
 
-returns : tie.Need-returns
+returns : tie.Need-returns-then-not-goes_on
 returns c =
-    let args = c.before.before.before.before.args in
-    let halted = sym c.before.before.goes_on.ensures ∙ not-true _ c.before.if1.true in
+    let args = c.args in
+    let halted = sym c.goes_on.ensures ∙ c.if-not-goes_on.true in
     c.refused.ensures ∙ rw (stands_failed args.s.now args.c halted)
 
-returns_2 : tie.Need-returns-2
+returns_2 : tie.Need-returns-then-not-is_sound
 returns_2 c =
-    let args = c.before.before.before.before.before.before.args in
-    let goes_on = sym c.before.before.before.before.goes_on.ensures ∙ not-false _ c.before.before.before.if1.false in
-    let unsound = sym c.before.before.is-sound.ensures ∙ not-true _ c.before.if2.true in
-    c.refused2.ensures ∙ rw (stands_going args.s.now args.c goes_on, unsound)
+    let args = c.args in
+    let goes_on = sym c.goes_on.ensures ∙ c.if-not-goes_on.false in
+    let unsound = sym c.is_sound.ensures ∙ c.if-not-is_sound.true in
+    c.refused-then-not-is_sound.ensures ∙ rw (stands_going args.s.now args.c goes_on, unsound)
 
-returns_3 : tie.Need-returns-3
+returns_3 : tie.Need-returns
 returns_3 c =
-    let args = c.before.before.before.before.before.args in
-    let goes_on = sym c.before.before.before.goes_on.ensures ∙ not-false _ c.before.before.if1.false in
-    let is-sound = sym c.before.is-sound.ensures ∙ not-false _ c.if2.false in
+    let args = c.args in
+    let goes_on = sym c.goes_on.ensures ∙ c.if-not-goes_on.false in
+    let is-sound = sym c.is_sound.ensures ∙ c.if-not-is_sound.false in
     rw (stands_going args.s.now args.c goes_on, is-sound)
 
 pub answer_spec : {M : Type 1} → statement M

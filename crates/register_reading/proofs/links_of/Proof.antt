@@ -11,18 +11,18 @@ use Rattle.register_reading.proofs.Linking.{Linking, linking_start, linking_next
 use Rattle.register_reading.proofs.links_of.Statement.{statement}
 use Rattle.register_reading.proofs.links_of.Tie as tie
 
-abbrev invariant_loop : tie.invariant-loop
+abbrev invariant_loop : tie.invariant-loop-i
 invariant_loop k found₀ i₀ found i = Linking claim_id k.list claim_limit i found.ids × Linking parent_of k.list claim_limit i found.parents
 
-abbrev decreases_loop : tie.decreases-loop
+abbrev decreases_loop : tie.decreases-loop-i
 decreases_loop k found₀ i₀ found i = claim_limit - i
 
-loop_holds : tie.Need-loop-init invariant_loop decreases_loop
+loop_holds : tie.Need-loop-i-init invariant_loop decreases_loop
 loop_holds c =
-    let long : length c.args.t1.list ≡ claim_limit = search (rules, length_mapped) in (linking_start long, linking_start long)
+    let long : length c.args.k.list ≡ claim_limit = search (rules, length_mapped) in (linking_start long, linking_start long)
 
 returns : tie.Need-returns invariant_loop decreases_loop
-returns c = let inv = c.before.loop.invariant in rw (linking_done inv.0 c.loop-test.false, linking_done inv.1 c.loop-test.false)
+returns c = let inv = c.loop-i.invariant in rw (linking_done inv.0 c.loop-i-test.false, linking_done inv.1 c.loop-i-test.false)
 
 pub links_of_spec : {M : Type 1} → statement M
 links_of_spec =
@@ -41,5 +41,5 @@ links_of_spec =
     (λ c. omega arith)
     (λ c. omega arith)
     (λ c. omega arith)
-    (λ c. let inv = c.before.loop.invariant in (linking_next inv.0 _ c.loop-test.true, linking_next inv.1 _ c.loop-test.true))
+    (λ c. let inv = c.loop-i.invariant in (linking_next inv.0 _ c.loop-i-test.true, linking_next inv.1 _ c.loop-i-test.true))
     returns)

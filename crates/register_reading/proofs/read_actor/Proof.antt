@@ -12,14 +12,11 @@ use Rattle.register_reading.proofs.read_actor.Tie as tie
 
 returns : tie.Need-returns
 returns c =
-    let last = c.before in
-    let middle = last.before.before in
-    let first = middle.before in
-    let args = first.before.before.before.args in
+    let args = c.args in
     let s = args.s.now in
-    let id = first.read_number in
-    let sort = middle.read-kind in
-    let owner = last.read-number2 in
+    let id = c.read_number-id in
+    let sort = c.read_kind-kind in
+    let owner = c.read_number-owner in
     let end = state_of s owner.result.cursor in
     let run =
     run_next s (number actor_key 1 id_limit) _ (state_of s args.c) id.result _ end id.ensures
@@ -30,4 +27,8 @@ returns c =
 pub read_actor_spec : {M : Type 1} → statement M
 read_actor_spec =
     tie.close
-    (tie.spec (λ c. search rules) (λ c κs. search rules) (λ c κs. search rules) (λ c. search rules) (λ c κs. search rules) returns)
+    (tie.spec
+    (λ c κs. search rules)
+    (λ c κs. search rules)
+    (λ c κs. search rules)
+    returns)

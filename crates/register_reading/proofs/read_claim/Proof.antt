@@ -13,26 +13,17 @@ use Rattle.register_reading.proofs.read_claim.Tie as tie
 
 returns : tie.Need-returns
 returns c =
-    let ninth = c.before.before in
-    let eighth = ninth.before.before in
-    let seventh = eighth.before in
-    let sixth = seventh.before.before in
-    let fifth = sixth.before.before in
-    let fourth = fifth.before.before in
-    let third = fourth.before.before in
-    let second = third.before.before in
-    let first = second.before.before in
-    let args = first.before.before.before.args in
+    let args = c.args in
     let s = args.s.now in
-    let id = first.read_number in
-    let parent = second.read-number2 in
-    let grantor = third.read-number3 in
-    let holder = fourth.read-number4 in
-    let resource = fifth.read-number5 in
-    let rights = sixth.read-number6 in
-    let weight = seventh.read-number7 in
-    let left = eighth.read_left in
-    let expiry = ninth.read-number8 in
+    let id = c.read_number-id in
+    let parent = c.read_number-parent in
+    let grantor = c.read_number-grantor in
+    let holder = c.read_number-holder in
+    let resource = c.read_number-resource in
+    let rights = c.read_number-rights in
+    let weight = c.read_number-weight in
+    let left = c.read_left-left in
+    let expiry = c.read_number-expiry in
     let end = state_of s expiry.result.cursor in
     let read =
     run_next s (number claim_key 1 id_limit) _ (state_of s args.c) id.result _ end id.ensures
@@ -54,22 +45,14 @@ pub read_claim_spec : {M : Type 1} → statement M
 read_claim_spec =
     tie.close
     (tie.spec
-    (λ c. search rules)
-    (λ c κs. search rules)
-    (λ c. search rules)
-    (λ c κs. search rules)
-    (λ c. search rules)
-    (λ c κs. search rules)
-    (λ c. search rules)
-    (λ c κs. search rules)
-    (λ c. search rules)
-    (λ c κs. search rules)
-    (λ c. search rules)
-    (λ c κs. search rules)
-    (λ c. search rules)
     (λ c κs. search rules)
     (λ c κs. search rules)
-    (λ c. search rules)
+    (λ c κs. search rules)
+    (λ c κs. search rules)
+    (λ c κs. search rules)
+    (λ c κs. search rules)
+    (λ c κs. search rules)
+    (λ c κs. search rules)
     (λ c κs. search rules)
     (λ c. search rules)
     returns)

@@ -40,15 +40,15 @@ state_told : (version : ℕ) (st : State) {end : State} → end ≡ (section cla
 unfolding read_claims
 state_told version st e = e
 
-stored_claims_requires : tie.Need-stored-claims-requires
-stored_claims_requires c κs = c.before.read-listed.ensures.0
+stored_claims_requires : tie.Need-stored_claims-claims-requires
+stored_claims_requires c κs = c.read_listed-listed.ensures.0
 
 returns : tie.Need-returns
 returns c =
-    let given = c.before.before.before.before.args in
+    let given = c.args in
     let st = state_of given.s.now given.c in
-    let listed = c.before.before.read-listed.ensures in (
-      stored_told given.version st listed.1.0 c.stored-claims.ensures,
+    let listed = c.read_listed-listed.ensures in (
+      stored_told given.version st listed.1.0 c.stored_claims-claims.ensures,
       state_told given.version st listed.1.1,
     )
 

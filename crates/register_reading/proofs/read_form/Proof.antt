@@ -28,13 +28,13 @@ joined t version begun actorsEnd resourcesEnd claimsEnd end actors resources cla
 
 returns : tie.Need-returns
 returns c =
-    let end = c.before.before.before.finish in
-    let claims = c.before.before.before.before.read-claims in
-    let resources = c.before.before.before.before.before.read-resources in
-    let actors = c.before.before.before.before.before.before.read-actors in
-    let version = c.before.before.before.before.before.before.before.before.read_number in
-    let begun = c.before.before.before.before.before.before.before.before.before.before.start in
-    let s = c.before.before.before.before.before.before.before.before.before.before.before.before.args.text.now in
+    let end = c.finish-cursor in
+    let claims = c.read_claims-third in
+    let resources = c.read_resources-second in
+    let actors = c.read_actors-first in
+    let version = c.read_number-told in
+    let begun = c.start in
+    let s = c.args.text.now in
     let first = run_start s begun.result begun.ensures in
     joined s version.result.value (state_of s version.result.cursor) (state_of s actors.result.cursor) (state_of s resources.result.cursor)
     (state_of s claims.result.cursor) (state_of s end.result) actors.result.actors resources.result.resources claims.result.claims
@@ -47,7 +47,6 @@ read_form_spec =
     tie.close
     (tie.spec
     (λ c κs. search rules)
-    (λ c. search rules)
     (λ c. search rules)
     (λ c. search rules)
     (λ c κs. search rules)

@@ -18,38 +18,38 @@ use Rattle.register_reading.specs.Filling.{Listing, listing_start, listing_next,
 use Rattle.register_reading.proofs.read_listed.Statement.{statement}
 use Rattle.register_reading.proofs.read_listed.Tie as tie
 
-abbrev invariant_loop : tie.invariant-loop
+abbrev invariant_loop : tie.invariant-loop-i
 invariant_loop version s count list₀ cursor₀ i₀ list cursor i = Listing s (read_claim version) claim_limit no_claim (state_of s cursor₀) count list cursor i
 
-abbrev decreases_loop : tie.decreases-loop
+abbrev decreases_loop : tie.decreases-loop-i
 decreases_loop version s count list₀ cursor₀ i₀ list cursor i = count - i
 
 -- no more than the array has places
-count_bound : (c : tie.After-read-count invariant_loop decreases_loop) → c.read_count.result.value ≤ claim_limit
+count_bound : (c : tie.After-read_count-counted invariant_loop decreases_loop) → c.read_count-counted.result.value ≤ claim_limit
 count_bound c =
-    let args = c.before.before.before.args in
-    field_bound args.s.now claims_key 0 claim_limit Count (state_of args.s.now args.c) c.read_count.result c.read_count.ensures
+    let args = c.args in
+    field_bound args.s.now claims_key 0 claim_limit Count (state_of args.s.now args.c) c.read_count-counted.result c.read_count-counted.ensures
 
-loop_holds : tie.Need-loop-init invariant_loop decreases_loop
-loop_holds c = rw c.before.none.ensures (listing_start _ _ refl refl)
+loop_holds : tie.Need-loop-i-init invariant_loop decreases_loop
+loop_holds c = rw c.none-none.ensures (listing_start _ _ refl refl)
 
-mul_list : tie.Need-overflow-mul-list invariant_loop decreases_loop
-mul_list c = omega (arith, count_bound c.before.before.before.before.before.before.before.before, c.before.before.before.loop-test.true)
+mul_list : tie.Need-offset_bounds-list-i invariant_loop decreases_loop
+mul_list c = omega (arith, count_bound c.before.before.before.before.before.before.before.before, c.loop-i-test.true)
 
-array_set_from_list : tie.Need-array-set-from-list invariant_loop decreases_loop
-array_set_from_list c = omega (arith, count_bound c.before.before.before.before.before.before.before.before, c.before.before.before.loop-test.true)
+array_set_from_list : tie.Need-bounds-list-i invariant_loop decreases_loop
+array_set_from_list c = omega (arith, count_bound c.before.before.before.before.before.before.before.before, c.loop-i-test.true)
 
-add_i : tie.Need-overflow-add-i invariant_loop decreases_loop
-add_i c = omega (arith, count_bound c.before.before.before.before.before.before.before.before, c.before.before.before.loop-test.true)
+add_i : tie.Need-overflow_add-i invariant_loop decreases_loop
+add_i c = omega (arith, count_bound c.before.before.before.before.before.before.before.before, c.loop-i-test.true)
 
-loop_less : tie.Need-loop-smaller invariant_loop decreases_loop
-loop_less c = omega (arith, c.before.before.before.loop-test.true)
+loop_less : tie.Need-loop-i-smaller invariant_loop decreases_loop
+loop_less c = omega (arith, c.loop-i-test.true)
 
-loop_again : tie.Need-loop-preserved invariant_loop decreases_loop
+loop_again : tie.Need-loop-i-preserved invariant_loop decreases_loop
 loop_again c =
-    let before = c.before.before.before.before.loop in
-    let one = c.before.before.read_claim_lem in
-    listing_next before.list before.cursor before.i one.result.claim one.result.cursor before.invariant c.before.before.before.loop-test.true (count_bound c.before.before.before.before.before.before.before.before) one.ensures
+    let before = c.loop-i in
+    let one = c.read_claim-one in
+    listing_next before.list before.cursor before.i one.result.claim one.result.cursor before.invariant c.loop-i-test.true (count_bound c.before.before.before.before.before.before.before.before) one.ensures
 
 -- a list with its count as the answer holds it
 held : (list : List Claim) (n : ℕ) (things : List Claim) → list ≡ things ++ replicate (claim_limit - length things) no_claim → n ≡ length things →
@@ -58,12 +58,12 @@ held list n things filled many = rw (filled, many)
 
 returns : tie.Need-returns invariant_loop decreases_loop
 returns c =
-    let end = c.before.loop in
-    let counted = c.before.before.before.before.before.read_count in
-    let given = c.before.before.before.before.before.before.before.before.args in
+    let end = c.loop-i in
+    let counted = c.read_count-counted in
+    let given = c.args in
     let s = given.s.now in
     let things = (many (read_claim given.version) counted.result.value (state_of s counted.result.cursor)).value in
-    let all = listing_done end.list end.cursor end.i end.invariant c.loop-test.false in
+    let all = listing_done end.list end.cursor end.i end.invariant c.loop-i-test.false in
     (count_bound c.before.before.before.before.before, rw (← counted.ensures.value, ← counted.ensures.state) (held end.list counted.result.value things all.0 all.1, all.2))
 
 pub read_listed_spec : {M : Type 1} → statement M
@@ -72,7 +72,6 @@ read_listed_spec =
     (tie.spec
     invariant_loop
     decreases_loop
-    (λ c. search rules)
     (λ c. search rules)
     (λ c κs. search rules)
     (λ c. search rules)

@@ -13,24 +13,20 @@ use Rattle.register_reading.proofs.read_resource.Statement.{statement}
 use Rattle.register_reading.proofs.read_resource.Tie as tie
 
 -- a path is at most 64 bytes
-cast_t19 : tie.Need-overflow-cast-t19
+cast_t19 : tie.Need-overflow_cast-resource
 cast_t19 c =
-    let scope = c.before.before.read-scope in
+    let scope = c.read_scope-scope in
     let full : length scope.result.path ≡ path_limit = search rules in
     Fits-below {n = path_limit} tt (scope_bound _ _ scope.result scope.ensures full)
 
 returns : tie.Need-returns
 returns c =
-    let fourth = c.before.before.before in
-    let third = fourth.before in
-    let second = third.before.before in
-    let first = second.before.before in
-    let args = first.before.before.before.args in
+    let args = c.args in
     let s = args.s.now in
-    let id = first.read_number in
-    let public = second.read-number2 in
-    let keeper = third.read-number3 in
-    let scope = fourth.read-scope in
+    let id = c.read_number-id in
+    let public = c.read_number-public in
+    let keeper = c.read_number-keeper in
+    let scope = c.read_scope-scope in
     let end = state_of s keeper.result.cursor in
     let read =
     run_next s (number resource_key 1 id_limit) _ (state_of s args.c) id.result _ end id.ensures
@@ -45,11 +41,8 @@ pub read_resource_spec : {M : Type 1} → statement M
 read_resource_spec =
     tie.close
     (tie.spec
-    (λ c. search rules)
     (λ c κs. search rules)
-    (λ c. search rules)
     (λ c κs. search rules)
-    (λ c. search rules)
     (λ c κs. search rules)
     (λ c κs. search rules)
     cast_t19

@@ -14,53 +14,52 @@ use Rattle.register_reading.proofs.Storing.{Storing, places_told, storing_start,
 use Rattle.register_reading.proofs.stored_claims.Statement.{statement}
 use Rattle.register_reading.proofs.stored_claims.Tie as tie
 
-abbrev invariant_loop : tie.invariant-loop
+abbrev invariant_loop : tie.invariant-loop-i
 invariant_loop version n earlier list₀ hops₀ i₀ list hops i =
     (n ≤ claim_limit) × (length list₀ ≡ claim_limit) × (earlier.places ≡ earlier_places (map claim_id list₀) (map parent_of list₀) n)
     × Storing version list₀ n list hops i
 
-abbrev decreases_loop : tie.decreases-loop
+abbrev decreases_loop : tie.decreases-loop-i
 decreases_loop version n earlier list₀ hops₀ i₀ list hops i = n - i
 
-loop_holds : tie.Need-loop-init invariant_loop decreases_loop
+loop_holds : tie.Need-loop-i-init invariant_loop decreases_loop
 loop_holds c =
-    let entry = c.before.before.before.before.before.before.before.before in
-    let k = entry.args.k in
+    let k = c.args.k in
     let long : length k.list ≡ claim_limit = search (rules, length_mapped) in (
-      entry.requires,
+      c.requires,
       long,
-      places_told k.list k.count c.before.before.before.before.before.before.before.links-of.ensures c.before.earlier-places.ensures,
-      storing_start entry.args.version k.list k.count _ (search rules),
+      places_told k.list k.count c.links_of-drawn.ensures c.earlier_places-earlier.ensures,
+      storing_start c.args.version k.list k.count _ (search rules),
     )
 
 -- the list has all its places in every turn
-array_copy_out_c : tie.Need-array-copy-out-c invariant_loop decreases_loop
+array_copy_out_c : tie.Need-bounds-list-i invariant_loop decreases_loop
 array_copy_out_c c =
-    let inv = c.before.loop.invariant in omega (arith, storing_long inv.3 inv.0 inv.1, c.loop-test.true, inv.0)
+    let inv = c.loop-i.invariant in omega (arith, storing_long inv.3 inv.0 inv.1, c.loop-i-test.true, inv.0)
 
-hops_by_requires : tie.Need-hops-by-requires invariant_loop decreases_loop
-hops_by_requires c κs = c.before.before.before.before.loop.invariant.3.room
+hops_by_requires : tie.Need-hops_by-steps-requires invariant_loop decreases_loop
+hops_by_requires c κs = c.loop-i.invariant.3.room
 
-array_set_from_list : tie.Need-array-set-from-list invariant_loop decreases_loop
+array_set_from_list : tie.Need-bounds-list-i-in-loop-i invariant_loop decreases_loop
 array_set_from_list c =
-    let inv = c.before.before.before.before.before.before.loop.invariant in
-    omega (arith, storing_long inv.3 inv.0 inv.1, c.before.before.before.before.before.loop-test.true, inv.0)
+    let inv = c.loop-i.invariant in
+    omega (arith, storing_long inv.3 inv.0 inv.1, c.loop-i-test.true, inv.0)
 
 -- the hops of a claim are no more than its place
-cast_hops : tie.Need-overflow-cast-hops invariant_loop decreases_loop
+cast_hops : tie.Need-overflow_cast-hops invariant_loop decreases_loop
 cast_hops c =
-    let inv = c.before.before.before.before.before.before.loop.invariant in
-    let test = c.before.before.before.before.before.loop-test in
-    omega (arith, steps_low inv.3 inv.0 inv.1 test.true inv.2 refl c.before.hops-by.ensures, test.true, inv.0)
+    let inv = c.loop-i.invariant in
+    let test = c.loop-i-test in
+    omega (arith, steps_low inv.3 inv.0 inv.1 test.true inv.2 refl c.hops_by-steps.ensures, test.true, inv.0)
 
-loop_again : tie.Need-loop-preserved invariant_loop decreases_loop
+loop_again : tie.Need-loop-i-preserved invariant_loop decreases_loop
 loop_again c =
-    let inv = c.before.before.before.before.before.before.loop.invariant in
-    let test = c.before.before.before.before.before.loop-test in
-    (inv.0, inv.1, inv.2, storing_next inv.3 inv.0 inv.1 test.true inv.2 refl c.before.hops-by.ensures c.stored.ensures)
+    let inv = c.loop-i.invariant in
+    let test = c.loop-i-test in
+    (inv.0, inv.1, inv.2, storing_next inv.3 inv.0 inv.1 test.true inv.2 refl c.hops_by-steps.ensures c.stored.ensures)
 
 returns : tie.Need-returns invariant_loop decreases_loop
-returns c = storing_done c.before.loop.invariant.3 c.loop-test.false
+returns c = storing_done c.loop-i.invariant.3 c.loop-i-test.false
 
 pub stored_claims_spec : {M : Type 1} → statement M
 stored_claims_spec =

@@ -7,25 +7,19 @@ use Rattle.register_writing.proofs.put_actor.Tie as tie
 
 returns : tie.Need-returns
 returns c =
-    let owned = c.before.before in
-    let kinded = owned.before.before.before.before.before.before in
-    let named = kinded.before.before.before.before in
-    let st = named.before.before.before.before.before in
-    let a = st.args in
+    let a = c.args in
     let start = lining_start actor_forms (actor_numbers a.a) a.at a.buf.now in
-    let first = lining_next st.requires start named.put-line.ensures.0 named.put-line.ensures.1 in
-    let second = lining_next st.requires first kinded.put-kind.ensures.0 kinded.put-kind.ensures.1 in
-    lining_done (lining_next st.requires second owned.put-line2.ensures.0 owned.put-line2.ensures.1)
+    let first = lining_next c.requires start c.put_line-kind_at.ensures.0 c.put_line-kind_at.ensures.1 in
+    let second = lining_next c.requires first c.put_kind-owner_at.ensures.0 c.put_kind-owner_at.ensures.1 in
+    lining_done (lining_next c.requires second c.put_line.ensures.0 c.put_line.ensures.1)
 
 pub put_actor_spec : {M : Type 1} → statement M
 put_actor_spec =
     tie.close
     (tie.spec
     (λ c. search rules)
-    (λ c. search rules)
     (λ c κs. search rules)
     (λ c κs. search rules)
-    (λ c. search rules)
     (λ c. search rules)
     (λ c κs. search rules)
     (λ c. search rules)

@@ -16,66 +16,55 @@ use Rattle.register_writing.specs.Sections.{Going, section_start, going_room, go
 use Rattle.register_writing.proofs.put_actors.Statement.{statement}
 use Rattle.register_writing.proofs.put_actors.Tie as tie
 
-abbrev invariant_loop : tie.invariant-loop
+abbrev invariant_loop : tie.invariant-loop-i
 invariant_loop buf₀ at k end₀ i₀ buf end i = (i ≤ k.count) × Going actor_text k.list k.count end₀ buf₀ i end buf
 
-abbrev decreases_loop : tie.decreases-loop
+abbrev decreases_loop : tie.decreases-loop-i
 decreases_loop buf₀ at k end₀ i₀ buf end i = k.count - i
 
 -- the list has all its places
-full : (c : tie.Start invariant_loop decreases_loop) → length c.args.t3.list ≡ actor_limit
+full : (c : tie.Start invariant_loop decreases_loop) → length c.args.k.list ≡ actor_limit
 full c = search (rules, length_mapped)
 
 -- behind the count line the actors are left
-counted : (c : tie.After-put-line invariant_loop decreases_loop) →
-    let a = c.before.before.before.before.args in
-    Writing a.at (section_text actors_key actor_limit actor_text (actors_of a.t3)) a.buf.now (texts actor_text (actors_of a.t3)) c.put-line.result c.put-line.new.0
+counted : (c : tie.After-put_line-end invariant_loop decreases_loop) →
+    let a = c.args in
+    Writing a.at (section_text actors_key actor_limit actor_text (actors_of a.k)) a.buf.now (texts actor_text (actors_of a.k)) c.put_line-end.result c.put_line-end.new.buf
 counted c =
-    let st = c.before.before.before.before in
-    let k = st.args.t3 in
-    section_start actor_text k.list k.count actors_key actor_limit st.args.at (omega (arith, full st, st.requires.1)) st.requires.0
-    c.put-line.ensures.0 c.put-line.ensures.1
+    let k = c.args.k in
+    section_start actor_text k.list k.count actors_key actor_limit c.args.at (omega (arith, full c.before.before.before.before.before, c.requires.1)) c.requires.0
+    c.put_line-end.ensures.0 c.put_line-end.ensures.1
 
-loop_holds : tie.Need-loop-init invariant_loop decreases_loop
+loop_holds : tie.Need-loop-i-init invariant_loop decreases_loop
 loop_holds c = (omega arith, writing_start _ _ _)
 
-element_copy_out_a : tie.Need-element-copy-out-a invariant_loop decreases_loop
-element_copy_out_a c = omega (arith, full c.before.before.before.before.before.before.before.before, c.before.before.before.before.before.before.before.before.requires.1)
+element_copy_out_a : tie.Need-bounds-k-i invariant_loop decreases_loop
+element_copy_out_a c = omega (arith, full c.before.before.before.before.before.before.before.before.before, c.requires.1)
 
-put_actor_requires : tie.Need-put-actor-requires invariant_loop decreases_loop
+put_actor_requires : tie.Need-put_actor-end-requires invariant_loop decreases_loop
 put_actor_requires c κs =
-    let l = c.before.before.before in
-    let head = l.before.before.before in
-    let st = head.before.before.before.before in
-    let k = st.args.t3 in
-    going_room actor_text k.list k.count no_actor (omega (arith, full st, st.requires.1)) (writing_left st.requires.0 (counted head))
-    c.before.before.loop-test.true l.loop.invariant.1
+    let k = c.args.k in
+    going_room actor_text k.list k.count no_actor (omega (arith, full c.before.before.before.before.before.before.before.before.before.before.before, c.requires.1)) (writing_left c.requires.0 (counted c.before.before.before.before.before.before))
+    c.loop-i-test.true c.loop-i.invariant.1
 
-loop_again : tie.Need-loop-preserved invariant_loop decreases_loop
+loop_again : tie.Need-loop-i-preserved invariant_loop decreases_loop
 loop_again c =
-    let call = c.before.before.put-actor in
-    let l = c.before.before.before.before.before.before in
-    let head = l.before.before.before in
-    let st = head.before.before.before.before in
-    let k = st.args.t3 in (
+    let call = c.put_actor-end in
+    let k = c.args.k in (
       omega arith,
-      going_next actor_text k.list k.count no_actor (omega (arith, full st, st.requires.1)) (writing_left st.requires.0 (counted head))
-          c.before.before.before.before.before.loop-test.true l.loop.invariant.1 call.ensures.0 call.ensures.1,
+      going_next actor_text k.list k.count no_actor (omega (arith, full c.before.before.before.before.before.before.before.before.before.before.before.before.before.before, c.requires.1)) (writing_left c.requires.0 (counted c.before.before.before.before.before.before.before.before.before))
+          c.loop-i-test.true c.loop-i.invariant.1 call.ensures.0 call.ensures.1,
     )
 
-same_length : tie.Need-same-length invariant_loop decreases_loop
+same_length : tie.Need-shape_of-buf invariant_loop decreases_loop
 same_length c =
-    let head = c.before.before.before.before in
-    writing_length (writing_left head.before.before.before.before.requires.0 (counted head)) c.before.loop.invariant.1 ∙ head.put-line.auto.0
+    writing_length (writing_left c.requires.0 (counted c.before.before.before.before)) c.loop-i.invariant.1 ∙ c.put_line-end.auto.buf
 
 returns : tie.Need-returns invariant_loop decreases_loop
 returns c =
-    let l = c.before in
-    let head = l.before.before.before in
-    let st = head.before.before.before.before in
-    let k = st.args.t3 in
-    let all = going_done actor_text k.list k.count no_actor (omega (arith, full st, st.requires.1)) c.loop-test.false l.loop.invariant.1 in
-    writing_last st.requires.0 (counted head) all.0 all.1
+    let k = c.args.k in
+    let all = going_done actor_text k.list k.count no_actor (omega (arith, full c.before.before.before.before.before.before.before.before.before, c.requires.1)) c.loop-i-test.false c.loop-i.invariant.1 in
+    writing_last c.requires.0 (counted c.before.before.before.before) all.0 all.1
 
 pub put_actors_spec : {M : Type 1} → statement M
 put_actors_spec =
@@ -83,7 +72,6 @@ put_actors_spec =
     (tie.spec
     invariant_loop
     decreases_loop
-    (λ c. search rules)
     (λ c κs. search rules)
     loop_holds
     (λ c. search rules)

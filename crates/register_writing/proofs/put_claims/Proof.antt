@@ -18,10 +18,10 @@ use Rattle.register_writing.specs.Sections.{Going, section_start, going_room, go
 use Rattle.register_writing.proofs.put_claims.Statement.{statement}
 use Rattle.register_writing.proofs.put_claims.Tie as tie
 
-abbrev invariant_loop : tie.invariant-loop
+abbrev invariant_loop : tie.invariant-loop-i
 invariant_loop buf₀ at version sheet n end₀ i₀ buf end i = (i ≤ n) × Going (claim_text version) (claims_in sheet) n end₀ buf₀ i end buf
 
-abbrev decreases_loop : tie.decreases-loop
+abbrev decreases_loop : tie.decreases-loop-i
 decreases_loop buf₀ at version sheet n end₀ i₀ buf end i = n - i
 
 -- there are as many claims in the sheet as places
@@ -29,57 +29,48 @@ full : (c : tie.Start invariant_loop decreases_loop) → c.args.n ≤ length (cl
 full c = omega (arith, claims_in_length c.args.sheet.now, c.requires.1)
 
 -- behind the count line the claims are left
-counted : (c : tie.After-put-line invariant_loop decreases_loop) →
-    let a = c.before.before.before.before.before.args in
+counted : (c : tie.After-put_line-end invariant_loop decreases_loop) →
+    let a = c.args in
     let k = take a.n (claims_in a.sheet.now) in
-    Writing a.at (section_text claims_key claim_limit (claim_text a.version) k) a.buf.now (texts (claim_text a.version) k) c.put-line.result c.put-line.new.0
+    Writing a.at (section_text claims_key claim_limit (claim_text a.version) k) a.buf.now (texts (claim_text a.version) k) c.put_line-end.result c.put_line-end.new.buf
 counted c =
-    let st = c.before.before.before.before.before in
-    let a = st.args in
-    section_start (claim_text a.version) (claims_in a.sheet.now) a.n claims_key claim_limit a.at (full st) st.requires.0
-    c.put-line.ensures.0 c.put-line.ensures.1
+    let a = c.args in
+    section_start (claim_text a.version) (claims_in a.sheet.now) a.n claims_key claim_limit a.at (full c.before.before.before.before.before.before) c.requires.0
+    c.put_line-end.ensures.0 c.put_line-end.ensures.1
 
-loop_holds : tie.Need-loop-init invariant_loop decreases_loop
+loop_holds : tie.Need-loop-i-init invariant_loop decreases_loop
 loop_holds c = (omega arith, writing_start _ _ _)
 
-put_claim_requires : tie.Need-put-claim-requires invariant_loop decreases_loop
+put_claim_requires : tie.Need-put_claim-end-requires invariant_loop decreases_loop
 put_claim_requires c κs =
-    let st = c.before.before.before.before.before.before.before.before.before.before.before in
-    let l = c.before.before.before in
-    let read = c.before.claim-at in
-    let a = st.args in
-    let same : get_or (claims_in a.sheet.now) l.loop.i no_claim ≡ read.result = claims_in_at a.sheet.now l.loop.i ∙ sym read.ensures in
-    rw same at (going_room (claim_text a.version) (claims_in a.sheet.now) a.n no_claim (full st) (writing_left st.requires.0 (counted c.before.before.before.before.before.before))
-    c.before.before.loop-test.true l.loop.invariant.1)
+    let read = c.claim_at-c in
+    let a = c.args in
+    let same : get_or (claims_in a.sheet.now) c.loop-i.i no_claim ≡ read.result = claims_in_at a.sheet.now c.loop-i.i ∙ sym read.ensures in
+    rw same at (going_room (claim_text a.version) (claims_in a.sheet.now) a.n no_claim (full c.before.before.before.before.before.before.before.before.before.before.before.before) (writing_left c.requires.0 (counted c.before.before.before.before.before.before))
+    c.loop-i-test.true c.loop-i.invariant.1)
 
-loop_again : tie.Need-loop-preserved invariant_loop decreases_loop
+loop_again : tie.Need-loop-i-preserved invariant_loop decreases_loop
 loop_again c =
-    let st = c.before.before.before.before.before.before.before.before.before.before.before.before.before.before in
-    let l = c.before.before.before.before.before.before in
-    let read = c.before.before.before.before.claim-at in
-    let call = c.before.before.put-claim in
-    let a = st.args in
-    let same : get_or (claims_in a.sheet.now) l.loop.i no_claim ≡ read.result = claims_in_at a.sheet.now l.loop.i ∙ sym read.ensures in (
-      omega (arith, c.before.before.before.before.before.loop-test.true),
-      going_next (claim_text a.version) (claims_in a.sheet.now) a.n no_claim (full st) (writing_left st.requires.0 (counted c.before.before.before.before.before.before.before.before.before))
-          c.before.before.before.before.before.loop-test.true l.loop.invariant.1
-          (call.ensures.0 ∙ ap (λ d. l.loop.end + length (claim_text a.version d)) (sym same))
-          (call.ensures.1 ∙ ap (λ d. splice l.loop.end (claim_text a.version d) l.loop.buf) (sym same)),
+    let read = c.claim_at-c in
+    let call = c.put_claim-end in
+    let a = c.args in
+    let same : get_or (claims_in a.sheet.now) c.loop-i.i no_claim ≡ read.result = claims_in_at a.sheet.now c.loop-i.i ∙ sym read.ensures in (
+      omega (arith, c.loop-i-test.true),
+      going_next (claim_text a.version) (claims_in a.sheet.now) a.n no_claim (full c.before.before.before.before.before.before.before.before.before.before.before.before.before.before.before) (writing_left c.requires.0 (counted c.before.before.before.before.before.before.before.before.before))
+          c.loop-i-test.true c.loop-i.invariant.1
+          (call.ensures.0 ∙ ap (λ d. c.loop-i.end + length (claim_text a.version d)) (sym same))
+          (call.ensures.1 ∙ ap (λ d. splice c.loop-i.end (claim_text a.version d) c.loop-i.buf) (sym same)),
     )
 
-same_length : tie.Need-same-length invariant_loop decreases_loop
+same_length : tie.Need-shape_of-buf invariant_loop decreases_loop
 same_length c =
-    let head = c.before.before.before.before in
-    writing_length (writing_left c.before.before.before.before.before.before.before.before.before.requires.0 (counted head)) c.before.loop.invariant.1 ∙ head.put-line.auto.0
+    writing_length (writing_left c.requires.0 (counted c.before.before.before.before)) c.loop-i.invariant.1 ∙ c.put_line-end.auto.buf
 
 returns : tie.Need-returns invariant_loop decreases_loop
 returns c =
-    let l = c.before in
-    let head = c.before.before.before.before in
-    let st = c.before.before.before.before.before.before.before.before.before in
-    let a = st.args in
-    let all = going_done (claim_text a.version) (claims_in a.sheet.now) a.n no_claim (full st) c.loop-test.false l.loop.invariant.1 in
-    writing_last st.requires.0 (counted head) all.0 all.1
+    let a = c.args in
+    let all = going_done (claim_text a.version) (claims_in a.sheet.now) a.n no_claim (full c.before.before.before.before.before.before.before.before.before.before) c.loop-i-test.false c.loop-i.invariant.1 in
+    writing_last c.requires.0 (counted c.before.before.before.before) all.0 all.1
 
 pub put_claims_spec : {M : Type 1} → statement M
 put_claims_spec =
@@ -87,7 +78,6 @@ put_claims_spec =
     (tie.spec
     invariant_loop
     decreases_loop
-    (λ c. search rules)
     (λ c κs. search rules)
     loop_holds
     (λ c κs. search rules)

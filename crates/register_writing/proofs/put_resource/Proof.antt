@@ -14,47 +14,37 @@ use Rattle.register_writing.proofs.put_resource.Statement.{statement}
 use Rattle.register_writing.proofs.put_resource.Tie as tie
 
 -- behind the lines of the numbers, that of the path is left
-numbered : (c : tie.After-put-line3) →
-    let a = c.before.before.before.before.before.before.before.before.before.before.before.before.before.before.before.before.before.args in
-    Writing a.at (resource_text a.o) a.buf.now (scope_line (path_of a.o)) c.put-line3.result c.put-line3.new.0
+numbered : (c : tie.After-put_line-scope_at) →
+    let a = c.args in
+    Writing a.at (resource_text a.o) a.buf.now (scope_line (path_of a.o)) c.put_line-scope_at.result c.put_line-scope_at.new.buf
 numbered c =
-    let shown = c.before.before.before.before.before.before in
-    let named = shown.before.before.before.before.before.before in
-    let st = named.before.before.before.before.before in
-    let a = st.args in
+    let a = c.args in
     let lines = lines_text resource_forms (resource_numbers a.o) in
     let scope = scope_line (path_of a.o) in
-    let room : a.at + length lines ≤ length a.buf.now = omega (arith, st.requires.0, length-append lines scope) in
+    let room : a.at + length lines ≤ length a.buf.now = omega (arith, c.requires.0, length-append lines scope) in
     let start = lining_start resource_forms (resource_numbers a.o) a.at a.buf.now in
-    let first = lining_next room start named.put-line.ensures.0 named.put-line.ensures.1 in
-    let second = lining_next room first shown.put-line2.ensures.0 shown.put-line2.ensures.1 in
-    let all = lining_done (lining_next room second c.put-line3.ensures.0 c.put-line3.ensures.1) in
-    writing_next lines scope st.requires.0 (writing_start a.at (resource_text a.o) a.buf.now) all.0 all.1
+    let first = lining_next room start c.put_line-public_at.ensures.0 c.put_line-public_at.ensures.1 in
+    let second = lining_next room first c.put_line-keeper_at.ensures.0 c.put_line-keeper_at.ensures.1 in
+    let all = lining_done (lining_next room second c.put_line-scope_at.ensures.0 c.put_line-scope_at.ensures.1) in
+    writing_next lines scope c.requires.0 (writing_start a.at (resource_text a.o) a.buf.now) all.0 all.1
 
-put_scope_requires : tie.Need-put-scope-requires
+put_scope_requires : tie.Need-put_scope-requires
 put_scope_requires c κs =
-    let kept = c.before.before.before in
-    let st = kept.before.before.before.before.before.before.before.before.before.before.before.before.before.before.before.before.before in
-    (writing_left st.requires.0 (numbered kept), st.requires.1)
+    (writing_left c.requires.0 (numbered c.before.before.before), c.requires.1)
 
 returns : tie.Need-returns
 returns c =
-    let call = c.before.before.put-scope in
-    let kept = c.before.before.before.before.before.before in
-    let st = kept.before.before.before.before.before.before.before.before.before.before.before.before.before.before.before.before.before in
-    writing_last st.requires.0 (numbered kept) call.ensures.0 call.ensures.1
+    let call = c.put_scope in
+    writing_last c.requires.0 (numbered c.before.before.before.before.before.before) call.ensures.0 call.ensures.1
 
 pub put_resource_spec : {M : Type 1} → statement M
 put_resource_spec =
     tie.close
     (tie.spec
     (λ c. search rules)
-    (λ c. search rules)
     (λ c κs. search rules)
     (λ c. search rules)
-    (λ c. search rules)
     (λ c κs. search rules)
-    (λ c. search rules)
     (λ c. search rules)
     (λ c κs. search rules)
     put_scope_requires

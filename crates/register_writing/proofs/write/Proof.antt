@@ -21,7 +21,7 @@ use Rattle.soundness.specs.declared.Findings.{Findings}
 use Rattle.buffers.specs.Buffers.{put}
 use Rattle.buffers.specs.Laws.{splice_front}
 use Rattle.text_rules.specs.Registers.{text_limit}
-use Rattle.text_rules.specs.Lengths.{text_length}
+use Rattle.text_rules.proofs.Lengths.{text_length}
 use Rattle.buffers.specs.Delivery.{delivered}
 use Rattle.register_writing.proofs.Laws.{text_told, register_unsound, register_sound}
 use Rattle.register_writing.proofs.write.Statement.{statement}
@@ -43,44 +43,40 @@ module _ (r : Register) (full : length r.claims.list ≡ claim_limit) {s : List 
   parts_sound : sound (register_by r.version r.actors r.resources s r.claims.count) ≡ true
   parts_sound = ap (λ l. sound (register_by r.version r.actors r.resources l r.claims.count)) opened.put ∙ register_same r full ∙ wholly
 
-returns : tie.Need-returns
+returns : tie.Need-returns-then-not-found
 returns c =
-    let entry = c.before.before.before.before.before.before.before.before.before in
-    let r = entry.args.r in
-    let opened = examined r c.before.before.before.examine.ensures in
-    register_unsound r entry.args.buf.now (sym (judged_sound r opened (places entry)) ∙ not-true _ c.if1.true)
+    let r = c.args.r in
+    let opened = examined r c.examine-found.ensures in
+    register_unsound r c.args.buf.now (sym (judged_sound r opened (places c.before.before.before.before.before.before.before.before.before)) ∙ not-true _ c.if-not-found.true)
 
-compose_requires : tie.Need-compose-requires
+compose_requires : tie.Need-compose-length-requires
 compose_requires c κs =
-    let entry = c.before.before.before.before.before.before.before.before.before.before.before in
-    let r = entry.args.r in
-    let opened = examined r c.before.before.before.before.before.examine.ensures in
-    (parts_sound r (places entry) opened (not-false _ c.before.before.if1.false), blank_room 39789)
+    let r = c.args.r in
+    let opened = examined r c.examine-found.ensures in
+    (parts_sound r (places c.before.before.before.before.before.before.before.before.before.before.before) opened (not-false _ c.if-not-found.false), blank_room 39789)
 
 -- the array's front is the text
 front : (text : List ℕ) (old : List ℕ) {n : ℕ} {new : List ℕ} → n ≡ length text → new ≡ splice 0 text old → take n new ≡ text
 front text old many written = rw (many, written) (splice_front text old)
 
-slice_aggregate_deliver : tie.Need-slice-aggregate-deliver
+slice_aggregate_deliver : tie.Need-slice_bounds-deliver-end
 slice_aggregate_deliver c =
-    let entry = c.before.before.before.before.before.before.before.before.before.before.before.before.before.before.before.before in
-    let r = entry.args.r in
-    let call = c.before.before.before.before.compose in
-    let opened = examined r c.before.before.before.before.before.before.before.before.before.before.examine.ensures in
-    let whole = parts_sound r (places entry) opened (not-false _ c.before.before.before.before.before.before.before.if1.false) in
-    let full : length call.new.0 ≡ text_limit = call.auto.0 ∙ length-replicate {A = ℕ} 39789 0 in
-    sym (length-take-le _ call.new.0 (omega (arith, full, call.ensures.0, text_length _ whole)))
+    let r = c.args.r in
+    let call = c.compose-length in
+    let opened = examined r c.examine-found.ensures in
+    let whole = parts_sound r (places c.before.before.before.before.before.before.before.before.before.before.before.before.before.before.before) opened (not-false _ c.if-not-found.false) in
+    let full : length call.new.buf ≡ text_limit = call.auto.buf ∙ length-replicate {A = ℕ} 39789 0 in
+    sym (length-take-le _ call.new.buf (omega (arith, full, call.ensures.0, text_length _ whole)))
 
-returns_2 : tie.Need-returns-2
+returns_2 : tie.Need-returns
 returns_2 c =
-    let entry = c.before.before.before.before.before.before.before.before.before.before.before.before.before.before.before.before.before.before.before in
-    let r = entry.args.r in
-    let old = entry.args.buf.now in
-    let composed = c.before.before.before.before.before.before.before.compose in
-    let call = c.before.before.deliver in
-    let opened = examined r c.before.before.before.before.before.before.before.before.before.before.before.before.before.examine.ensures in
-    let told = register_sound r old (wholly r (places entry) opened (not-false _ c.before.before.before.before.before.before.before.before.before.before.if1.false)) in
-    let text = front _ _ composed.ensures.0 composed.ensures.1 ∙ text_told r (places entry) opened.put in (
+    let r = c.args.r in
+    let old = c.args.buf.now in
+    let composed = c.compose-length in
+    let call = c.deliver in
+    let opened = examined r c.examine-found.ensures in
+    let told = register_sound r old (wholly r (places c.before.before.before.before.before.before.before.before.before.before.before.before.before.before.before.before.before.before) opened (not-false _ c.if-not-found.false)) in
+    let text = front _ _ composed.ensures.0 composed.ensures.1 ∙ text_told r (places c.before.before.before.before.before.before.before.before.before.before.before.before.before.before.before.before.before.before) opened.put in (
       call.ensures.0 ∙ ap (λ (t : List ℕ). delivered t old) text ∙ sym told.0,
       call.ensures.1 ∙ ap (λ (t : List ℕ). put 0 t old) text ∙ sym told.1,
     )

@@ -25,38 +25,38 @@ module _ {table : List Right} (ruled : table ≡ the_table) {b : ℕ} (h : b < r
   machine_at : {told : Bool} → (get_or table b no_row).machine ≡ told → machine_grants b ≡ told
   machine_at e = sym (ap (λ (t : List Right). (get_or t b no_row).machine) ruled ∙ table_machine b h) ∙ e
 
-abbrev invariant_loop : tie.invariant-loop
+abbrev invariant_loop : tie.invariant-loop-b
 invariant_loop n table kept₀ b₀ kept b = (table ≡ the_table) × Summing kept b
 
-abbrev decreases_loop : tie.decreases-loop
+abbrev decreases_loop : tie.decreases-loop-b
 decreases_loop n table kept₀ b₀ kept b = right_count - b
 
-loop_holds : tie.Need-loop-init invariant_loop decreases_loop
+loop_holds : tie.Need-loop-b-init invariant_loop decreases_loop
 loop_holds c = (refl, summing_start)
 
-loop_again : tie.Need-loop-preserved invariant_loop decreases_loop
+loop_again : tie.Need-loop-b-preserved-then-table-b invariant_loop decreases_loop
 loop_again c =
-    let inv = c.before.before.loop.invariant in
-    let h = c.before.loop-test.true in
-    (inv.0, summing_free inv.1 h (machine_at inv.0 h c.if1.true))
+    let inv = c.loop-b.invariant in
+    let h = c.loop-b-test.true in
+    (inv.0, summing_free inv.1 h (machine_at inv.0 h c.if-table-b.true))
 
-add_kept : tie.Need-overflow-add-kept invariant_loop decreases_loop
+add_kept : tie.Need-overflow_add-kept invariant_loop decreases_loop
 add_kept c =
-    let inv = c.before.before.loop.invariant in
-    let h = c.before.loop-test.true in
-    let fits = summing_fits inv.1 h (machine_at inv.0 h c.if1.false) (worth_at inv.0 h) in
+    let inv = c.loop-b.invariant in
+    let h = c.loop-b-test.true in
+    let fits = summing_fits inv.1 h (machine_at inv.0 h c.if-table-b.false) (worth_at inv.0 h) in
     search rules
 
-loop_again_2 : tie.Need-loop-preserved-2 invariant_loop decreases_loop
+loop_again_2 : tie.Need-loop-b-preserved invariant_loop decreases_loop
 loop_again_2 c =
-    let inv = c.before.before.loop.invariant in
-    let h = c.before.loop-test.true in
-    (inv.0, summing_kept inv.1 h (machine_at inv.0 h c.if1.false) (worth_at inv.0 h))
+    let inv = c.loop-b.invariant in
+    let h = c.loop-b-test.true in
+    (inv.0, summing_kept inv.1 h (machine_at inv.0 h c.if-table-b.false) (worth_at inv.0 h))
 
 returns : tie.Need-returns invariant_loop decreases_loop
 returns c =
-    let n = c.before.before.args.n in
-    ap (λ (m : ℕ). not (eqb (bit_and n m) 0)) (summing_done c.before.loop.invariant.1 c.loop-test.false) ∙ bars_mask n
+    let n = c.args.n in
+    ap (λ (m : ℕ). not (eqb (bit_and n m) 0)) (summing_done c.loop-b.invariant.1 c.loop-b-test.false) ∙ bars_mask n
 
 pub bars_machine_spec : {M : Type 1} → statement M
 bars_machine_spec =

@@ -12,9 +12,9 @@ use Rattle.rights.proofs.has_all.Tie as tie
 
 returns : tie.Need-returns
 returns c =
-    ap (λ (a : ℕ). eqb (bit_and a c.before.args.n) a)
-    (ap (λ (w : ℕ). bit_and c.before.args.m (2 * w - 1)) c.worth.ensures ∙ and_mask c.before.args.m right_count)
-    ∙ has_rights_mask c.before.args.n c.before.args.m
+    ap (λ (a : ℕ). eqb (bit_and a c.args.n) a)
+    (ap (λ (w : ℕ). bit_and c.args.m (2 * w - 1)) c.worth-last.ensures ∙ and_mask c.args.m right_count)
+    ∙ has_rights_mask c.args.n c.args.m
 
 pub has_all_spec : {M : Type 1} → statement M
 has_all_spec = tie.close (tie.spec (λ c κs. search rules) (λ c. search rules) (λ c. search rules) returns)

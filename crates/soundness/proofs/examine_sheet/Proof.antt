@@ -18,12 +18,9 @@ resources_long e = search (rules, length_mapped)
 
 returns : tie.Need-returns
 returns c =
-    let alone = c.before in
-    let resources = alone.before in
-    let actors = resources.before in
-    let start = actors.before.before in
-    c.examine-columns.ensures
-    ∙ rw (actors.actor-columns.ensures, resources.resource-columns.ensures, alone.resources-alone.ensures)
+    let start = c.before.before.before.before.before in
+    c.examine_columns.ensures
+    ∙ rw (c.actor_columns-actors.ensures, c.resource_columns-resources.ensures, c.resources_alone-alone.ensures)
     (columns_natural start.args.version start.args.a start.args.o start.args.sheet.now start.args.n (actors_long start) (resources_long start))
 
 pub examine_sheet_spec : {M : Type 1} → statement M

@@ -15,7 +15,7 @@ returns : tie.Need-returns
 returns c =
     let start = c.before.before.before.before.before.before in
     let r = start.args.r in
-    judged_sound r (examined r c.before.examine.ensures) (claims_long start)
+    judged_sound r (examined r c.examine-found.ensures) (claims_long start)
 
 pub is_sound_spec : {M : Type 1} → statement M
 is_sound_spec =

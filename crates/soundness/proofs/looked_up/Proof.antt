@@ -7,11 +7,9 @@ use Rattle.soundness.proofs.looked_up.Tie as tie
 
 returns : tie.Need-returns
 returns c =
-    let found = c.before.before.before.before in
-    let earlier = found.before in
-    let given = earlier.before.before.before.before.before.before.args in
-    looked_told given.h given.reports.now given.m given.sheet.now given.n earlier.before.before.before.column.ensures earlier.before.before.column2.ensures
-    earlier.before.column3.ensures earlier.earlier-places.ensures found.places_of.ensures
+    let given = c.args in
+    looked_told given.h given.reports.now given.m given.sheet.now given.n c.column-ids.ensures c.column-parents.ensures
+    c.column-claimed.ensures c.earlier_places-earlier.ensures c.places_of-reported.ensures
 
 pub looked_up_spec : {M : Type 1} → statement M
 looked_up_spec =

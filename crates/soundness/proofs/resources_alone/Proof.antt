@@ -18,31 +18,29 @@ use Rattle.soundness.proofs.resources_alone.Tie as tie
 abbrev aside : Resource → Bool
 aside = resource_fits (λ x. true)
 
-abbrev invariant_loop : tie.invariant-loop
+abbrev invariant_loop : tie.invariant-loop-i
 invariant_loop o top fit₀ i₀ fit i = Loop (λ at l. fit && every aside l) o.count o.list top i (every aside (take o.count o.list))
 
-abbrev decreases_loop : tie.decreases-loop
+abbrev decreases_loop : tie.decreases-loop-i
 decreases_loop o top fit₀ i₀ fit i = top - i
 
-loop_holds : tie.Need-loop-init invariant_loop decreases_loop
+loop_holds : tie.Need-loop-i-init invariant_loop decreases_loop
 loop_holds c =
-    let room : length c.before.args.t1.list ≡ resource_limit = search (rules, length_mapped) in
-    start (c.least.ensures ∙ rw room) refl
+    let room : length c.args.o.list ≡ resource_limit = search (rules, length_mapped) in
+    start (c.least-top.ensures ∙ rw room) refl
 
-loop_again : tie.Need-loop-preserved invariant_loop decreases_loop
+loop_again : tie.Need-loop-i-preserved invariant_loop decreases_loop
 loop_again c =
-    let read = c.before in
-    let loop = read.before.before in
-    let o = loop.before.before.args.t1 in
-    let behind = every aside (drop (loop.loop.i + 1) (take o.count o.list)) in
-    next loop.loop.invariant read.before.loop-test.true
-    (turn loop.loop.invariant beyond read.before.loop-test.true
-    ∙ sym (and_assoc loop.loop.fit _ _)
-    ∙ ap (λ b. (loop.loop.fit && b) && behind) (sym c.resource-fits.ensures))
+    let o = c.args.o in
+    let behind = every aside (drop (c.loop-i.i + 1) (take o.count o.list)) in
+    next c.loop-i.invariant c.loop-i-test.true
+    (turn c.loop-i.invariant beyond c.loop-i-test.true
+    ∙ sym (and_assoc c.loop-i.fit _ _)
+    ∙ ap (λ b. (c.loop-i.fit && b) && behind) (sym c.resource_fits-fit.ensures))
 
 returns : tie.Need-returns invariant_loop decreases_loop
 unfolding resources_alone
-returns c = sym (done c.before.loop.invariant c.loop-test.false ∙ and-true c.before.loop.fit)
+returns c = sym (done c.loop-i.invariant c.loop-i-test.false ∙ and-true c.loop-i.fit)
 
 pub resources_alone_spec : {M : Type 1} → statement M
 resources_alone_spec =

@@ -49,17 +49,7 @@ abbrev read_steps_below : ℕ → In 1 read-steps-kinds.ps
 read_steps_below t =
     and 1 read-steps-kinds.ps (falls 1 read-steps-kinds.ps ◌<◌ μ_read_steps t) read-steps.Pre
 
-read_plan_slice_aggregate_read_count : (t : ℕ) → read-plan-lts.Need-slice-aggregate-read-count (
-  read-count-reads.Asked,
-  read-count-reads.Learnt,
-  moved-reads.Asked,
-  moved-reads.Learnt,
-  read_steps_below t,
-  read-steps.Post,
-) (read_plan_at t) read-plan.Post
-read_plan_slice_aggregate_read_count t c = search rules
-
-read_plan_read_count_requires : (t : ℕ) → read-plan-lts.Need-read-count-requires (
+read_plan_read_count_requires : (t : ℕ) → read-plan-lts.Need-read_count-counted-requires (
   read-count-reads.Asked,
   read-count-reads.Learnt,
   moved-reads.Asked,
@@ -69,7 +59,7 @@ read_plan_read_count_requires : (t : ℕ) → read-plan-lts.Need-read-count-requ
 ) (read_plan_at t) read-plan.Post
 read_plan_read_count_requires t c κs = search rules
 
-read_plan_sub_read_steps : (t : ℕ) → read-plan-lts.Need-overflow-sub-read-steps (
+read_plan_sub_read_steps : (t : ℕ) → read-plan-lts.Need-overflow_sub-levels (
   read-count-reads.Asked,
   read-count-reads.Learnt,
   moved-reads.Asked,
@@ -89,7 +79,7 @@ read_plan_moved_requires : (t : ℕ) → read-plan-lts.Need-moved-requires (
 ) (read_plan_at t) read-plan.Post
 read_plan_moved_requires t c κs = search rules
 
-read_plan_read_steps_requires : (t : ℕ) → read-plan-lts.Need-read-steps-requires (
+read_plan_read_steps_requires : (t : ℕ) → read-plan-lts.Need-read_steps-requires (
   read-count-reads.Asked,
   read-count-reads.Learnt,
   moved-reads.Asked,
@@ -98,15 +88,14 @@ read_plan_read_steps_requires : (t : ℕ) → read-plan-lts.Need-read-steps-requ
   read-steps.Post,
 ) (read_plan_at t) read-plan.Post
 read_plan_read_steps_requires t c κs =
-    let st = c.before.before.before.before in
-    let falls = st.requires.0 in
-    let some = st.requires.1.0 in
+    let falls = c.requires.0 in
+    let some = c.requires.1.0 in
     let same = ap (λ p. p.count) c.moved.ensures in
-    let a = st.args in
-    let counted = c.before.read_count in
+    let a = c.args in
+    let counted = c.read_count-counted in
     let moved = ap (λ p. remaining (state_of a.s.now p.cursor)) c.moved.ensures in
     let left = ap remaining counted.ensures.state in
-    (omega (arith, falls, moved, left, form_shrinks (state_of a.s.now a.p.cursor)), omega (arith, same, st.requires.1.1))
+    (omega (arith, falls, moved, left, form_shrinks (state_of a.s.now a.p.cursor)), omega (arith, same, c.requires.1.1))
 
 read_plan_returns : (t : ℕ) → read-plan-lts.Need-returns (
   read-count-reads.Asked,
@@ -117,22 +106,21 @@ read_plan_returns : (t : ℕ) → read-plan-lts.Need-returns (
   read-steps.Post,
 ) (read_plan_at t) read-plan.Post
 read_plan_returns t c =
-    let st = c.before.before.before.before.before in
-    let a = st.args in
-    let counted = c.before.before.read_count in
-    let steps = c.read-steps.ensures in
-    finds_counted a.s.now a.levels a.p c.read-steps.result counted.result st.requires.1.0 counted.ensures
-    (subst (λ p. Finds a.s.now p c.read-steps.result
+    let a = c.args in
+    let counted = c.read_count-counted in
+    let steps = c.read_steps.ensures in
+    finds_counted a.s.now a.levels a.p c.read_steps.result counted.result c.requires.1.0 counted.ensures
+    (subst (λ p. Finds a.s.now p c.read_steps.result
     (read_steps (read_plan (a.levels - 1)) (a.levels - 1) counted.result.value (text_action_limit - p.count) (state_of a.s.now p.cursor)))
-    c.before.moved.ensures steps)
+    c.moved.ensures steps)
 
-abbrev read_steps_Inv_loop : read-steps-lts.invariant_loop
+abbrev read_steps_Inv_loop : read-steps-lts.invariant-loop-i
 read_steps_Inv_loop s k levels found₀ i₀ found i = Walking s levels k found₀ found i
 
-abbrev read_steps_μ_loop : read-steps-lts.decreases_loop
+abbrev read_steps_μ_loop : read-steps-lts.decreases-loop-i
 read_steps_μ_loop s k levels found₀ i₀ found i = k - i
 
-read_steps_loop_holds : (t : ℕ) → read-steps-lts.Need-loop-init (
+read_steps_loop_holds : (t : ℕ) → read-steps-lts.Need-loop-i-init (
   open-step-reads.Asked,
   open-step-reads.Learnt,
   take-action-reads.Asked,
@@ -142,9 +130,9 @@ read_steps_loop_holds : (t : ℕ) → read-steps-lts.Need-loop-init (
   read_plan_below t,
   read-plan.Post,
 ) (read_steps_at t) read-steps.Post read_steps_Inv_loop read_steps_μ_loop
-read_steps_loop_holds t c = walking_start c.before.requires.1 (search (rules, length_mapped))
+read_steps_loop_holds t c = walking_start c.requires.1 (search (rules, length_mapped))
 
-read_steps_open_step_requires : (t : ℕ) → read-steps-lts.Need-open-step-requires (
+read_steps_open_step_requires : (t : ℕ) → read-steps-lts.Need-open_step-next-requires (
   open-step-reads.Asked,
   open-step-reads.Learnt,
   take-action-reads.Asked,
@@ -156,7 +144,7 @@ read_steps_open_step_requires : (t : ℕ) → read-steps-lts.Need-open-step-requ
 ) (read_steps_at t) read-steps.Post read_steps_Inv_loop read_steps_μ_loop
 read_steps_open_step_requires t c κs = search rules
 
-read_steps_take_action_requires : (t : ℕ) → read-steps-lts.Need-take-action-requires (
+read_steps_take_action_requires : (t : ℕ) → read-steps-lts.Need-take_action-found-requires (
   open-step-reads.Asked,
   open-step-reads.Learnt,
   take-action-reads.Asked,
@@ -167,14 +155,13 @@ read_steps_take_action_requires : (t : ℕ) → read-steps-lts.Need-take-action-
   read-plan.Post,
 ) (read_steps_at t) read-steps.Post read_steps_Inv_loop read_steps_μ_loop
 read_steps_take_action_requires t c κs =
-    let turn = c.before.before.before.before in
-    let a = turn.before.before.args in
-    let found = turn.loop.found in
-    let some = (action_opens a.s.now a.levels (text_action_limit - found.count) (state_of a.s.now found.cursor) c.before.before.open_step.result
-    c.before.before.open_step.ensures c.if1.true).some in
+    let a = c.args in
+    let found = c.loop-i.found in
+    let some = (action_opens a.s.now a.levels (text_action_limit - found.count) (state_of a.s.now found.cursor) c.open_step-next.result
+    c.open_step-next.ensures c.if-next-eq-ACTION_STEP.true).some in
     omega arith
 
-read_steps_add_i : (t : ℕ) → read-steps-lts.Need-overflow-add-i (
+read_steps_add_i : (t : ℕ) → read-steps-lts.Need-overflow_add-i (
   open-step-reads.Asked,
   open-step-reads.Learnt,
   take-action-reads.Asked,
@@ -186,7 +173,7 @@ read_steps_add_i : (t : ℕ) → read-steps-lts.Need-overflow-add-i (
 ) (read_steps_at t) read-steps.Post read_steps_Inv_loop read_steps_μ_loop
 read_steps_add_i t c = search rules
 
-read_steps_loop_less : (t : ℕ) → read-steps-lts.Need-loop-smaller (
+read_steps_loop_less : (t : ℕ) → read-steps-lts.Need-loop-i-smaller-then-next-eq-ACTION_STEP (
   open-step-reads.Asked,
   open-step-reads.Learnt,
   take-action-reads.Asked,
@@ -198,7 +185,7 @@ read_steps_loop_less : (t : ℕ) → read-steps-lts.Need-loop-smaller (
 ) (read_steps_at t) read-steps.Post read_steps_Inv_loop read_steps_μ_loop
 read_steps_loop_less t c = search rules
 
-read_steps_loop_again : (t : ℕ) → read-steps-lts.Need-loop-preserved (
+read_steps_loop_again : (t : ℕ) → read-steps-lts.Need-loop-i-preserved-then-next-eq-ACTION_STEP (
   open-step-reads.Asked,
   open-step-reads.Learnt,
   take-action-reads.Asked,
@@ -209,13 +196,12 @@ read_steps_loop_again : (t : ℕ) → read-steps-lts.Need-loop-preserved (
   read-plan.Post,
 ) (read_steps_at t) read-steps.Post read_steps_Inv_loop read_steps_μ_loop
 read_steps_loop_again t c =
-    let turn = c.before.before.before.before in
-    let a = turn.before.before.before.args in
-    let found = turn.before.loop.found in
-    let step = c.before.before.before.open_step in
-    let taken = c.take-action in
-    walking_action turn.before.loop.invariant taken.result step.result.cursor turn.loop-test.true
-    (action_opens a.s.now a.levels (text_action_limit - found.count) (state_of a.s.now found.cursor) step.result step.ensures c.before.if1.true)
+    let a = c.args in
+    let found = c.loop-i.found in
+    let step = c.open_step-next in
+    let taken = c.take_action-found in
+    walking_action c.loop-i.invariant taken.result step.result.cursor c.loop-i-test.true
+    (action_opens a.s.now a.levels (text_action_limit - found.count) (state_of a.s.now found.cursor) step.result step.ensures c.if-next-eq-ACTION_STEP.true)
     taken.ensures.0 taken.ensures.1.0 taken.ensures.1.1
 
 read_steps_moved_requires : (t : ℕ) → read-steps-lts.Need-moved-requires (
@@ -230,7 +216,7 @@ read_steps_moved_requires : (t : ℕ) → read-steps-lts.Need-moved-requires (
 ) (read_steps_at t) read-steps.Post read_steps_Inv_loop read_steps_μ_loop
 read_steps_moved_requires t c κs = search rules
 
-read_steps_returns : (t : ℕ) → read-steps-lts.Need-returns (
+read_steps_returns : (t : ℕ) → read-steps-lts.Need-returns-then-next-ne-PLAN_STEP (
   open-step-reads.Asked,
   open-step-reads.Learnt,
   take-action-reads.Asked,
@@ -241,17 +227,16 @@ read_steps_returns : (t : ℕ) → read-steps-lts.Need-returns (
   read-plan.Post,
 ) (read_steps_at t) read-steps.Post read_steps_Inv_loop read_steps_μ_loop
 read_steps_returns t c =
-    let turn = c.before.before.before.before.before.before in
-    let a = turn.before.before.before.args in
-    let found = turn.before.loop.found in
-    let step = c.before.before.before.before.before.open_step in
+    let a = c.args in
+    let found = c.loop-i.found in
+    let step = c.open_step-next in
     let read = read_steps (read_plan a.levels) a.levels a.k (text_action_limit - a.p.count) (state_of a.s.now a.p.cursor) in
     subst (λ r. Finds a.s.now a.p r read) (sym c.moved.ensures)
-    (walking_barred turn.before.loop.invariant step.result.cursor turn.loop-test.true
+    (walking_barred c.loop-i.invariant step.result.cursor c.loop-i-test.true
     (neither_opens a.s.now a.levels (text_action_limit - found.count) (state_of a.s.now found.cursor) step.result step.ensures
-    c.before.before.before.if1.false c.before.if2.true))
+    c.if-next-eq-ACTION_STEP.false c.if-next-ne-PLAN_STEP.true))
 
-read_steps_moved_requires_2 : (t : ℕ) → read-steps-lts.Need-moved-requires-2 (
+read_steps_moved_requires_2 : (t : ℕ) → read-steps-lts.Need-moved-requires-else-next-eq-ACTION_STEP (
   open-step-reads.Asked,
   open-step-reads.Learnt,
   take-action-reads.Asked,
@@ -263,7 +248,7 @@ read_steps_moved_requires_2 : (t : ℕ) → read-steps-lts.Need-moved-requires-2
 ) (read_steps_at t) read-steps.Post read_steps_Inv_loop read_steps_μ_loop
 read_steps_moved_requires_2 t c κs = search rules
 
-read_steps_read_plan_requires : (t : ℕ) → read-steps-lts.Need-read-plan-requires (
+read_steps_read_plan_requires : (t : ℕ) → read-steps-lts.Need-read_plan-found-requires (
   open-step-reads.Asked,
   open-step-reads.Learnt,
   take-action-reads.Asked,
@@ -274,17 +259,15 @@ read_steps_read_plan_requires : (t : ℕ) → read-steps-lts.Need-read-plan-requ
   read-plan.Post,
 ) (read_steps_at t) read-steps.Post read_steps_Inv_loop read_steps_μ_loop
 read_steps_read_plan_requires t c κs =
-    let turn = c.before.before.before.before.before.before in
-    let st = turn.before.before.before in
-    let a = st.args in
-    let found = turn.before.loop.found in
-    let step = c.before.before.before.before.before.open_step in
-    let opens = plan_opens a.s.now a.levels (text_action_limit - found.count) (state_of a.s.now found.cursor) step.result step.ensures c.before.if2.false in
-    let same = ap (λ p. p.count) c.moved2.ensures in
-    let moved = ap (λ p. remaining (state_of a.s.now p.cursor)) c.moved2.ensures in
-    (omega (arith, st.requires.0, moved, opens.shrinks, turn.before.loop.invariant.shrinks), (opens.some, omega (arith, same, turn.before.loop.invariant.room)))
+    let a = c.args in
+    let found = c.loop-i.found in
+    let step = c.open_step-next in
+    let opens = plan_opens a.s.now a.levels (text_action_limit - found.count) (state_of a.s.now found.cursor) step.result step.ensures c.if-next-ne-PLAN_STEP.false in
+    let same = ap (λ p. p.count) c.moved-else-next-eq-ACTION_STEP.ensures in
+    let moved = ap (λ p. remaining (state_of a.s.now p.cursor)) c.moved-else-next-eq-ACTION_STEP.ensures in
+    (omega (arith, c.requires.0, moved, opens.shrinks, c.loop-i.invariant.shrinks), (opens.some, omega (arith, same, c.loop-i.invariant.room)))
 
-read_steps_add_i_2 : (t : ℕ) → read-steps-lts.Need-overflow-add-i-2 (
+read_steps_add_i_2 : (t : ℕ) → read-steps-lts.Need-overflow_add-i-else-next-eq-ACTION_STEP (
   open-step-reads.Asked,
   open-step-reads.Learnt,
   take-action-reads.Asked,
@@ -295,9 +278,9 @@ read_steps_add_i_2 : (t : ℕ) → read-steps-lts.Need-overflow-add-i-2 (
   read-plan.Post,
 ) (read_steps_at t) read-steps.Post read_steps_Inv_loop read_steps_μ_loop
 read_steps_add_i_2 t c =
-    omega (arith, c.before.before.before.before.before.before.before.loop-test.true, c.before.before.before.before.before.before.before.before.before.before.well-formed.1.0)
+    omega (arith, c.loop-i-test.true)
 
-read_steps_loop_less_2 : (t : ℕ) → read-steps-lts.Need-loop-smaller-2 (
+read_steps_loop_less_2 : (t : ℕ) → read-steps-lts.Need-loop-i-smaller (
   open-step-reads.Asked,
   open-step-reads.Learnt,
   take-action-reads.Asked,
@@ -309,7 +292,7 @@ read_steps_loop_less_2 : (t : ℕ) → read-steps-lts.Need-loop-smaller-2 (
 ) (read_steps_at t) read-steps.Post read_steps_Inv_loop read_steps_μ_loop
 read_steps_loop_less_2 t c = search rules
 
-read_steps_loop_again_2 : (t : ℕ) → read-steps-lts.Need-loop-preserved-2 (
+read_steps_loop_again_2 : (t : ℕ) → read-steps-lts.Need-loop-i-preserved (
   open-step-reads.Asked,
   open-step-reads.Learnt,
   take-action-reads.Asked,
@@ -320,17 +303,16 @@ read_steps_loop_again_2 : (t : ℕ) → read-steps-lts.Need-loop-preserved-2 (
   read-plan.Post,
 ) (read_steps_at t) read-steps.Post read_steps_Inv_loop read_steps_μ_loop
 read_steps_loop_again_2 t c =
-    let turn = c.before.before.before.before.before.before.before in
-    let a = turn.before.before.before.args in
-    let found = turn.before.loop.found in
-    let step = c.before.before.before.before.before.before.open_step in
-    let plan = c.read-plan in
-    walking_plan turn.before.loop.invariant plan.result step.result.cursor turn.loop-test.true
+    let a = c.args in
+    let found = c.loop-i.found in
+    let step = c.open_step-next in
+    let plan = c.read_plan-found in
+    walking_plan c.loop-i.invariant plan.result step.result.cursor c.loop-i-test.true
     (plan_opens a.s.now a.levels (text_action_limit - found.count) (state_of a.s.now found.cursor) step.result step.ensures
-    c.before.before.if2.false)
-    (subst (λ p. Finds a.s.now p plan.result (read_plan a.levels (text_action_limit - p.count) (state_of a.s.now p.cursor))) c.before.moved2.ensures plan.ensures)
+    c.if-next-ne-PLAN_STEP.false)
+    (subst (λ p. Finds a.s.now p plan.result (read_plan a.levels (text_action_limit - p.count) (state_of a.s.now p.cursor))) c.moved-else-next-eq-ACTION_STEP.ensures plan.ensures)
 
-read_steps_returns_2 : (t : ℕ) → read-steps-lts.Need-returns-2 (
+read_steps_returns_2 : (t : ℕ) → read-steps-lts.Need-returns (
   open-step-reads.Asked,
   open-step-reads.Learnt,
   take-action-reads.Asked,
@@ -340,10 +322,10 @@ read_steps_returns_2 : (t : ℕ) → read-steps-lts.Need-returns-2 (
   read_plan_below t,
   read-plan.Post,
 ) (read_steps_at t) read-steps.Post read_steps_Inv_loop read_steps_μ_loop
-read_steps_returns_2 t c = walking_done c.before.loop.invariant c.loop-test.false
+read_steps_returns_2 t c = walking_done c.loop-i.invariant c.loop-i-test.false
 
-pub +read-plan-read-steps-spec : {M : Type 1} → statement M
-+read-plan-read-steps-spec = close μ_read_plan μ_read_steps (λ t. read-plan-lts.spec (
+pub +read_plan_read_steps_spec : {M : Type 1} → statement M
++read_plan_read_steps_spec = close μ_read_plan μ_read_steps (λ t. read-plan-lts.spec (
   read-count-reads.Asked,
   read-count-reads.Learnt,
   moved-reads.Asked,
@@ -353,7 +335,6 @@ pub +read-plan-read-steps-spec : {M : Type 1} → statement M
 )
     (read_plan_at t)
     read-plan.Post
-    (read_plan_slice_aggregate_read_count t)
     (read_plan_read_count_requires t)
     (read_plan_sub_read_steps t)
     (read_plan_moved_requires t)

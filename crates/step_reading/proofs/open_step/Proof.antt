@@ -9,39 +9,39 @@ use Rattle.step_reading.proofs.Opening.{opens_action, opens_many, opens_deep, op
 use Rattle.step_reading.proofs.open_step.Statement.{statement}
 use Rattle.step_reading.proofs.open_step.Tie as tie
 
-returns : tie.Need-returns
+returns : tie.Need-returns-then-count-ge-TEXT_ACTIONS
 returns c =
-    let a = c.before.before.before.before.before.before.args in
-    let step = c.before.before.before.before.Read-step in
-    let full = c.before.if2.true in
-    opens_many a.s.now a.levels (text_action_limit - a.count) step.result (state_of a.s.now a.c) c.refused.result step.ensures
-    c.before.before.if1.true (omega arith) c.refused.ensures
+    let a = c.args in
+    let step = c.read_step-step in
+    let full = c.if-count-ge-TEXT_ACTIONS.true in
+    opens_many a.s.now a.levels (text_action_limit - a.count) step.result (state_of a.s.now a.c) c.refused-cursor.result step.ensures
+    c.if-step-eq-ACTION_STEP.true (omega arith) c.refused-cursor.ensures
 
-returns_2 : tie.Need-returns-2
+returns_2 : tie.Need-returns-then-step-eq-ACTION_STEP
 returns_2 c =
-    let a = c.before.before.before.before.before.args in
-    let step = c.before.before.before.Read-step in
-    let some = c.if2.false in
-    opens_action a.s.now a.levels (text_action_limit - a.count) step.result (state_of a.s.now a.c) step.ensures c.before.if1.true (omega arith)
+    let a = c.args in
+    let step = c.read_step-step in
+    let some = c.if-count-ge-TEXT_ACTIONS.false in
+    opens_action a.s.now a.levels (text_action_limit - a.count) step.result (state_of a.s.now a.c) step.ensures c.if-step-eq-ACTION_STEP.true (omega arith)
 
-returns_3 : tie.Need-returns-3
+returns_3 : tie.Need-returns-then-levels-eq0
 returns_3 c =
-    let a = c.before.before.before.before.before.before.before.before.args in
-    let step = c.before.before.before.before.before.before.Read-step in
-    opens_deep a.s.now a.levels (text_action_limit - a.count) step.result (state_of a.s.now a.c) c.refused2.result step.ensures
-    c.before.before.if3.true c.before.if4.true c.refused2.ensures
+    let a = c.args in
+    let step = c.read_step-step in
+    opens_deep a.s.now a.levels (text_action_limit - a.count) step.result (state_of a.s.now a.c) c.refused-cursor-then-levels-eq0.result step.ensures
+    c.if-step-eq-PLAN_STEP.true c.if-levels-eq0.true c.refused-cursor-then-levels-eq0.ensures
 
-returns_4 : tie.Need-returns-4
+returns_4 : tie.Need-returns-else-levels-eq0
 returns_4 c =
-    let a = c.before.before.before.before.before.before.before.args in
-    let step = c.before.before.before.before.before.Read-step in
-    opens_plan a.s.now a.levels (text_action_limit - a.count) step.result (state_of a.s.now a.c) step.ensures c.before.if3.true c.if4.false
+    let a = c.args in
+    let step = c.read_step-step in
+    opens_plan a.s.now a.levels (text_action_limit - a.count) step.result (state_of a.s.now a.c) step.ensures c.if-step-eq-PLAN_STEP.true c.if-levels-eq0.false
 
-returns_5 : tie.Need-returns-5
+returns_5 : tie.Need-returns-else-step-eq-PLAN_STEP
 returns_5 c =
-    let a = c.before.before.before.before.before.before.args in
-    let step = c.before.before.before.before.Read-step in
-    opens_neither a.s.now a.levels (text_action_limit - a.count) step.result (state_of a.s.now a.c) step.ensures c.before.before.if1.false c.if3.false
+    let a = c.args in
+    let step = c.read_step-step in
+    opens_neither a.s.now a.levels (text_action_limit - a.count) step.result (state_of a.s.now a.c) step.ensures c.if-step-eq-ACTION_STEP.false c.if-step-eq-PLAN_STEP.false
 
 pub open_step_spec : {M : Type 1} → statement M
 open_step_spec =

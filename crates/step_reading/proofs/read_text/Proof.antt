@@ -12,12 +12,12 @@ use Rattle.step_reading.proofs.read_text.Tie as tie
 
 returns : tie.Need-returns
 returns c =
-    let s = c.before.before.before.before.before.args.text.now in
-    let begun = c.before.before.before.start in
-    let read = c.before.before.read-plan in
+    let s = c.args.text.now in
+    let begun = c.start in
+    let read = c.read_plan-read in
     subst (λ r. TextFound s r (plan_of s)) (sym c.moved.ensures)
-    (found_whole s (record { list = replicate text_action_limit 0; count = 0; cursor = begun.result }) read.result c.before.finish.result refl
-    (run_start s begun.result begun.ensures) read.ensures c.before.finish.ensures)
+    (found_whole s (record { list = replicate text_action_limit 0; count = 0; cursor = begun.result }) read.result c.finish.result refl
+    (run_start s begun.result begun.ensures) read.ensures c.finish.ensures)
 
 pub read_text_spec : {M : Type 1} → statement M
 read_text_spec =

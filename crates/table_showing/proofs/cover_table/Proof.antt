@@ -9,28 +9,25 @@ use Rattle.table_showing.proofs.Testing.{walkable_accepted, shown_accepted, show
 use Rattle.table_showing.proofs.cover_table.Statement.{statement}
 use Rattle.table_showing.proofs.cover_table.Tie as tie
 
-claims_room : (s : tie.Start) → length s.args.r.claims.list ≡ claim_limit
-claims_room s = search (rules, length_mapped)
-
 show_requires : tie.Need-show-requires
 show_requires c κs =
-    let start = c.before.before.before.before.before.before.before.before.before.before.before.before.before in
-    walkable_accepted start.args.r (claims_room start) (examined start.args.r c.before.before.before.before.before.before.before.before.examine.ensures) start.args.actor start.args.moment
-    c.before.before.before.table-outcome.ensures c.before.enum_told.given.1
+    let room : length c.args.r.claims.list ≡ claim_limit = search (rules, length_mapped) in
+    walkable_accepted c.args.r room (examined c.args.r c.examine-found.ensures) c.args.actor c.args.moment
+    c.table_outcome-outcome.ensures c.in-Accepted.is
 
-returns : tie.Need-returns
+returns : tie.Need-returns-in-Refused
 returns c =
-    let start = c.before.before.before.before.before.before.before.before.before.before.before.before.before.before in
+    let room : length c.args.r.claims.list ≡ claim_limit = search (rules, length_mapped) in
     c.refused.ensures
-    ∙ shown_refused start.args.r (claims_room start) (examined start.args.r c.before.before.before.before.before.before.before.before.before.examine.ensures) start.args.actor start.args.moment
-    c.before.before.before.before.table-outcome.ensures _ c.before.before.outcome.given.1
+    ∙ shown_refused c.args.r room (examined c.args.r c.examine-found.ensures) c.args.actor c.args.moment
+    c.table_outcome-outcome.ensures _ c.in-Refused.is
 
-returns_2 : tie.Need-returns-2
+returns_2 : tie.Need-returns-in-Accepted
 returns_2 c =
-    let start = c.before.before.before.before.before.before.before.before.before.before.before.before.before.before in
+    let room : length c.args.r.claims.list ≡ claim_limit = search (rules, length_mapped) in
     c.show.ensures
-    ∙ shown_accepted start.args.r (claims_room start) (examined start.args.r c.before.before.before.before.before.before.before.before.before.examine.ensures) start.args.actor start.args.moment
-    c.before.before.before.before.table-outcome.ensures c.before.before.enum_told.given.1
+    ∙ shown_accepted c.args.r room (examined c.args.r c.examine-found.ensures) c.args.actor c.args.moment
+    c.table_outcome-outcome.ensures c.in-Accepted.is
 
 pub cover_table_spec : {M : Type 1} → statement M
 cover_table_spec =

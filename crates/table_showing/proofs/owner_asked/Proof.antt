@@ -14,34 +14,31 @@ use Rattle.table_showing.proofs.Owning.{first_owner, owner_here, owner_further, 
 use Rattle.table_showing.proofs.owner_asked.Statement.{statement}
 use Rattle.table_showing.proofs.owner_asked.Tie as tie
 
-abbrev invariant_loop : tie.invariant-loop
+abbrev invariant_loop : tie.invariant-loop-i
 invariant_loop x k top i₀ i = Loop (λ n l. first_owner x l) k.count k.list top i (owner_shown (owners_in k x))
 
-abbrev decreases_loop : tie.decreases-loop
+abbrev decreases_loop : tie.decreases-loop-i
 decreases_loop x k top i₀ i = top - i
 
-list_room_lem : (s : tie.Start invariant_loop decreases_loop) → length s.args.t1.list ≡ actor_limit
-list_room_lem s = search (rules, length_mapped)
+loop_holds : tie.Need-loop-i-init invariant_loop decreases_loop
+loop_holds c =
+    let room : length c.args.k.list ≡ actor_limit = search (rules, length_mapped) in
+    start (omega (arith, c.least-top.ensures, room)) refl
 
-loop_holds : tie.Need-loop-init invariant_loop decreases_loop
-loop_holds c = start (omega (arith, c.least.ensures, list_room_lem c.before)) refl
+element_copy_out_a : tie.Need-bounds-k-i invariant_loop decreases_loop
+element_copy_out_a c = omega (arith, c.loop-i-test.true, c.least-top.ensures)
 
-element_copy_out_a : tie.Need-element-copy-out-a invariant_loop decreases_loop
-element_copy_out_a c = omega (arith, c.loop-test.true, c.before.before.least.ensures)
-
-returns : tie.Need-returns invariant_loop decreases_loop
+returns : tie.Need-returns-then-x-a invariant_loop decreases_loop
 returns c =
-    let turning = c.before.before.before.before.before in
-    sym (turn turning.before.loop.invariant no_actor turning.loop-test.true ∙ owner_here _ _ _ c.if1.true)
+    sym (turn c.loop-i.invariant no_actor c.loop-i-test.true ∙ owner_here _ _ _ c.if-x-a.true)
 
-loop_again : tie.Need-loop-preserved invariant_loop decreases_loop
+loop_again : tie.Need-loop-i-preserved invariant_loop decreases_loop
 loop_again c =
-    let turning = c.before.before.before.before.before in
-    next turning.before.loop.invariant turning.loop-test.true
-    (turn turning.before.loop.invariant no_actor turning.loop-test.true ∙ owner_further _ _ _ c.if1.false)
+    next c.loop-i.invariant c.loop-i-test.true
+    (turn c.loop-i.invariant no_actor c.loop-i-test.true ∙ owner_further _ _ _ c.if-x-a.false)
 
-returns_2 : tie.Need-returns-2 invariant_loop decreases_loop
-returns_2 c = sym (done c.before.loop.invariant c.loop-test.false ∙ owner_none c.before.before.before.args.x)
+returns_2 : tie.Need-returns invariant_loop decreases_loop
+returns_2 c = sym (done c.loop-i.invariant c.loop-i-test.false ∙ owner_none c.args.x)
 
 pub owner_asked_spec : {M : Type 1} → statement M
 owner_asked_spec =

@@ -4,28 +4,25 @@ use Rattle.table_showing.proofs.Telling.{state_weightless, state_expired, state_
 use Rattle.table_showing.proofs.state.Statement.{statement}
 use Rattle.table_showing.proofs.state.Tie as tie
 
-returns : tie.Need-returns
+returns : tie.Need-returns-then-c-eq0
 returns c =
-    let a = c.before.before.args in
-    state_weightless a.moment a.c a.lives c.if1.true
+    let a = c.args in
+    state_weightless a.moment a.c a.lives c.if-c-eq0.true
 
-returns_2 : tie.Need-returns-2
+returns_2 : tie.Need-returns-then-not-is_current
 returns_2 c =
-    let weighed = c.before.before in
-    let a = weighed.before.before.args in
-    state_expired a.moment a.c a.lives weighed.if1.false c.before.is-current.ensures c.if2.true
+    let a = c.args in
+    state_expired a.moment a.c a.lives c.if-c-eq0.false c.is_current.ensures c.if-not-is_current.true
 
-returns_3 : tie.Need-returns-3
+returns_3 : tie.Need-returns-then-lives
 returns_3 c =
-    let weighed = c.before.before.before in
-    let a = weighed.before.before.args in
-    state_live a.moment a.c a.lives weighed.if1.false c.before.before.is-current.ensures c.before.if2.false c.if3.true
+    let a = c.args in
+    state_live a.moment a.c a.lives c.if-c-eq0.false c.is_current.ensures c.if-not-is_current.false c.if-lives.true
 
-returns_4 : tie.Need-returns-4
+returns_4 : tie.Need-returns-else-lives
 returns_4 c =
-    let weighed = c.before.before.before in
-    let a = weighed.before.before.args in
-    state_dead a.moment a.c a.lives weighed.if1.false c.before.before.is-current.ensures c.before.if2.false c.if3.false
+    let a = c.args in
+    state_dead a.moment a.c a.lives c.if-c-eq0.false c.is_current.ensures c.if-not-is_current.false c.if-lives.false
 
 pub state_spec : {M : Type 1} → statement M
 state_spec = tie.close (tie.spec returns (λ c κs. search rules) returns_2 returns_3 returns_4)

@@ -11,31 +11,31 @@ use Rattle.table_showing.specs.Shown.{state_number}
 use Rattle.table_showing.proofs.states.Statement.{statement}
 use Rattle.table_showing.proofs.states.Tie as tie
 
-abbrev invariant_loop : tie.invariant-loop
+abbrev invariant_loop : tie.invariant-loop-i
 invariant_loop lives moment k shown₀ i₀ shown i =
     Filling claim_limit (λ j. state_number moment (get_or k.list j no_claim) (get_or lives j false)) k.count 0 i shown
 
-abbrev decreases_loop : tie.decreases-loop
+abbrev decreases_loop : tie.decreases-loop-i
 decreases_loop lives moment k shown₀ i₀ shown i = k.count - i
 
-loop_holds : tie.Need-loop-init invariant_loop decreases_loop
-loop_holds c = filling_start c.before.requires.0
+loop_holds : tie.Need-loop-i-init invariant_loop decreases_loop
+loop_holds c = filling_start c.requires.0
 
-element_copy_out_c : tie.Need-element-copy-out-c invariant_loop decreases_loop
-element_copy_out_c c = omega (arith, c.loop-test.true, c.before.loop.invariant.room)
+element_copy_out_c : tie.Need-bounds-k-i invariant_loop decreases_loop
+element_copy_out_c c = omega (arith, c.loop-i-test.true, c.loop-i.invariant.room)
 
-shared_slice_read_state : tie.Need-shared-slice-read-state invariant_loop decreases_loop
+shared_slice_read_state : tie.Need-bounds-lives-i invariant_loop decreases_loop
 shared_slice_read_state c =
-    omega (arith, c.before.before.loop-test.true, c.before.before.before.loop.invariant.room, c.before.before.before.before.before.requires.1)
+    omega (arith, c.loop-i-test.true, c.loop-i.invariant.room, c.requires.1)
 
-array_write_shown : tie.Need-array-write-shown invariant_loop decreases_loop
-array_write_shown c = omega (arith, c.before.before.before.loop-test.true, c.before.before.before.before.loop.invariant.room)
+array_write_shown : tie.Need-bounds-shown-i invariant_loop decreases_loop
+array_write_shown c = omega (arith, c.loop-i-test.true, c.loop-i.invariant.room)
 
-loop_again : tie.Need-loop-preserved invariant_loop decreases_loop
-loop_again c = filling_next c.before.before.before.before.loop.invariant _ c.before.before.before.loop-test.true c.state.ensures
+loop_again : tie.Need-loop-i-preserved invariant_loop decreases_loop
+loop_again c = filling_next c.loop-i.invariant _ c.loop-i-test.true c.state.ensures
 
 returns : tie.Need-returns invariant_loop decreases_loop
-returns c = filling_end c.before.loop.invariant c.loop-test.false
+returns c = filling_end c.loop-i.invariant c.loop-i-test.false
 
 pub states_spec : {M : Type 1} → statement M
 states_spec =

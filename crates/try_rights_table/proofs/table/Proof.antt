@@ -6,16 +6,16 @@ use Rattle.rights.specs.Rights.{right_count}
 use Rattle.try_rights_table.proofs.table.Statement.{statement}
 use Rattle.try_rights_table.proofs.table.Tie as tie
 
-abbrev invariant_loop : tie.invariant-loop
+abbrev invariant_loop : tie.invariant-loop-b
 invariant_loop b₀ b = Unit {0}
 
-abbrev decreases_loop : tie.decreases-loop
+abbrev decreases_loop : tie.decreases-loop-b
 decreases_loop b₀ b = right_count - b
 
-loop_holds : tie.Need-loop-init invariant_loop decreases_loop
+loop_holds : tie.Need-loop-b-init invariant_loop decreases_loop
 loop_holds c = tt
 
-loop_again : tie.Need-loop-preserved invariant_loop decreases_loop
+loop_again : tie.Need-loop-b-preserved invariant_loop decreases_loop
 loop_again c = tt
 
 pub table_spec : {M : Type 1} → statement M

@@ -3,11 +3,11 @@ use borrow.Author.Rules.{rules}
 use Rattle.uses.proofs.claim_number.Statement.{statement}
 use Rattle.uses.proofs.claim_number.Tie as tie
 
-returns : tie.Need-returns
-returns c = rw c.before.before.place.given.1 c.least.ensures
+returns : tie.Need-returns-in-At
+returns c = rw c.in-At.is c.least.ensures
 
-returns_2 : tie.Need-returns-2
-returns_2 c = rw c.enum_told.given.1
+returns_2 : tie.Need-returns-in-Nowhere
+returns_2 c = rw c.in-Nowhere.is
 
 pub claim_number_spec : {M : Type 1} → statement M
 claim_number_spec =

@@ -11,33 +11,31 @@ use Rattle.uses.specs.Passes.{hops_at, hops_all}
 use Rattle.uses.proofs.hop_counts.Statement.{statement}
 use Rattle.uses.proofs.hop_counts.Tie as tie
 
-abbrev invariant_loop : tie.invariant-loop
+abbrev invariant_loop : tie.invariant-loop-i
 invariant_loop ups relied n top hops₀ i₀ hops i =
     Filling use_limit (λ j. hops_at ups (get_or relied j 0)) top 0 i hops
 
-abbrev decreases_loop : tie.decreases-loop
+abbrev decreases_loop : tie.decreases-loop-i
 decreases_loop ups relied n top hops₀ i₀ hops i =
     top - i
 
-loop_holds : tie.Need-loop-init invariant_loop decreases_loop
-loop_holds c = filling_start (omega (arith, c.least2.ensures, c.before.least.ensures))
+loop_holds : tie.Need-loop-i-init invariant_loop decreases_loop
+loop_holds c = filling_start (omega (arith, c.least-top.ensures, c.least.ensures))
 
-shared_slice_read_hops_at : tie.Need-shared-slice-read-hops-at invariant_loop decreases_loop
+shared_slice_read_hops_at : tie.Need-bounds-relied-i invariant_loop decreases_loop
 shared_slice_read_hops_at c =
-    let counted = c.before.before.before in
-    omega (arith, c.before.loop-test.true, counted.least2.ensures, counted.before.least.ensures)
+    omega (arith, c.loop-i-test.true, c.least-top.ensures, c.least.ensures)
 
-cast_hops_at : tie.Need-overflow-cast-hops-at invariant_loop decreases_loop
-cast_hops_at c = Fits-widen tt (c.shared-slice-known3.given c.before.before.loop.i)
+cast_hops_at : tie.Need-overflow_cast-relied invariant_loop decreases_loop
+cast_hops_at c = Fits-widen tt (c.shared_slice_known-in-loop-i-1.given c.loop-i.i)
 
-loop_again : tie.Need-loop-preserved invariant_loop decreases_loop
-loop_again c = filling_next c.before.before.before.loop.invariant _ c.before.before.loop-test.true c.hops_at_lem.ensures
+loop_again : tie.Need-loop-i-preserved invariant_loop decreases_loop
+loop_again c = filling_next c.loop-i.invariant _ c.loop-i-test.true c.hops_at.ensures
 
 returns : tie.Need-returns invariant_loop decreases_loop
 unfolding hops_all
 returns c =
-    let counted = c.before.before in
-    rw (← counted.before.least.ensures, ← counted.least2.ensures) (filling_end c.before.loop.invariant c.loop-test.false)
+    rw (← c.least.ensures, ← c.least-top.ensures) (filling_end c.loop-i.invariant c.loop-i-test.false)
 
 pub hop_counts_spec : {M : Type 1} → statement M
 hop_counts_spec =

@@ -7,11 +7,11 @@ use borrow.Author.Tests.{eq-eqb, ne_eqb}
 use Rattle.uses.proofs.is_open.Statement.{statement}
 use Rattle.uses.proofs.is_open.Tie as tie
 
-returns : tie.Need-returns
-returns c = rw (ne_eqb _ _ c.if1.true)
+returns : tie.Need-returns-then-right-ne-READ
+returns c = rw (ne_eqb _ _ c.if-right-ne-READ.true)
 
-returns_2 : tie.Need-returns-2
-returns_2 c = rw (eq-eqb _ _ c.before.if1.false) (ap (λ (x : ℕ). eqb x 1) c.number_at.ensures)
+returns_2 : tie.Need-returns
+returns_2 c = rw (eq-eqb _ _ c.if-right-ne-READ.false) (ap (λ (x : ℕ). eqb x 1) c.number_at.ensures)
 
 pub is_open_spec : {M : Type 1} → statement M
 is_open_spec = tie.close (tie.spec returns (λ c κs. search rules) returns_2)

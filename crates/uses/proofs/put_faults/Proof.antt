@@ -11,85 +11,80 @@ use Rattle.uses.proofs.Faulting.{covered_to, faulty, Faulting, faulting_start, f
 use Rattle.uses.proofs.put_faults.Statement.{statement}
 use Rattle.uses.proofs.put_faults.Tie as tie
 
-abbrev invariant_loop : tie.invariant-loop
+abbrev invariant_loop : tie.invariant-loop-position
 invariant_loop relied theirs owned publics vs₀ uses long top position₀ vs position =
     Faulting relied theirs owned publics uses top position vs₀ vs
 
-abbrev decreases_loop : tie.decreases-loop
+abbrev decreases_loop : tie.decreases-loop-position
 decreases_loop relied theirs owned publics vs₀ uses long top position₀ vs position =
     top - position
 
-loop_holds : tie.Need-loop-init invariant_loop decreases_loop
-loop_holds c = faulting_start (c.least3.ensures ∙ rw (c.before.least2.ensures, c.before.before.least.ensures)) (omega arith)
+loop_holds : tie.Need-loop-position-init invariant_loop decreases_loop
+loop_holds c = faulting_start (c.least-top.ensures ∙ rw (c.least.ensures, c.least-long.ensures)) (omega arith)
 
-shared_slice_read_covered : tie.Need-shared-slice-read-covered invariant_loop decreases_loop
+shared_slice_read_covered : tie.Need-bounds-relied-i invariant_loop decreases_loop
 shared_slice_read_covered c =
-    let turn = c.before.before.before.before in
-    omega (arith, turn.loop-test.true, turn.before.loop.invariant.mine)
+    omega (arith, c.loop-position-test.true, c.loop-position.invariant.mine)
 
-cast_covered : tie.Need-overflow-cast-covered invariant_loop decreases_loop
-cast_covered c = Fits-widen tt (c.shared-slice-known4.given c.before.before.before.before.before.loop.position)
+cast_covered : tie.Need-overflow_cast-covered invariant_loop decreases_loop
+cast_covered c = Fits-widen tt (c.shared_slice_known-in-loop-position-1.given c.loop-position.position)
 
-shared_slice_read_lacking : tie.Need-shared-slice-read-lacking invariant_loop decreases_loop
+shared_slice_read_lacking : tie.Need-bounds-theirs-i invariant_loop decreases_loop
 shared_slice_read_lacking c =
-    let turn = c.before.before.before.before.before in
-    omega (arith, turn.loop-test.true, turn.before.loop.invariant.other)
+    omega (arith, c.loop-position-test.true, c.loop-position.invariant.other)
 
-cast_lacking : tie.Need-overflow-cast-lacking invariant_loop decreases_loop
-cast_lacking c = Fits-widen tt (c.shared-slice-known5.given c.before.before.before.before.before.before.loop.position)
+cast_lacking : tie.Need-overflow_cast-lacking invariant_loop decreases_loop
+cast_lacking c = Fits-widen tt (c.shared_slice_known-in-loop-position-2-1.given c.loop-position.position)
 
-mul_v : tie.Need-overflow-mul-v invariant_loop decreases_loop
+mul_v : tie.Need-offset_bounds-vs-at invariant_loop decreases_loop
 mul_v c =
-    let loop = c.before.before.before.before.before.before.before.before.loop in
-    let a = c.before.before.before.before.before.before.before.before.before.before.before.before.before.before.before.args in
-    let freely = c.before.before.before.before.is_open.result in
-    let room = place_left (faulty freely a.relied.now a.theirs.now a.owned loop.position) loop.vs c.before.if1.true in
+    let loop = c.loop-position in
+    let a = c.args in
+    let freely = c.is_open-freely.result in
+    let room = place_left (faulty freely a.relied.now a.theirs.now a.owned loop.position) loop.vs c.if-lacking-covered.true in
     search rules
 
-element_set_from_v : tie.Need-element-set-from-v invariant_loop decreases_loop
+element_set_from_v : tie.Need-bounds-vs-at invariant_loop decreases_loop
 element_set_from_v c =
-    let loop = c.before.before.before.before.before.before.before.before.loop in
-    let a = c.before.before.before.before.before.before.before.before.before.before.before.before.before.before.before.args in
-    let freely = c.before.before.before.before.is_open.result in
-    place_left (faulty freely a.relied.now a.theirs.now a.owned loop.position) loop.vs c.before.if1.true
+    let loop = c.loop-position in
+    let a = c.args in
+    let freely = c.is_open-freely.result in
+    place_left (faulty freely a.relied.now a.theirs.now a.owned loop.position) loop.vs c.if-lacking-covered.true
 
-add_vs : tie.Need-overflow-add-vs invariant_loop decreases_loop
+add_vs : tie.Need-overflow_add-vs invariant_loop decreases_loop
 add_vs c =
-    let loop = c.before.before.before.before.before.before.before.before.loop in
-    let a = c.before.before.before.before.before.before.before.before.before.before.before.before.before.before.before.args in
-    let freely = c.before.before.before.before.is_open.result in
-    let room = place_left (faulty freely a.relied.now a.theirs.now a.owned loop.position) loop.vs c.before.if1.true in
+    let loop = c.loop-position in
+    let a = c.args in
+    let freely = c.is_open-freely.result in
+    let room = place_left (faulty freely a.relied.now a.theirs.now a.owned loop.position) loop.vs c.if-lacking-covered.true in
     search rules
 
 -- a use with a fault, and a place for its violation
-loop_again : tie.Need-loop-preserved invariant_loop decreases_loop
+loop_again : tie.Need-loop-position-preserved-then-lacking-covered invariant_loop decreases_loop
 loop_again c =
-    let turn = c.before.before.before.before.before.before.before in
-    let loop = turn.before.loop in
-    let a = c.before.before.before.before.before.before.before.before.before.before.before.before.before.before.before.args in
-    let freely = c.before.before.before.before.is_open.result in
+    let loop = c.loop-position in
+    let a = c.args in
+    let freely = c.is_open-freely.result in
     let here = faulty freely a.relied.now a.theirs.now a.owned loop.position in
     let covered = covered_to freely a.relied.now loop.position in
-    faulting_next loop.invariant freely turn.loop-test.true c.before.before.before.before.is_open.ensures
-    (rw c.fault_told_lem.ensures (pushing_stored here (fault_told covered loop.position) loop.vs c.before.if1.true))
+    faulting_next loop.invariant freely c.loop-position-test.true c.is_open-freely.ensures
+    (rw c.fault_told.ensures (pushing_stored here (fault_told covered loop.position) loop.vs c.if-lacking-covered.true))
 
 -- one without, or no place
-loop_again_2 : tie.Need-loop-preserved-2 invariant_loop decreases_loop
+loop_again_2 : tie.Need-loop-position-preserved invariant_loop decreases_loop
 loop_again_2 c =
-    let turn = c.before.before.before.before.before.before in
-    let loop = turn.before.loop in
-    let a = c.before.before.before.before.before.before.before.before.before.before.before.before.before.before.args in
-    let freely = c.before.before.before.is_open.result in
+    let loop = c.loop-position in
+    let a = c.args in
+    let freely = c.is_open-freely.result in
     let here = faulty freely a.relied.now a.theirs.now a.owned loop.position in
     let covered = covered_to freely a.relied.now loop.position in
-    faulting_next loop.invariant freely turn.loop-test.true c.before.before.before.is_open.ensures
-    (pushing_kept here (fault_told covered loop.position) loop.vs c.if1.false)
+    faulting_next loop.invariant freely c.loop-position-test.true c.is_open-freely.ensures
+    (pushing_kept here (fault_told covered loop.position) loop.vs c.if-lacking-covered.false)
 
 returns : tie.Need-returns invariant_loop decreases_loop
 returns c =
-    let counted = c.before.before in
-    faulting_end c.before.loop.invariant c.loop-test.false
-    (counted.least3.ensures ∙ rw (counted.before.least2.ensures, counted.before.before.least.ensures))
+    faulting_end c.loop-position.invariant c.loop-position-test.false
+    (c.least-top.ensures ∙ rw (c.least.ensures, c.least-long.ensures))
 
 pub put_faults_spec : {M : Type 1} → statement M
 put_faults_spec =

@@ -12,25 +12,24 @@ use Rattle.uses.specs.Passes.{claim_number, relied_at, relied_all}
 use Rattle.uses.proofs.relied_on.Statement.{statement}
 use Rattle.uses.proofs.relied_on.Tie as tie
 
-abbrev invariant_loop : tie.invariant-loop
+abbrev invariant_loop : tie.invariant-loop-i
 invariant_loop own owns rights spots bytes lens uses top relied₀ i₀ relied i =
     Filling use_limit (relied_at (take owns own) rights spots bytes lens uses) top claim_limit i relied
 
-abbrev decreases_loop : tie.decreases-loop
+abbrev decreases_loop : tie.decreases-loop-i
 decreases_loop own owns rights spots bytes lens uses top relied₀ i₀ relied i =
     top - i
 
-loop_holds : tie.Need-loop-init invariant_loop decreases_loop
-loop_holds c = filling_start (omega (arith, c.least.ensures))
+loop_holds : tie.Need-loop-i-init invariant_loop decreases_loop
+loop_holds c = filling_start (omega (arith, c.least-top.ensures))
 
-loop_again : tie.Need-loop-preserved invariant_loop decreases_loop
+loop_again : tie.Need-loop-i-preserved invariant_loop decreases_loop
 loop_again c =
-    let turn = c.before.before.before.before in
-    filling_next turn.before.loop.invariant _ turn.loop-test.true (c.claim-number.ensures ∙ ap claim_number c.before.nearest-covering.ensures)
+    filling_next c.loop-i.invariant _ c.loop-i-test.true (c.claim_number.ensures ∙ ap claim_number c.nearest_covering-place.ensures)
 
 returns : tie.Need-returns invariant_loop decreases_loop
 unfolding relied_all
-returns c = rw (← c.before.before.least.ensures) (filling_end c.before.loop.invariant c.loop-test.false)
+returns c = rw (← c.least-top.ensures) (filling_end c.loop-i.invariant c.loop-i-test.false)
 
 pub relied_on_spec : {M : Type 1} → statement M
 relied_on_spec =

@@ -19,37 +19,36 @@ uses_same : {rights spots rights' spots' : List ℕ} {count count' : ℕ} → ri
     → ◌≡◌ {A = Uses} (record { rights = rights; spots = spots; count = count }) (record { rights = rights'; spots = spots'; count = count' })
 uses_same p q e = rw (p, q, e)
 
-abbrev invariant_loop : tie.invariant-loop
+abbrev invariant_loop : tie.invariant-loop-i
 invariant_loop reports m a top uses₀ i₀ uses i =
     (uses.count ≡ top)
     × Filling use_limit (λ j. (get_or a.uses j no_use).right) top 0 i uses.rights
     × Filling use_limit (λ j. used_spot reports m (get_or a.uses j no_use)) top resource_limit i uses.spots
 
-abbrev decreases_loop : tie.decreases-loop
+abbrev decreases_loop : tie.decreases-loop-i
 decreases_loop reports m a top uses₀ i₀ uses i =
     top - i
 
-loop_holds : tie.Need-loop-init invariant_loop decreases_loop
-loop_holds c = (refl, filling_start (omega (arith, c.least.ensures)), filling_start (omega (arith, c.least.ensures)))
+loop_holds : tie.Need-loop-i-init invariant_loop decreases_loop
+loop_holds c = (refl, filling_start (omega (arith, c.least-top.ensures)), filling_start (omega (arith, c.least-top.ensures)))
 
-cast_uses : tie.Need-overflow-cast-uses invariant_loop decreases_loop
-cast_uses c = omega (arith, c.least2.ensures)
+cast_uses : tie.Need-overflow_cast-uses invariant_loop decreases_loop
+cast_uses c = omega (arith, c.least.ensures)
 
-loop_again : tie.Need-loop-preserved invariant_loop decreases_loop
+loop_again : tie.Need-loop-i-preserved invariant_loop decreases_loop
 loop_again c =
-    let turn = c.before.before.before in
-    let inv = turn.before.loop.invariant in (
+    let inv = c.loop-i.invariant in (
       inv.0,
-      filling_next inv.1 _ turn.loop-test.true refl,
-      filling_next inv.2 _ turn.loop-test.true (c.least2.ensures ∙ ap (λ spot. min spot resource_limit) c.before.spot.ensures),
+      filling_next inv.1 _ c.loop-i-test.true refl,
+      filling_next inv.2 _ c.loop-i-test.true (c.least.ensures ∙ ap (λ spot. min spot resource_limit) c.spot-spot.ensures),
     )
 
 returns : tie.Need-returns invariant_loop decreases_loop
 unfolding uses_by
 returns c =
-    let inv = c.before.loop.invariant in
-    rw (← c.before.before.least.ensures)
-    (uses_same (filling_end inv.1 c.loop-test.false) (filling_end inv.2 c.loop-test.false) inv.0)
+    let inv = c.loop-i.invariant in
+    rw (← c.least-top.ensures)
+    (uses_same (filling_end inv.1 c.loop-i-test.false) (filling_end inv.2 c.loop-i-test.false) inv.0)
 
 pub uses_of_spec : {M : Type 1} → statement M
 uses_of_spec =

@@ -11,33 +11,30 @@ use Rattle.verdict_printing.proofs.Composing.{posed_text}
 use Rattle.verdict_printing.proofs.compose_asked.Statement.{statement}
 use Rattle.verdict_printing.proofs.compose_asked.Tie as tie
 
-compose_clock_requires : tie.Need-compose-clock-requires
-compose_clock_requires c κs = c.before.before.before.before.before.before.requires
+compose_clock_requires : tie.Need-compose_clock-requires
+compose_clock_requires c κs = c.requires
 
-returns : tie.Need-returns
+returns : tie.Need-returns-then-json
 returns c =
-    let call = c.before.before.compose-clock in
-    let test = c.before.before.before.before in
-    let a = test.before.before.before.before.before.args in
+    let call = c.compose_clock in
+    let a = c.args in
     let clock = a.clock.now in
     same_written (clock_lines a.register (closed (clock_read clock).state) (clock_read clock).value a.action.now)
     (lines_by a.json a.register clock a.action.now) a.buf.now
-    (ap (λ (b : Bool). lines_by b a.register clock a.action.now) test.if1.true)
+    (ap (λ (b : Bool). lines_by b a.register clock a.action.now) c.if-json.true)
     call.ensures.0 call.ensures.1
 
-put_posed_requires : tie.Need-put-posed-requires
-put_posed_requires c κs = c.before.before.before.before.before.before.before.before.requires
+put_posed_requires : tie.Need-put_posed-requires
+put_posed_requires c κs = c.requires
 
-returns_2 : tie.Need-returns-2
+returns_2 : tie.Need-returns
 returns_2 c =
-    let call = c.before.before.put-posed in
-    let read = c.before.before.before.before.before in
-    let test = read.before in
-    let a = test.before.before.before.before.before.args in
-    same_written (posed_text a.register read.read-action.result.outcome read.read-action.result.action)
+    let call = c.put_posed in
+    let a = c.args in
+    same_written (posed_text a.register c.read_action-read.result.outcome c.read_action-read.result.action)
     (lines_by a.json a.register a.clock.now a.action.now) a.buf.now
-    (ap (λ (b : Bool). lines_by b a.register a.clock.now a.action.now) test.if1.false
-    ∙ ap (λ (x : ActionRead). posed_text a.register x.outcome x.action) (sym read.read-action.ensures))
+    (ap (λ (b : Bool). lines_by b a.register a.clock.now a.action.now) c.if-json.false
+    ∙ ap (λ (x : ActionRead). posed_text a.register x.outcome x.action) (sym c.read_action-read.ensures))
     call.ensures.0 call.ensures.1
 
 pub compose_asked_spec : {M : Type 1} → statement M

@@ -19,55 +19,49 @@ use Rattle.verdict_printing.proofs.compose_clock.Statement.{statement}
 use Rattle.verdict_printing.proofs.compose_clock.Tie as tie
 
 -- the moment that is read, and where the reading of the clock ends
-begun : (c : tie.After-read-decimal) →
-    let clock = c.before.before.before.before.before.before.before.args.clock.now in
-    (c.read-decimal.result.value ≡ (clock_read clock).value) × (state_of clock c.read-decimal.result.cursor ≡ (clock_read clock).state)
+begun : (c : tie.After-read_decimal-field) →
+    let clock = c.args.clock.now in
+    (c.read_decimal-field.result.value ≡ (clock_read clock).value) × (state_of clock c.read_decimal-field.result.cursor ≡ (clock_read clock).state)
 begun c =
-    let clock = c.before.before.before.before.before.before.before.args.clock.now in
-    let start = c.before.before.start in
+    let clock = c.args.clock.now in
+    let start = c.start in
     let first = run_start clock start.result start.ensures in (
-      c.read-decimal.ensures.value ∙ ap (λ (st : State). (read_form (decimal now_key 0 (moment_end - 1) Range) st).value) first,
-      c.read-decimal.ensures.state ∙ ap (λ (st : State). (read_form (decimal now_key 0 (moment_end - 1) Range) st).state) first,
+      c.read_decimal-field.ensures.value ∙ ap (λ (st : State). (read_form (decimal now_key 0 (moment_end - 1) Range) st).value) first,
+      c.read_decimal-field.ensures.state ∙ ap (λ (st : State). (read_form (decimal now_key 0 (moment_end - 1) Range) st).state) first,
     )
 
-ended : (c : tie.After-finish) →
-    let clock = c.before.before.before.before.before.before.before.before.args.clock.now in
-    state_of clock c.finish.result ≡ closed (clock_read clock).state
-ended c = c.finish.ensures ∙ ap closed (begun c.before).1
+ended : (c : tie.After-finish-end) →
+    let clock = c.args.clock.now in
+    state_of clock c.finish-end.result ≡ closed (clock_read clock).state
+ended c = c.finish-end.ensures ∙ ap closed (begun c.before.before).1
 
-put_posed_requires : tie.Need-put-posed-requires
-put_posed_requires c κs = c.before.before.before.before.before.before.before.before.before.before.before.before.before.before.requires
+put_posed_requires : tie.Need-put_posed-requires
+put_posed_requires c κs = c.requires
 
-returns : tie.Need-returns
+returns : tie.Need-returns-then-goes_on
 returns c =
-    let call = c.before.before.put-posed in
-    let posed = c.before.before.before.before.before in
-    let test = posed.before.before in
-    let end = test.before.before in
-    let read = end.before in
-    let a = read.before.before.before.before.before.before.before.args in
-    let going = stands_going a.clock.now end.finish.result (sym test.before.goes_on.ensures ∙ test.if1.true) in
-    same_written (posed_text a.register posed.read-json.result.outcome posed.read-json.result.action)
+    let call = c.put_posed in
+    let a = c.args in
+    let going = stands_going a.clock.now c.finish-end.result (sym c.goes_on.ensures ∙ c.if-goes_on.true) in
+    same_written (posed_text a.register c.read_json-posed.result.outcome c.read_json-posed.result.action)
     (clock_lines a.register (closed (clock_read a.clock.now).state) (clock_read a.clock.now).value a.action.now) a.buf.now
-    (clock_going a.register a.clock.now a.action.now (begun read).0 (sym (ended end) ∙ going)
-    ∙ ap (λ (x : JsonRead). posed_text a.register x.outcome x.action) (sym posed.read-json.ensures))
+    (clock_going a.register a.clock.now a.action.now (begun c.before.before.before.before.before.before.before.before.before.before.before).0 (sym (ended c.before.before.before.before.before.before.before.before.before) ∙ going)
+    ∙ ap (λ (x : JsonRead). posed_text a.register x.outcome x.action) (sym c.read_json-posed.ensures))
     call.ensures.0 call.ensures.1
 
-put_stopped_requires : tie.Need-put-stopped-requires
+put_stopped_requires : tie.Need-put_stopped-requires
 put_stopped_requires c κs =
-    omega (arith, stopped_length c.before.before.before.finish.result.refusal, c.before.before.before.before.before.before.before.before.before.before.before.requires.0)
+    omega (arith, stopped_length c.finish-end.result.refusal, c.requires.0)
 
-returns_2 : tie.Need-returns-2
+returns_2 : tie.Need-returns
 returns_2 c =
-    let call = c.before.before.put-stopped in
-    let test = c.before.before.before.before in
-    let end = test.before.before in
-    let a = end.before.before.before.before.before.before.before.before.args in
-    let why = end.finish.result.refusal in
-    let failed = stands_failed a.clock.now end.finish.result (sym test.before.goes_on.ensures ∙ test.if1.false) in
+    let call = c.put_stopped in
+    let a = c.args in
+    let why = c.finish-end.result.refusal in
+    let failed = stands_failed a.clock.now c.finish-end.result (sym c.goes_on.ensures ∙ c.if-goes_on.false) in
     same_written (stopped_text why)
     (clock_lines a.register (closed (clock_read a.clock.now).state) (clock_read a.clock.now).value a.action.now) a.buf.now
-    (clock_failed a.register a.clock.now a.action.now why end.finish.result.line (sym (ended end) ∙ failed))
+    (clock_failed a.register a.clock.now a.action.now why c.finish-end.result.line (sym (ended c.before.before.before.before.before.before) ∙ failed))
     call.ensures.0 call.ensures.1
 
 pub compose_clock_spec : {M : Type 1} → statement M
@@ -75,7 +69,6 @@ compose_clock_spec =
     tie.close
     (tie.spec
     (λ c κs. search rules)
-    (λ c. search rules)
     (λ c κs. search rules)
     (λ c κs. search rules)
     (λ c κs. search rules)

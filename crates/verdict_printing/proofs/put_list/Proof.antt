@@ -21,64 +21,53 @@ use Rattle.verdict_printing.proofs.put_list.Tie as tie
 abbrev beyond : Violated
 beyond = record { what = FlagSet 0 }
 
-abbrev invariant_loop : tie.invariant-loop
+abbrev invariant_loop : tie.invariant-loop-i
 invariant_loop buf₀ at vs count end₀ i₀ buf end i = (i ≤ count) × Going entry_text vs.list count end₀ buf₀ i end buf
 
-abbrev decreases_loop : tie.decreases-loop
+abbrev decreases_loop : tie.decreases-loop-i
 decreases_loop buf₀ at vs count end₀ i₀ buf end i = count - i
 
 -- the list has all its places
-full : (c : tie.Start invariant_loop decreases_loop) → length c.args.t3.list ≡ violation_limit
+full : (c : tie.Start invariant_loop decreases_loop) → length c.args.vs.list ≡ violation_limit
 full c = search (rules, length_mapped)
 
 -- behind the line of their number the violations are left
-counted : (c : tie.After-put-line invariant_loop decreases_loop) →
-    let a = c.before.before.before.before.args in
-    Writing a.at (list_text a.t3) a.buf.now (texts entry_text (take a.t3.count a.t3.list)) c.put-line.result c.put-line.new.0
+counted : (c : tie.After-put_line-end invariant_loop decreases_loop) →
+    let a = c.args in
+    Writing a.at (list_text a.vs) a.buf.now (texts entry_text (take a.vs.count a.vs.list)) c.put_line-end.result c.put_line-end.new.buf
 counted c =
-    let st = c.before.before.before.before in
-    list_start st.args.t3 st.requires.0 c.put-line.ensures.0 c.put-line.ensures.1
+    list_start c.args.vs c.requires.0 c.put_line-end.ensures.0 c.put_line-end.ensures.1
 
-loop_holds : tie.Need-loop-init invariant_loop decreases_loop
+loop_holds : tie.Need-loop-i-init invariant_loop decreases_loop
 loop_holds c = (omega arith, writing_start _ _ _)
 
-element_copy_out_entry : tie.Need-element-copy-out-entry invariant_loop decreases_loop
-element_copy_out_entry c = omega (arith, full c.before.before.before.before.before.before.before.before, c.before.before.before.before.before.before.before.before.requires.1)
+element_copy_out_entry : tie.Need-bounds-vs-i invariant_loop decreases_loop
+element_copy_out_entry c = omega (arith, full c.before.before.before.before.before.before.before.before.before, c.requires.1)
 
-put_pair_requires : tie.Need-put-pair-requires invariant_loop decreases_loop
+put_pair_requires : tie.Need-put_pair-end-requires invariant_loop decreases_loop
 put_pair_requires c κs =
-    let l = c.before.before.before in
-    let head = l.before.before.before in
-    let st = head.before.before.before.before in
-    let vs = st.args.t3 in
-    going_room entry_text vs.list vs.count beyond (omega (arith, full st, st.requires.1)) (writing_left st.requires.0 (counted head))
-    c.before.before.loop-test.true l.loop.invariant.1
+    let vs = c.args.vs in
+    going_room entry_text vs.list vs.count beyond (omega (arith, full c.before.before.before.before.before.before.before.before.before.before.before, c.requires.1)) (writing_left c.requires.0 (counted c.before.before.before.before.before.before))
+    c.loop-i-test.true c.loop-i.invariant.1
 
-loop_again : tie.Need-loop-preserved invariant_loop decreases_loop
+loop_again : tie.Need-loop-i-preserved invariant_loop decreases_loop
 loop_again c =
-    let call = c.before.before.put-pair in
-    let l = c.before.before.before.before.before.before in
-    let head = l.before.before.before in
-    let st = head.before.before.before.before in
-    let vs = st.args.t3 in (
+    let call = c.put_pair-end in
+    let vs = c.args.vs in (
       omega arith,
-      going_next entry_text vs.list vs.count beyond (omega (arith, full st, st.requires.1)) (writing_left st.requires.0 (counted head))
-          c.before.before.before.before.before.loop-test.true l.loop.invariant.1 call.ensures.0 call.ensures.1,
+      going_next entry_text vs.list vs.count beyond (omega (arith, full c.before.before.before.before.before.before.before.before.before.before.before.before.before.before, c.requires.1)) (writing_left c.requires.0 (counted c.before.before.before.before.before.before.before.before.before))
+          c.loop-i-test.true c.loop-i.invariant.1 call.ensures.0 call.ensures.1,
     )
 
-same_length : tie.Need-same-length invariant_loop decreases_loop
+same_length : tie.Need-shape_of-buf invariant_loop decreases_loop
 same_length c =
-    let head = c.before.before.before.before in
-    writing_length (writing_left head.before.before.before.before.requires.0 (counted head)) c.before.loop.invariant.1 ∙ head.put-line.auto.0
+    writing_length (writing_left c.requires.0 (counted c.before.before.before.before)) c.loop-i.invariant.1 ∙ c.put_line-end.auto.buf
 
 returns : tie.Need-returns invariant_loop decreases_loop
 returns c =
-    let l = c.before in
-    let head = l.before.before.before in
-    let st = head.before.before.before.before in
-    let vs = st.args.t3 in
-    let all = going_done entry_text vs.list vs.count beyond (omega (arith, full st, st.requires.1)) c.loop-test.false l.loop.invariant.1 in
-    writing_last st.requires.0 (counted head) all.0 all.1
+    let vs = c.args.vs in
+    let all = going_done entry_text vs.list vs.count beyond (omega (arith, full c.before.before.before.before.before.before.before.before.before, c.requires.1)) c.loop-i-test.false c.loop-i.invariant.1 in
+    writing_last c.requires.0 (counted c.before.before.before.before) all.0 all.1
 
 pub put_list_spec : {M : Type 1} → statement M
 put_list_spec =
@@ -86,7 +75,6 @@ put_list_spec =
     (tie.spec
     invariant_loop
     decreases_loop
-    (λ c. search rules)
     (λ c κs. search rules)
     loop_holds
     (λ c. search rules)

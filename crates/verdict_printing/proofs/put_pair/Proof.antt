@@ -6,12 +6,8 @@ use Rattle.verdict_printing.proofs.put_pair.Tie as tie
 
 returns : tie.Need-returns
 returns c =
-    let valued = c.before.before in
-    let kinded = valued.before.before.before.before.before in
-    let asked = kinded.before.before.before in
-    let st = asked.before.before.before in
-    pair_written st.args.v st.args.at st.args.buf.now st.requires asked.before.kind.ensures asked.value.ensures
-    kinded.put-line.ensures.0 kinded.put-line.ensures.1 valued.put-line2.ensures.0 valued.put-line2.ensures.1
+    pair_written c.args.v c.args.at c.args.buf.now c.requires c.kind-kind.ensures c.value-value.ensures
+    c.put_line-value_at.ensures.0 c.put_line-value_at.ensures.1 c.put_line.ensures.0 c.put_line.ensures.1
 
 pub put_pair_spec : {M : Type 1} → statement M
 put_pair_spec =
@@ -20,9 +16,7 @@ put_pair_spec =
     (λ c κs. search rules)
     (λ c κs. search rules)
     (λ c. search rules)
-    (λ c. search rules)
     (λ c κs. search rules)
-    (λ c. search rules)
     (λ c. search rules)
     (λ c κs. search rules)
     (λ c. search rules)

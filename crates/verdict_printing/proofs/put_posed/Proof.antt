@@ -12,38 +12,35 @@ use Rattle.verdict_printing.proofs.put_posed.Statement.{statement}
 use Rattle.verdict_printing.proofs.put_posed.Tie as tie
 
 -- the verdict is the gate's, of a register that was examined
-gated_by : (c : tie.After-gate-by) →
-    let a = c.before.before.before.before.before.before.args in
-    c.gate-by.result ≡ gated a.register a.asked
-gated_by c = let opened = c.before.before.before.before.before.before.requires.1 in c.gate-by.ensures.1 opened.put opened.told
+gated_by : (c : tie.After-gate_by) →
+    let a = c.args in
+    c.gate_by.result ≡ gated a.register a.asked
+gated_by c = let opened = c.requires.1 in c.gate_by.ensures.1 opened.put opened.told
 
-put_verdict_requires : tie.Need-put-verdict-requires
+put_verdict_requires : tie.Need-put_verdict-requires
 put_verdict_requires c κs =
-    let st = c.before.before.before.before.before.before in
-    let fit = judged_fits st.args.register st.args.asked c.gate-by.result (gated_by c) in
-    (omega (arith, fit.0, st.requires.0), fit.1)
+    let fit = judged_fits c.args.register c.args.asked c.gate_by.result (gated_by c) in
+    (omega (arith, fit.0, c.requires.0), fit.1)
 
-put_stopped_requires : tie.Need-put-stopped-requires
-put_stopped_requires c κs = omega (arith, stopped_length c.before.before.outcome.given.0.0, c.before.before.before.before.before.before.requires.0)
+put_stopped_requires : tie.Need-put_stopped-requires
+put_stopped_requires c κs = omega (arith, stopped_length c.in-Refused.why, c.requires.0)
 
-returns : tie.Need-returns
+returns : tie.Need-returns-in-Accepted
 returns c =
-    let call = c.before.before.put-verdict in
+    let call = c.put_verdict in
     let judged = c.before.before.before in
-    let told = judged.before.before in
-    let a = told.before.before.before.before.args in
-    same_written (verdict_text judged.gate-by.result) (posed_text a.register a.outcome a.asked) a.buf.now
-    (lines_accepted stopped_text (verdict_text (gated a.register a.asked)) told.enum_told.given.1 ∙ ap verdict_text (sym (gated_by judged)))
+    let a = judged.args in
+    same_written (verdict_text judged.gate_by.result) (posed_text a.register a.outcome a.asked) a.buf.now
+    (lines_accepted stopped_text (verdict_text (gated a.register a.asked)) judged.in-Accepted.is ∙ ap verdict_text (sym (gated_by judged)))
     call.ensures.0 call.ensures.1
 
-returns_2 : tie.Need-returns-2
+returns_2 : tie.Need-returns-in-Refused
 returns_2 c =
-    let call = c.before.before.put-stopped in
-    let told = c.before.before.before.before.before in
-    let a = told.before.before.before.before.args in
-    let why = told.outcome.given.0.0 in
+    let call = c.put_stopped in
+    let a = c.args in
+    let why = c.in-Refused.why in
     same_written (stopped_text why) (posed_text a.register a.outcome a.asked) a.buf.now
-    (lines_refused stopped_text (verdict_text (gated a.register a.asked)) why told.outcome.given.1)
+    (lines_refused stopped_text (verdict_text (gated a.register a.asked)) why c.in-Refused.is)
     call.ensures.0 call.ensures.1
 
 pub put_posed_spec : {M : Type 1} → statement M

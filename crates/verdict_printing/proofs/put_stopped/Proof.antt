@@ -6,21 +6,15 @@ use Rattle.verdict_printing.proofs.put_stopped.Tie as tie
 
 returns : tie.Need-returns
 returns c =
-    let numbered = c.before.before in
-    let headed = numbered.before.before.before.before.before in
-    let named = headed.before.before.before in
-    let st = named.before.before in
-    stopped_written st.args.why st.args.buf.now st.requires named.number.ensures
-    headed.put-bytes.ensures.0 headed.put-bytes.ensures.1 numbered.put-line.ensures.0 numbered.put-line.ensures.1
+    stopped_written c.args.why c.args.buf.now c.requires c.number-number.ensures
+    c.put_bytes-refusal_at.ensures.0 c.put_bytes-refusal_at.ensures.1 c.put_line.ensures.0 c.put_line.ensures.1
 
 pub put_stopped_spec : {M : Type 1} → statement M
 put_stopped_spec =
     tie.close
     (tie.spec
     (λ c κs. search rules)
-    (λ c. search rules)
     (λ c κs. search rules)
-    (λ c. search rules)
     (λ c. search rules)
     (λ c κs. search rules)
     (λ c. search rules)

@@ -19,28 +19,26 @@ use Rattle.verdict_printing.proofs.verdict_text.Tie as tie
 blank_room : (n : ℕ) → n ≤ length {A = ℕ} (replicate n 0)
 blank_room n = omega (arith, length-replicate {A = ℕ} n 0)
 
-compose_requires : tie.Need-compose-requires
+compose_requires : tie.Need-compose-length-requires
 compose_requires c κs = blank_room 1103
 
 -- the sheet's front is the text
-front : (c : tie.After-compose) →
-    let a = c.before.before.before.before.before.before.args in
-    take c.compose.result c.compose.new.0 ≡ printed a.register.now a.action.now
-front c = rw (c.compose.ensures.0, c.compose.ensures.1) (splice_front _ _)
+front : (c : tie.After-compose-length) →
+    let a = c.args in
+    take c.compose-length.result c.compose-length.new.buf ≡ printed a.register.now a.action.now
+front c = rw (c.compose-length.ensures.0, c.compose-length.ensures.1) (splice_front _ _)
 
-slice_aggregate_deliver : tie.Need-slice-aggregate-deliver
+slice_aggregate_deliver : tie.Need-slice_bounds-deliver-end
 slice_aggregate_deliver c =
-    let composed = c.before.before.before.before in
-    let a = composed.before.before.before.before.before.before.args in
-    let full : length composed.compose.new.0 ≡ printed_limit = composed.compose.auto.0 ∙ length-replicate {A = ℕ} 1103 0 in
-    sym (length-take-le _ composed.compose.new.0 (omega (arith, full, composed.compose.ensures.0, printed_length a.register.now a.action.now)))
+    let a = c.args in
+    let full : length c.compose-length.new.buf ≡ printed_limit = c.compose-length.auto.buf ∙ length-replicate {A = ℕ} 1103 0 in
+    sym (length-take-le _ c.compose-length.new.buf (omega (arith, full, c.compose-length.ensures.0, printed_length a.register.now a.action.now)))
 
 returns : tie.Need-returns
 returns c =
-    let call = c.before.before.deliver in
-    let composed = c.before.before.before.before.before.before.before in
-    let a = composed.before.before.before.before.before.before.args in
-    let text = front composed in (
+    let call = c.deliver in
+    let a = c.args in
+    let text = front c.before.before.before.before.before.before in (
       call.ensures.0 ∙ ap (λ (t : List ℕ). delivered t a.buf.now) text,
       call.ensures.1 ∙ ap (λ (t : List ℕ). put 0 t a.buf.now) text,
     )
@@ -49,7 +47,6 @@ pub verdict_text_spec : {M : Type 1} → statement M
 verdict_text_spec =
     tie.close
     (tie.spec
-    (λ c. search rules)
     (λ c. search rules)
     compose_requires
     (λ c. search rules)

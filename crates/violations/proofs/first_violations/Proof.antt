@@ -11,26 +11,26 @@ use borrow.Author.Rules.{rules}
 use Rattle.violations.proofs.first_violations.Statement.{statement}
 use Rattle.violations.proofs.first_violations.Tie as tie
 
-returns : tie.Need-returns
+returns : tie.Need-returns-then-owner-eq0
 returns c =
-    rw (c.before.before.before.if1.true, eq-eqb _ _ c.before.before.if2.true)
-    (c.push-governs.ensures
-    ∙ three_pushed (listed []) (flags_set c.before.before.before.before.before.before.args.a.flags) (NoOwner c.before.before.before.before.before.before.args.a.actor) (governed 0 (governs_of c.before.before.before.before.before.before.args.a))
-    c.before.before.before.before.push-flags.result c.before.push.result
-    (c.before.before.before.before.push-flags.ensures ∙ ap (λ vs. pushed_all vs (flags_set c.before.before.before.before.before.before.args.a.flags)) c.before.before.before.before.before.none.ensures) c.before.push.ensures)
+    rw (c.if-machine.true, eq-eqb _ _ c.if-owner-eq0.true)
+    (c.push_governs.ensures
+    ∙ three_pushed (listed []) (flags_set c.args.a.flags) (NoOwner c.args.a.actor) (governed 0 (governs_of c.args.a))
+    c.push_flags-flagged.result c.push-unowned.result
+    (c.push_flags-flagged.ensures ∙ ap (λ vs. pushed_all vs (flags_set c.args.a.flags)) c.none.ensures) c.push-unowned.ensures)
 
-returns_2 : tie.Need-returns-2
+returns_2 : tie.Need-returns-then-machine
 returns_2 c =
-    rw (c.before.before.if1.true, ne_eqb _ _ c.before.if2.false)
-    (c.push-governs2.ensures
-    ∙ two_pushed (listed []) (flags_set c.before.before.before.before.before.args.a.flags) (governed 0 (governs_of c.before.before.before.before.before.args.a))
-    c.before.before.before.push-flags.result
-    (c.before.before.before.push-flags.ensures ∙ ap (λ vs. pushed_all vs (flags_set c.before.before.before.before.before.args.a.flags)) c.before.before.before.before.none.ensures))
+    rw (c.if-machine.true, ne_eqb _ _ c.if-owner-eq0.false)
+    (c.push_governs-then-machine.ensures
+    ∙ two_pushed (listed []) (flags_set c.args.a.flags) (governed 0 (governs_of c.args.a))
+    c.push_flags-flagged.result
+    (c.push_flags-flagged.ensures ∙ ap (λ vs. pushed_all vs (flags_set c.args.a.flags)) c.none.ensures))
 
-returns_3 : tie.Need-returns-3
+returns_3 : tie.Need-returns
 returns_3 c =
-    rw (c.if1.false, append-nil)
-    (c.before.push-flags.ensures ∙ ap (λ vs. pushed_all vs (flags_set c.before.before.before.args.a.flags)) c.before.before.none.ensures)
+    rw (c.if-machine.false, append-nil)
+    (c.push_flags-flagged.ensures ∙ ap (λ vs. pushed_all vs (flags_set c.args.a.flags)) c.none.ensures)
 
 pub first_violations_spec : {M : Type 1} → statement M
 first_violations_spec =

@@ -11,48 +11,48 @@ use Rattle.violations.proofs.Among.{is_set, set_among, flag_next, flag_none}
 use Rattle.violations.proofs.push_flags.Statement.{statement}
 use Rattle.violations.proofs.push_flags.Tie as tie
 
-abbrev invariant_loop : tie.invariant-loop
+abbrev invariant_loop : tie.invariant-loop-flag
 invariant_loop flags vs₀ flag₀ vs flag = Pushing (set_among flags) flag_count flag vs₀ vs
 
-abbrev decreases_loop : tie.decreases-loop
+abbrev decreases_loop : tie.decreases-loop-flag
 decreases_loop flags vs₀ flag₀ vs flag = flag_count - flag
 
-loop_holds : tie.Need-loop-init invariant_loop decreases_loop
+loop_holds : tie.Need-loop-flag-init invariant_loop decreases_loop
 loop_holds c = pushing_start (omega arith)
 
-mul_v : tie.Need-overflow-mul-v invariant_loop decreases_loop
+mul_v : tie.Need-offset_bounds-vs-at invariant_loop decreases_loop
 mul_v c =
-    let room = place_left (is_set c.before.before.before.args.flags c.before.before.loop.flag) c.before.before.loop.vs c.if1.true in
+    let room = place_left (is_set c.args.flags c.loop-flag.flag) c.loop-flag.vs c.if-flags-flag.true in
     search rules
 
-element_set_from_v : tie.Need-element-set-from-v invariant_loop decreases_loop
+element_set_from_v : tie.Need-bounds-vs-at invariant_loop decreases_loop
 element_set_from_v c =
-    place_left (is_set c.before.before.before.args.flags c.before.before.loop.flag) c.before.before.loop.vs c.if1.true
+    place_left (is_set c.args.flags c.loop-flag.flag) c.loop-flag.vs c.if-flags-flag.true
 
-add_vs : tie.Need-overflow-add-vs invariant_loop decreases_loop
+add_vs : tie.Need-overflow_add-vs invariant_loop decreases_loop
 add_vs c =
-    let room = place_left (is_set c.before.before.before.args.flags c.before.before.loop.flag) c.before.before.loop.vs c.if1.true in
+    let room = place_left (is_set c.args.flags c.loop-flag.flag) c.loop-flag.vs c.if-flags-flag.true in
     search rules
 
 -- a set flag, and a place for it
-loop_again : tie.Need-loop-preserved invariant_loop decreases_loop
+loop_again : tie.Need-loop-flag-preserved-then-flags-flag invariant_loop decreases_loop
 loop_again c =
-    let loop = c.before.before.loop in
-    let flags = c.before.before.before.args.flags in
-    pushing_next loop.invariant _ c.before.loop-test.true (flag_next flags loop.flag)
-    (pushing_stored (is_set flags loop.flag) (FlagSet loop.flag) loop.vs c.if1.true)
+    let loop = c.loop-flag in
+    let flags = c.args.flags in
+    pushing_next loop.invariant _ c.loop-flag-test.true (flag_next flags loop.flag)
+    (pushing_stored (is_set flags loop.flag) (FlagSet loop.flag) loop.vs c.if-flags-flag.true)
 
 -- one that is not set, or no place
-loop_again_2 : tie.Need-loop-preserved-2 invariant_loop decreases_loop
+loop_again_2 : tie.Need-loop-flag-preserved invariant_loop decreases_loop
 loop_again_2 c =
-    let loop = c.before.before.loop in
-    let flags = c.before.before.before.args.flags in
-    pushing_next loop.invariant _ c.before.loop-test.true (flag_next flags loop.flag)
-    (pushing_kept (is_set flags loop.flag) (FlagSet loop.flag) loop.vs c.if1.false)
+    let loop = c.loop-flag in
+    let flags = c.args.flags in
+    pushing_next loop.invariant _ c.loop-flag-test.true (flag_next flags loop.flag)
+    (pushing_kept (is_set flags loop.flag) (FlagSet loop.flag) loop.vs c.if-flags-flag.false)
 
 returns : tie.Need-returns invariant_loop decreases_loop
 unfolding flags_set
-returns c = pushing_end c.before.loop.invariant c.loop-test.false (flag_none c.before.before.args.flags)
+returns c = pushing_end c.loop-flag.invariant c.loop-flag-test.false (flag_none c.args.flags)
 
 pub push_flags_spec : {M : Type 1} → statement M
 push_flags_spec =

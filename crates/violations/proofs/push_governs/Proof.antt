@@ -15,40 +15,39 @@ use Rattle.violations.proofs.Among.{governs_at}
 use Rattle.violations.proofs.push_governs.Statement.{statement}
 use Rattle.violations.proofs.push_governs.Tie as tie
 
-abbrev invariant_loop : tie.invariant-loop
+abbrev invariant_loop : tie.invariant-loop-position
 invariant_loop vs₀ top position₀ vs position = (top ≤ govern_limit) × Pushing governs_at top position vs₀ vs
 
-abbrev decreases_loop : tie.decreases-loop
+abbrev decreases_loop : tie.decreases-loop-position
 decreases_loop vs₀ top position₀ vs position = top - position
 
-loop_holds : tie.Need-loop-init invariant_loop decreases_loop
-loop_holds c = (omega (arith, c.least.ensures), pushing_start (omega arith))
+loop_holds : tie.Need-loop-position-init invariant_loop decreases_loop
+loop_holds c = (omega (arith, c.least-top.ensures), pushing_start (omega arith))
 
-loop_again : tie.Need-loop-preserved invariant_loop decreases_loop
+loop_again : tie.Need-loop-position-preserved-then-at-lt-MOST invariant_loop decreases_loop
 loop_again c =
-    let loop = c.before.before.loop in (
+    let loop = c.loop-position in (
       loop.invariant.0,
-      pushing_next loop.invariant.1 _ c.before.loop-test.true (λ l. refl)
-          (pushing_stored true (MachineGoverns loop.position) loop.vs (lt-ltb loop.vs.count violation_limit c.if1.true)),
+      pushing_next loop.invariant.1 _ c.loop-position-test.true (λ l. refl)
+          (pushing_stored true (MachineGoverns loop.position) loop.vs (lt-ltb loop.vs.count violation_limit c.if-at-lt-MOST.true)),
     )
 
 -- no place is left
-loop_again_2 : tie.Need-loop-preserved-2 invariant_loop decreases_loop
+loop_again_2 : tie.Need-loop-position-preserved invariant_loop decreases_loop
 loop_again_2 c =
-    let loop = c.before.before.loop in (
+    let loop = c.loop-position in (
       loop.invariant.0,
-      pushing_next loop.invariant.1 _ c.before.loop-test.true (λ l. refl)
-          (pushing_kept true (MachineGoverns loop.position) loop.vs (le-ltb loop.vs.count violation_limit c.if1.false)),
+      pushing_next loop.invariant.1 _ c.loop-position-test.true (λ l. refl)
+          (pushing_kept true (MachineGoverns loop.position) loop.vs (le-ltb loop.vs.count violation_limit c.if-at-lt-MOST.false)),
     )
 
 returns : tie.Need-returns invariant_loop decreases_loop
 returns c =
-    let loop = c.before.loop in
-    let least = c.before.before in
-    let a = least.before.args.a in
+    let loop = c.loop-position in
+    let a = c.args.a in
     let room : length a.governs ≡ govern_limit = search rules in
-    let all : length (governs_of a) ≡ least.least.result = length-take a.governed a.governs ∙ rw room (sym least.least.ensures) in
-    rw (governed_counted, all) (pushing_end loop.invariant.1 c.loop-test.false refl)
+    let all : length (governs_of a) ≡ c.least-top.result = length-take a.governed a.governs ∙ rw room (sym c.least-top.ensures) in
+    rw (governed_counted, all) (pushing_end loop.invariant.1 c.loop-position-test.false refl)
 
 pub push_governs_spec : {M : Type 1} → statement M
 push_governs_spec =

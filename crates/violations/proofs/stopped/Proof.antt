@@ -4,7 +4,7 @@ use Rattle.violations.proofs.stopped.Statement.{statement}
 use Rattle.violations.proofs.stopped.Tie as tie
 
 returns : tie.Need-returns
-returns c = rw c.none.ensures
+returns c = rw c.none-violations.ensures
 
 pub stopped_spec : {M : Type 1} → statement M
 stopped_spec = tie.close (tie.spec (λ c κs. search rules) returns)

@@ -18,16 +18,13 @@ places e = search (rules, length_mapped)
 
 returns : tie.Need-returns
 returns c =
-    let human = c.before.before.before.before.before.before.before.before.before in
-    let known = human.before.before.before.before.before.before in
-    let asked = known.before.before.before.before.before in
-    let entry = asked.before.before.before.before.before in
+    let entry = c.before.before.before.before.before.before.before.before.before.before.before.before.before.before.before.before.before.before.before.before.before.before in
     let r = entry.args.r in
     let given = entry.args in
-    let opened = examined r asked.examine.ensures in
-    struck_told r (places entry) (clear_expired given.caller given.moment) opened c.before.before.before.before.gone-expired.ensures
-    (c.before.before.before.outcome.ensures
-    ∙ expired_told r opened given.caller known.is_among.ensures (places entry) given.moment refl human.is-beside.ensures)
+    let opened = examined r c.examine-found.ensures in
+    struck_told r (places entry) (clear_expired given.caller given.moment) opened c.gone_expired-gone.ensures
+    (c.outcome-told.ensures
+    ∙ expired_told r opened given.caller c.is_among-known.ensures (places entry) given.moment refl c.is_beside-human.ensures)
     c.strike.ensures
 
 pub clear_expired_spec : {M : Type 1} → statement M

@@ -20,20 +20,15 @@ places e = search (rules, length_mapped)
 
 returns : tie.Need-returns
 returns c =
-    let looked = c.before.before.before.before.before.before.before.before in
-    let keeps = looked.before.before in
-    let listed = keeps.before.before.before.before.before.before in
-    let known = listed.before.before.before.before in
-    let asked = known.before.before.before.before.before in
-    let entry = asked.before.before.before.before.before in
+    let entry = c.before.before.before.before.before.before.before.before.before.before.before.before.before.before.before.before.before.before.before.before.before.before.before.before.before.before in
     let r = entry.args.r in
     let given = entry.args in
-    let opened = examined r asked.examine.ensures in
+    let opened = examined r c.examine-found.ensures in
     struck_told r (places entry) (clear_resource given.caller given.resource) opened
-    (c.before.before.before.before.gone_with.ensures
-    ∙ ap (λ l. gone_by (λ j. eqb (get_or l j 0) given.resource) asked.examine.result.ups r.claims.count) looked.column.ensures)
-    (c.before.before.before.outcome.ensures
-    ∙ resource_told r opened given.caller known.is_among.ensures (places entry) given.resource listed.is-among2.ensures keeps.is-beside.ensures)
+    (c.gone_with-gone.ensures
+    ∙ ap (λ l. gone_by (λ j. eqb (get_or l j 0) given.resource) c.examine-found.result.ups r.claims.count) c.column-claimed.ensures)
+    (c.outcome-told.ensures
+    ∙ resource_told r opened given.caller c.is_among-known.ensures (places entry) given.resource c.is_among-listed.ensures c.is_beside-keeps.ensures)
     c.strike.ensures
 
 pub clear_resource_spec : {M : Type 1} → statement M

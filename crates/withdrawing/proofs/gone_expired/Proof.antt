@@ -9,28 +9,27 @@ use Rattle.withdrawing.proofs.Going.{Telling, telling_start, telling_next, telli
 use Rattle.withdrawing.proofs.gone_expired.Statement.{statement}
 use Rattle.withdrawing.proofs.gone_expired.Tie as tie
 
-abbrev invariant_loop : tie.invariant-loop
+abbrev invariant_loop : tie.invariant-loop-i
 invariant_loop ups sheet n moment top gone₀ i₀ gone i = Telling (λ j. expired moment (claim_at sheet j)) ups top i gone
 
-abbrev decreases_loop : tie.decreases-loop
+abbrev decreases_loop : tie.decreases-loop-i
 decreases_loop ups sheet n moment top gone₀ i₀ gone i = top - i
 
-loop_holds : tie.Need-loop-init invariant_loop decreases_loop
+loop_holds : tie.Need-loop-i-init invariant_loop decreases_loop
 loop_holds c = telling_start (omega arith) refl
 
-slice_aggregate_is_marked : tie.Need-slice-aggregate-is-marked invariant_loop decreases_loop
+slice_aggregate_is_marked : tie.Need-slice_bounds-is_marked-end invariant_loop decreases_loop
 slice_aggregate_is_marked c =
-    let sized = telling_length c.before.before.before.before.before.loop.invariant in
+    let sized = telling_length c.loop-i.invariant in
     search rules
 
-loop_again : tie.Need-loop-preserved invariant_loop decreases_loop
+loop_again : tie.Need-loop-i-preserved invariant_loop decreases_loop
 loop_again c =
-    let turn = c.before.before.before.before.before.before in
-    telling_next turn.loop.invariant c.before.before.before.before.before.loop-test.true
-    (rw (c.before.before.is-expired.ensures, c.before.before.before.claim-at.ensures, c.is-marked.ensures, c.before.before.before.before.place_above.ensures))
+    telling_next c.loop-i.invariant c.loop-i-test.true
+    (rw (c.is_expired.ensures, c.claim_at-c.ensures, c.is_marked.ensures, c.place_above-up.ensures))
 
 returns : tie.Need-returns invariant_loop decreases_loop
-returns c = telling_done c.before.loop.invariant c.loop-test.false _ c.before.before.least.ensures
+returns c = telling_done c.loop-i.invariant c.loop-i-test.false _ c.least-top.ensures
 
 pub gone_expired_spec : {M : Type 1} → statement M
 gone_expired_spec =

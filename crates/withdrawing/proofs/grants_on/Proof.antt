@@ -8,20 +8,18 @@ use Rattle.lookup.specs.Walks.{up_from}
 use Rattle.withdrawing.proofs.grants_on.Statement.{statement}
 use Rattle.withdrawing.proofs.grants_on.Tie as tie
 
-returns : tie.Need-returns
+returns : tie.Need-returns-in-At
 returns c =
-    let looked = c.before.before.before.before in
-    let entry = looked.before.before.before.before.args in
-    c.grants-up.ensures
+    let entry = c.args in
+    c.grants_up.ensures
     ∙ ap (λ p. any (λ j. eqb (get_or entry.grantors.now j 0) entry.who) (up_from entry.ups.now p))
-    (sym c.before.before.place.given.1 ∙ looked.latest-place.ensures)
+    (sym c.in-At.is ∙ c.latest_place-place.ensures)
 
-returns_2 : tie.Need-returns-2
+returns_2 : tie.Need-returns-in-Nowhere
 returns_2 c =
-    let looked = c.before.before in
-    let entry = looked.before.before.before.before.args in
+    let entry = c.args in
     ap (λ p. any (λ j. eqb (get_or entry.grantors.now j 0) entry.who) (up_from entry.ups.now p))
-    (sym c.enum_told.given.1 ∙ looked.latest-place.ensures)
+    (sym c.in-Nowhere.is ∙ c.latest_place-place.ensures)
 
 pub grants_on_spec : {M : Type 1} → statement M
 grants_on_spec =

@@ -12,31 +12,28 @@ use Rattle.withdrawing.proofs.Going.{Walk, walk_here, walk_root, walk_above}
 use Rattle.withdrawing.proofs.grants_up.Statement.{statement}
 use Rattle.withdrawing.proofs.grants_up.Tie as tie
 
-abbrev invariant_loop : tie.invariant-loop
+abbrev invariant_loop : tie.invariant-loop-up
 invariant_loop ups grantors from who member₀ up₀ member up =
     Walk (λ j. eqb (get_or grantors j 0) who) ups member up (any (λ j. eqb (get_or grantors j 0) who) (from ∷ places_up ups from))
 
-abbrev decreases_loop : tie.decreases-loop
+abbrev decreases_loop : tie.decreases-loop-up
 decreases_loop ups grantors from who member₀ up₀ member up = member
 
-loop_holds : tie.Need-loop-init invariant_loop decreases_loop
-loop_holds c = record { next = c.place_above.ensures; ahead = refl }
+loop_holds : tie.Need-loop-up-init invariant_loop decreases_loop
+loop_holds c = record { next = c.place_above-up.ensures; ahead = refl }
 
-returns : tie.Need-returns invariant_loop decreases_loop
+returns : tie.Need-returns-then-number_at-who invariant_loop decreases_loop
 returns c =
-    let turn = c.before.before.before in
-    sym (walk_here turn.loop.invariant (eq-eqb _ _ (sym c.before.number_at.ensures ∙ c.if1.true)))
+    sym (walk_here c.loop-up.invariant (eq-eqb _ _ (sym c.number_at.ensures ∙ c.if-number_at-who.true)))
 
-loop_again : tie.Need-loop-preserved invariant_loop decreases_loop
+loop_again : tie.Need-loop-up-preserved invariant_loop decreases_loop
 loop_again c =
-    let turn = c.before.before.before.before in
-    walk_above turn.loop.invariant c.before.before.before.loop-test.true
-    (ne_eqb _ _ (λ same. c.before.if1.false (c.before.before.number_at.ensures ∙ same))) c.place-above2.ensures
+    walk_above c.loop-up.invariant c.loop-up-test.true
+    (ne_eqb _ _ (λ same. c.if-number_at-who.false (c.number_at.ensures ∙ same))) c.place_above-up-in-loop-up.ensures
 
-returns_2 : tie.Need-returns-2 invariant_loop decreases_loop
+returns_2 : tie.Need-returns invariant_loop decreases_loop
 returns_2 c =
-    let turn = c.before.before in
-    ap (λ g. eqb g c.before.before.before.before.before.before.args.who) c.number-at2.ensures ∙ sym (walk_root turn.loop.invariant c.before.loop-test.false)
+    ap (λ g. eqb g c.args.who) c.number_at-2.ensures ∙ sym (walk_root c.loop-up.invariant c.loop-up-test.false)
 
 pub grants_up_spec : {M : Type 1} → statement M
 grants_up_spec =

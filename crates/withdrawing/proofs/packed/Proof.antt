@@ -10,37 +10,36 @@ use Rattle.withdrawing.proofs.Packing.{Packing, packing_start, packing_goes, pac
 use Rattle.withdrawing.proofs.packed.Statement.{statement}
 use Rattle.withdrawing.proofs.packed.Tie as tie
 
-abbrev invariant_loop : tie.invariant-loop
+abbrev invariant_loop : tie.invariant-loop-i
 invariant_loop sheet n gone list₀ kept₀ i₀ top list kept i =
     (i ≤ top) × (top ≤ claim_limit) × (length list ≡ claim_limit) × Packing sheet gone list kept i
 
-abbrev decreases_loop : tie.decreases-loop
+abbrev decreases_loop : tie.decreases-loop-i
 decreases_loop sheet n gone list₀ kept₀ i₀ top list kept i = top - i
 
-loop_holds : tie.Need-loop-init invariant_loop decreases_loop
+loop_holds : tie.Need-loop-i-init invariant_loop decreases_loop
 loop_holds c =
-    (omega arith, omega (arith, c.least.ensures), length-replicate claim_limit c.before.none.result, packing_start _ _ c.before.none.ensures)
+    (omega arith, omega (arith, c.least-top.ensures), length-replicate claim_limit c.none-none.result, packing_start _ _ c.none-none.ensures)
 
-loop_again : tie.Need-loop-preserved invariant_loop decreases_loop
+loop_again : tie.Need-loop-i-preserved-then-is_marked invariant_loop decreases_loop
 loop_again c =
-    let inv = c.before.before.before.loop.invariant in
-    (omega arith, inv.1, inv.2, packing_goes inv.3 (sym c.before.is-marked.ensures ∙ c.if1.true))
+    let inv = c.loop-i.invariant in
+    (omega arith, inv.1, inv.2, packing_goes inv.3 (sym c.is_marked.ensures ∙ c.if-is_marked.true))
 
-loop_again_2 : tie.Need-loop-preserved-2 invariant_loop decreases_loop
+loop_again_2 : tie.Need-loop-i-preserved invariant_loop decreases_loop
 loop_again_2 c =
-    let turn = c.before.before.before.before in
-    let inv = turn.loop.invariant in
-    let inside : turn.loop.i < claim_limit = omega (arith, c.before.before.before.loop-test.true, inv.1) in (
+    let inv = c.loop-i.invariant in
+    let inside : c.loop-i.i < claim_limit = omega (arith, c.loop-i-test.true, inv.1) in (
       omega arith,
       inv.1,
-      length-set turn.loop.list turn.loop.auto c.claim-at.result ∙ inv.2,
-      packing_stays inv.3 (sym c.before.before.is-marked.ensures ∙ c.before.if1.false) inside c.claim-at.ensures,
+      length-set c.loop-i.list c.loop-i.kept c.claim_at.result ∙ inv.2,
+      packing_stays inv.3 (sym c.is_marked.ensures ∙ c.if-is_marked.false) inside c.claim_at.ensures,
     )
 
 returns : tie.Need-returns invariant_loop decreases_loop
 returns c =
-    let inv = c.before.loop.invariant in
-    packing_done inv.3 c.before.before.before.before.before.before.args.n (omega (arith, c.loop-test.false, inv.0, c.before.before.least.ensures))
+    let inv = c.loop-i.invariant in
+    packing_done inv.3 c.args.n (omega (arith, c.loop-i-test.false, inv.0, c.least-top.ensures))
 
 pub packed_spec : {M : Type 1} → statement M
 packed_spec =

@@ -20,21 +20,17 @@ places e = search (rules, length_mapped)
 
 returns : tie.Need-returns
 returns c =
-    let looked = c.before.before.before.before.before.before.before.before.before.before.before.before in
-    let stands = looked.before.before in
-    let known = stands.before.before.before in
-    let asked = known.before.before.before.before.before in
-    let entry = asked.before.before.before.before.before in
+    let entry = c.before.before.before.before.before.before.before.before.before.before.before.before.before.before.before.before.before.before.before.before.before.before.before.before in
     let r = entry.args.r in
     let given = entry.args in
-    let opened = examined r asked.examine.ensures in
-    let ids = stands.before.column.ensures in
+    let opened = examined r c.examine-found.ensures in
+    let ids = c.column-ids.ensures in
     struck_told r (places entry) (revoke given.who given.x) opened
-    (c.before.before.before.before.gone_with.ensures
-    ∙ ap (λ l. gone_by (λ j. eqb (get_or l j 0) given.x) asked.examine.result.ups r.claims.count) ids)
-    (c.before.before.before.outcome.ensures
-    ∙ revoke_told r (places entry) given.who given.x opened known.is_among.ensures ids stands.is-among2.ensures looked.column2.ensures
-    c.before.before.before.before.before.before.before.before.grants-on.ensures)
+    (c.gone_with-gone.ensures
+    ∙ ap (λ l. gone_by (λ j. eqb (get_or l j 0) given.x) c.examine-found.result.ups r.claims.count) ids)
+    (c.outcome-told.ensures
+    ∙ revoke_told r (places entry) given.who given.x opened c.is_among-known.ensures ids c.is_among-stands.ensures c.column-grantors.ensures
+    c.grants_on-grants.ensures)
     c.strike.ensures
 
 pub revoke_spec : {M : Type 1} → statement M

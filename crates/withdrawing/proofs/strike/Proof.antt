@@ -12,23 +12,23 @@ use Rattle.withdrawing.proofs.strike.Statement.{statement}
 use Rattle.withdrawing.proofs.strike.Tie as tie
 
 -- no more are left than were looked at
-left : (e : tie.After-packed) → let given = e.before.before.before.before.before.before.args in e.packed.result.count ≡ length (spared given.sheet.now given.k.count given.gone.now)
-left e = ap (λ k. k.count) e.packed.ensures ∙ packed_count _ _ _
+left : (e : tie.After-packed-claims) → let given = e.args in e.packed-claims.result.count ≡ length (spared given.sheet.now given.k.count given.gone.now)
+left e = ap (λ k. k.count) e.packed-claims.ensures ∙ packed_count _ _ _
 
-sub_t9 : tie.Need-overflow-sub-t9
+sub_t9 : tie.Need-overflow_sub-result
 sub_t9 c =
     let e = c.before in
-    let given = e.before.before.before.before.before.before.args in
-    let few : e.packed.result.count ≤ e.before.least.result = omega (arith, e.before.least.ensures, left e, spared_length given.sheet.now given.k.count given.gone.now) in
+    let given = e.args in
+    let few : e.packed-claims.result.count ≤ e.least-top.result = omega (arith, e.least-top.ensures, left e, spared_length given.sheet.now given.k.count given.gone.now) in
     search rules
 
-returns : tie.Need-returns
+returns : tie.Need-returns-in-Accepted
 returns c =
     let e = c.before in
-    struck_accepted _ _ _ e.before.before.enum_told.given.1 e.packed.ensures (omega (arith, e.before.least.ensures, left e))
+    struck_accepted _ _ _ e.in-Accepted.is e.packed-claims.ensures (omega (arith, e.least-top.ensures, left e))
 
-returns_2 : tie.Need-returns-2
-returns_2 c = struck_refused _ _ _ c.before.outcome.given.1
+returns_2 : tie.Need-returns-in-Refused
+returns_2 c = struck_refused _ _ _ c.in-Refused.is
 
 pub strike_spec : {M : Type 1} → statement M
 strike_spec =

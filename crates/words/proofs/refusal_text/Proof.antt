@@ -6,10 +6,13 @@ use Rattle.words.proofs.refusal_text.Tie as tie
 
 returns : tie.Need-returns
 returns c =
-    let call = c.before.before.write-text in
-    let a = c.before.before.before.before.before.before.args in
+    let call = c.write_text in
+    let a = c.args in
     delivering a.buf.now (refusal_found a.number) call.ensures.0 call.ensures.1
 
 pub refusal_text_spec : {M : Type 1} → statement M
 refusal_text_spec =
-    tie.close (tie.spec (λ c. search rules) (λ c κs. search rules) (λ c. search rules) returns)
+    tie.close (tie.spec
+    (λ c κs. search rules)
+    (λ c. search rules)
+    returns)

@@ -7,30 +7,27 @@ use Rattle.words.proofs.Seeking.{Seeking, seeking_byte, seeking_here, seeking_la
 use Rattle.words.proofs.text_at.Statement.{statement}
 use Rattle.words.proofs.text_at.Tie as tie
 
-abbrev invariant_loop : tie.invariant-loop
+abbrev invariant_loop : tie.invariant-loop-i
 invariant_loop table place left₀ from₀ i₀ left from i = Seeking table place left from i
 
-abbrev decreases_loop : tie.decreases-loop
+abbrev decreases_loop : tie.decreases-loop-i
 decreases_loop table place left₀ from₀ i₀ left from i = length table - i
 
-returns : tie.Need-returns invariant_loop decreases_loop
+returns : tie.Need-returns-then-left-eq0 invariant_loop decreases_loop
 returns c =
-    let turn = c.before.before.before.before in
-    seeking_here turn.before.loop.invariant turn.loop-test.true c.before.before.if1.true c.before.if2.true
+    seeking_here c.loop-i.invariant c.loop-i-test.true c.if-table-i-eq-LINE_FEED.true c.if-left-eq0.true
 
-loop_again : tie.Need-loop-preserved invariant_loop decreases_loop
+loop_again : tie.Need-loop-i-preserved-then-table-i-eq-LINE_FEED invariant_loop decreases_loop
 loop_again c =
-    let turn = c.before.before.before in
-    seeking_later turn.before.loop.invariant turn.loop-test.true c.before.if1.true c.if2.false
+    seeking_later c.loop-i.invariant c.loop-i-test.true c.if-table-i-eq-LINE_FEED.true c.if-left-eq0.false
 
-loop_again_2 : tie.Need-loop-preserved-2 invariant_loop decreases_loop
+loop_again_2 : tie.Need-loop-i-preserved invariant_loop decreases_loop
 loop_again_2 c =
-    let turn = c.before.before in
-    seeking_byte turn.before.loop.invariant turn.loop-test.true c.if1.false
+    seeking_byte c.loop-i.invariant c.loop-i-test.true c.if-table-i-eq-LINE_FEED.false
 
-returns_2 : tie.Need-returns-2 invariant_loop decreases_loop
+returns_2 : tie.Need-returns invariant_loop decreases_loop
 returns_2 c =
-    seeking_end c.before.before.loop.invariant c.before.loop-test.false
+    seeking_end c.loop-i.invariant c.loop-i-test.false
 
 pub text_at_spec : {M : Type 1} → statement M
 text_at_spec =

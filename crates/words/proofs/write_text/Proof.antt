@@ -9,10 +9,10 @@ use Rattle.words.proofs.write_text.Tie as tie
 
 returns : tie.Need-returns
 returns c =
-    let call = c.before.before.deliver in
-    let found = c.before.before.before.text_at.ensures in
-    let place = c.before.before.before.before.before.least.ensures in
-    let a = c.before.before.before.before.before.before.before.before.args in
+    let call = c.deliver in
+    let found = c.text_at.ensures in
+    let place = c.least-place.ensures in
+    let a = c.args in
     delivering a.buf.now (found ∙ ap (λ n. text_at n [] a.table.now) place) call.ensures.0 call.ensures.1
 
 pub write_text_spec : {M : Type 1} → statement M

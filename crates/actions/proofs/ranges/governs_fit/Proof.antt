@@ -18,33 +18,31 @@ use Rattle.actions.proofs.ranges.governs_fit.Tie as tie
 abbrev entry_fits : ℕ → Bool
 entry_fits g = leb g id_limit
 
-abbrev invariant_loop : tie.invariant-loop
+abbrev invariant_loop : tie.invariant-loop-i
 invariant_loop a top i₀ i = Loop (λ at l. every entry_fits l) a.governed a.governs top i (every entry_fits (governs_of a))
 
-abbrev decreases_loop : tie.decreases-loop
+abbrev decreases_loop : tie.decreases-loop-i
 decreases_loop a top i₀ i = top - i
 
-loop_holds : tie.Need-loop-init invariant_loop decreases_loop
+loop_holds : tie.Need-loop-i-init invariant_loop decreases_loop
 loop_holds c =
-    let room : length c.before.args.t1.governs ≡ govern_limit = search rules in
-    start (rw room c.least.ensures) refl
+    let room : length c.args.a.governs ≡ govern_limit = search rules in
+    start (rw room c.least-top.ensures) refl
 
-returns : tie.Need-returns invariant_loop decreases_loop
+returns : tie.Need-returns-then-a-i-gt-ID_LIMIT invariant_loop decreases_loop
 returns c =
-    let at = c.before.before in
-    let loop = at.before.loop in
-    let g = get_or at.before.before.before.args.t1.governs loop.i 0 in
-    sym (turn loop.invariant 0 at.loop-test.true ∙ rw (lt-leb g id_limit c.if1.true))
+    let loop = c.loop-i in
+    let g = get_or c.args.a.governs loop.i 0 in
+    sym (turn loop.invariant 0 c.loop-i-test.true ∙ rw (lt-leb g id_limit c.if-a-i-gt-ID_LIMIT.true))
 
-loop_again : tie.Need-loop-preserved invariant_loop decreases_loop
+loop_again : tie.Need-loop-i-preserved invariant_loop decreases_loop
 loop_again c =
-    let at = c.before.before in
-    let loop = at.before.loop in
-    let g = get_or at.before.before.before.args.t1.governs loop.i 0 in
-    next loop.invariant at.loop-test.true (turn loop.invariant 0 at.loop-test.true ∙ rw (le-leb g id_limit c.if1.false))
+    let loop = c.loop-i in
+    let g = get_or c.args.a.governs loop.i 0 in
+    next loop.invariant c.loop-i-test.true (turn loop.invariant 0 c.loop-i-test.true ∙ rw (le-leb g id_limit c.if-a-i-gt-ID_LIMIT.false))
 
-returns_2 : tie.Need-returns-2 invariant_loop decreases_loop
-returns_2 c = sym (done c.before.loop.invariant c.loop-test.false)
+returns_2 : tie.Need-returns invariant_loop decreases_loop
+returns_2 c = sym (done c.loop-i.invariant c.loop-i-test.false)
 
 pub governs_fit_spec : {M : Type 1} → statement M
 governs_fit_spec =

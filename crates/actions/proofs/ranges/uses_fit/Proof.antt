@@ -24,45 +24,40 @@ use_fits u = leb u.resource id_limit && is_right u.right
 abbrev no_usage : Usage
 no_usage = record { resource = 0; right = 0 }
 
-abbrev invariant_loop : tie.invariant-loop
+abbrev invariant_loop : tie.invariant-loop-i
 invariant_loop a top i₀ i = Loop (λ at l. every use_fits l) a.used a.uses top i (every use_fits (uses_of a))
 
-abbrev decreases_loop : tie.decreases-loop
+abbrev decreases_loop : tie.decreases-loop-i
 decreases_loop a top i₀ i = top - i
 
-loop_holds : tie.Need-loop-init invariant_loop decreases_loop
+loop_holds : tie.Need-loop-i-init invariant_loop decreases_loop
 loop_holds c =
-    let room : length c.before.args.t1.uses ≡ use_limit = search (rules, length_mapped) in
-    start (rw room c.least.ensures) refl
+    let room : length c.args.a.uses ≡ use_limit = search (rules, length_mapped) in
+    start (rw room c.least-top.ensures) refl
 
-returns : tie.Need-returns invariant_loop decreases_loop
+returns : tie.Need-returns-then-u-gt-ID_LIMIT invariant_loop decreases_loop
 returns c =
-    let at = c.before.before.before in
-    let loop = at.before.loop in
-    let u = get_or at.before.before.before.args.t1.uses loop.i no_usage in
-    sym (turn loop.invariant no_usage at.loop-test.true ∙ rw (lt-leb u.resource id_limit c.if1.true))
+    let loop = c.loop-i in
+    let u = get_or c.args.a.uses loop.i no_usage in
+    sym (turn loop.invariant no_usage c.loop-i-test.true ∙ rw (lt-leb u.resource id_limit c.if-u-gt-ID_LIMIT.true))
 
-returns_2 : tie.Need-returns-2 invariant_loop decreases_loop
+returns_2 : tie.Need-returns-then-u-gt-POLICY_MODIFY invariant_loop decreases_loop
 returns_2 c =
-    let known = c.before.before in
-    let at = known.before.before.before in
-    let loop = at.before.loop in
-    let u = get_or at.before.before.before.args.t1.uses loop.i no_usage in
-    sym (turn loop.invariant no_usage at.loop-test.true
-    ∙ rw (le-leb u.resource id_limit known.if1.false, le-ltb u.right right_count c.if2.true))
+    let loop = c.loop-i in
+    let u = get_or c.args.a.uses loop.i no_usage in
+    sym (turn loop.invariant no_usage c.loop-i-test.true
+    ∙ rw (le-leb u.resource id_limit c.if-u-gt-ID_LIMIT.false, le-ltb u.right right_count c.if-u-gt-POLICY_MODIFY.true))
 
-loop_again : tie.Need-loop-preserved invariant_loop decreases_loop
+loop_again : tie.Need-loop-i-preserved invariant_loop decreases_loop
 loop_again c =
-    let known = c.before.before in
-    let at = known.before.before.before in
-    let loop = at.before.loop in
-    let u = get_or at.before.before.before.args.t1.uses loop.i no_usage in
-    next loop.invariant at.loop-test.true
-    (turn loop.invariant no_usage at.loop-test.true
-    ∙ rw (le-leb u.resource id_limit known.if1.false, lt-ltb u.right right_count (omega (arith, c.if2.false))))
+    let loop = c.loop-i in
+    let u = get_or c.args.a.uses loop.i no_usage in
+    next loop.invariant c.loop-i-test.true
+    (turn loop.invariant no_usage c.loop-i-test.true
+    ∙ rw (le-leb u.resource id_limit c.if-u-gt-ID_LIMIT.false, lt-ltb u.right right_count (omega (arith, c.if-u-gt-POLICY_MODIFY.false))))
 
-returns_3 : tie.Need-returns-3 invariant_loop decreases_loop
-returns_3 c = sym (done c.before.loop.invariant c.loop-test.false)
+returns_3 : tie.Need-returns invariant_loop decreases_loop
+returns_3 c = sym (done c.loop-i.invariant c.loop-i-test.false)
 
 pub uses_fit_spec : {M : Type 1} → statement M
 uses_fit_spec =

@@ -7,13 +7,13 @@ use Rattle.claim_judging.proofs.alone.claim_fits.Tie as tie
 
 returns : tie.Need-returns
 returns c =
-    let given = c.before.before.before.before.before.before.before.before.before.args in
+    let given = c.args in
     claim_asked given.version given.c
-    c.before.before.before.before.before.before.before.before.is-id.ensures
-    c.before.before.before.before.before.before.is-id2.ensures
-    c.before.before.before.before.before.is-id3.ensures
-    c.before.before.before.before.is-id4.ensures
-    c.before.before.before.in_range.ensures
+    c.is_id.ensures
+    c.is_id-2.ensures
+    c.is_id-3.ensures
+    c.is_id-4.ensures
+    c.in_range.ensures
 
 pub claim_fits_spec : {M : Type 1} → statement M
 claim_fits_spec =

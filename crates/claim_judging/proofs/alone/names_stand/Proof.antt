@@ -7,10 +7,10 @@ use Rattle.claim_judging.proofs.alone.names_stand.Tie as tie
 
 returns : tie.Need-returns
 returns c =
-    names_asked _ c.before.before.before.before.before.args.c
-    c.before.before.is_among.ensures
-    c.before.is-among2.ensures
-    c.is-among3.ensures
+    names_asked _ c.args.c
+    c.is_among.ensures
+    c.is_among-2.ensures
+    c.is_among-3.ensures
 
 pub names_stand_spec : {M : Type 1} → statement M
 names_stand_spec =

@@ -7,17 +7,17 @@ use Rattle.claim_judging.proofs.Asking.{root_none, root_asked}
 use Rattle.claim_judging.proofs.alone.root_kept.Statement.{statement}
 use Rattle.claim_judging.proofs.alone.root_kept.Tie as tie
 
-returns : tie.Need-returns
-returns c = root_none _ c.before.before.before.before.args.c c.if1.true
+returns : tie.Need-returns-then-c-ne0
+returns c = root_none _ c.args.c c.if-c-ne0.true
 
-returns_2 : tie.Need-returns-2
+returns_2 : tie.Need-returns
 returns_2 c =
-    let given = c.before.before.before.before.before.args in
+    let given = c.args in
     root_asked
     (world_by 0 [] [] [] 0 given.reports.now given.keepers.now given.m)
     given.c
-    c.before.if1.false
-    c.is-beside.ensures
+    c.if-c-ne0.false
+    c.is_beside.ensures
 
 pub root_kept_spec : {M : Type 1} → statement M
 root_kept_spec = tie.close (tie.spec returns (λ c κs. search rules) returns_2)

@@ -6,7 +6,7 @@ use Rattle.claim_judging.proofs.alone.stands_named.Tie as tie
 
 returns : tie.Need-returns
 returns c =
-    let given = c.before.before.before.args in
+    let given = c.args in
     named_asked given.c
     (record {
       grantor = given.grantor;
@@ -16,7 +16,7 @@ returns c =
       owner = given.owner;
       keeper = given.keeper;
     })
-    c.bars-machine.ensures
+    c.bars_machine.ensures
 
 pub stands_named_spec : {M : Type 1} → statement M
 stands_named_spec = tie.close (tie.spec (λ c κs. search rules) returns)

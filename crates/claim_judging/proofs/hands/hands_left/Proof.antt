@@ -5,14 +5,14 @@ use Rattle.claim_judging.proofs.Chains.{left_none, left_counted}
 use Rattle.claim_judging.proofs.hands.hands_left.Statement.{statement}
 use Rattle.claim_judging.proofs.hands.hands_left.Tie as tie
 
-returns : tie.Need-returns
-returns c = rw (eq-eqb c.before.args.version 2 c.if1.true)
+returns : tie.Need-returns-then-version-eq-VERSION_TWO
+returns c = rw (eq-eqb c.args.version 2 c.if-version-eq-VERSION_TWO.true)
 
-returns_2 : tie.Need-returns-2
-returns_2 c = let given = c.before.before.args in left_none given.version c.before.if1.false given.hops given.c c.if2.true
+returns_2 : tie.Need-returns-then-hops-ge-HOPS
+returns_2 c = let given = c.args in left_none given.version c.if-version-eq-VERSION_TWO.false given.hops given.c c.if-hops-ge-HOPS.true
 
-returns_3 : tie.Need-returns-3
-returns_3 c = let given = c.before.before.args in left_counted given.version c.before.if1.false given.hops given.c
+returns_3 : tie.Need-returns
+returns_3 c = let given = c.args in left_counted given.version c.if-version-eq-VERSION_TWO.false given.hops given.c
 
 pub hands_left_spec : {M : Type 1} → statement M
 hands_left_spec = tie.close (tie.spec returns returns_2 (λ c. search rules) (λ c. search rules) returns_3)

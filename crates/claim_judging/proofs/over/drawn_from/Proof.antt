@@ -10,48 +10,48 @@ use borrow.Author.Rules.{rules}
 use Rattle.claim_judging.proofs.over.drawn_from.Statement.{statement}
 use Rattle.claim_judging.proofs.over.drawn_from.Tie as tie
 
-returns : tie.Need-returns
+returns : tie.Need-returns-then-p-c
 unfolding drawn_from
 returns c =
-    let start = c.before.before.before.args in
-    let held : eqb start.p.holder start.c.grantor ≡ false = ne_eqb _ _ c.if1.true in
+    let start = c.args in
+    let held : eqb start.p.holder start.c.grantor ≡ false = ne_eqb _ _ c.if-p-c.true in
     sym (fails _ held)
 
-returns_2 : tie.Need-returns-2
+returns_2 : tie.Need-returns-then-p-c-2
 unfolding drawn_from
 returns_2 c =
-    let start = c.before.before.before.before.before.before.args in
-    let held : eqb start.p.holder start.c.grantor ≡ true = eq-eqb _ _ c.before.before.before.if1.false in
-    let same : eqb start.p.resource start.c.resource ≡ false = ne_eqb _ _ c.if2.true in
+    let start = c.args in
+    let held : eqb start.p.holder start.c.grantor ≡ true = eq-eqb _ _ c.if-p-c.false in
+    let same : eqb start.p.resource start.c.resource ≡ false = ne_eqb _ _ c.if-p-c-2.true in
     sym (passes held ∙ fails _ same)
 
-returns_3 : tie.Need-returns-3
+returns_3 : tie.Need-returns-then-not-has
 unfolding drawn_from
 returns_3 c =
-    let start = c.before.before.before.before.before.before.before.before.args in
-    let held : eqb start.p.holder start.c.grantor ≡ true = eq-eqb _ _ c.before.before.before.before.before.if1.false in
-    let same : eqb start.p.resource start.c.resource ≡ true = eq-eqb _ _ c.before.before.if2.false in
-    let delegates : has_right start.p.rights delegating ≡ false = sym c.before.has.ensures ∙ not-true _ c.if3.true in
+    let start = c.args in
+    let held : eqb start.p.holder start.c.grantor ≡ true = eq-eqb _ _ c.if-p-c.false in
+    let same : eqb start.p.resource start.c.resource ≡ true = eq-eqb _ _ c.if-p-c-2.false in
+    let delegates : has_right start.p.rights delegating ≡ false = sym c.has.ensures ∙ c.if-not-has.true in
     sym (passes held ∙ passes same ∙ fails _ delegates)
 
-returns_4 : tie.Need-returns-4
+returns_4 : tie.Need-returns-then-not-has_all
 unfolding drawn_from
 returns_4 c =
-    let start = c.before.before.before.before.before.before.before.before.before.before.args in
-    let held : eqb start.p.holder start.c.grantor ≡ true = eq-eqb _ _ c.before.before.before.before.before.before.before.if1.false in
-    let same : eqb start.p.resource start.c.resource ≡ true = eq-eqb _ _ c.before.before.before.before.if2.false in
-    let delegates : has_right start.p.rights delegating ≡ true = sym c.before.before.before.has.ensures ∙ not-false _ c.before.before.if3.false in
-    let contains : has_rights start.p.rights start.c.rights ≡ false = sym c.before.Has-All.ensures ∙ not-true _ c.if4.true in
+    let start = c.args in
+    let held : eqb start.p.holder start.c.grantor ≡ true = eq-eqb _ _ c.if-p-c.false in
+    let same : eqb start.p.resource start.c.resource ≡ true = eq-eqb _ _ c.if-p-c-2.false in
+    let delegates : has_right start.p.rights delegating ≡ true = sym c.has.ensures ∙ c.if-not-has.false in
+    let contains : has_rights start.p.rights start.c.rights ≡ false = sym c.has_all.ensures ∙ c.if-not-has_all.true in
     sym (passes held ∙ passes same ∙ passes delegates ∙ fails _ contains)
 
-returns_5 : tie.Need-returns-5
+returns_5 : tie.Need-returns
 unfolding drawn_from
 returns_5 c =
-    let start = c.before.before.before.before.before.before.before.before.before.before.before.before.args in
-    let held : eqb start.p.holder start.c.grantor ≡ true = eq-eqb _ _ c.before.before.before.before.before.before.before.before.before.if1.false in
-    let same : eqb start.p.resource start.c.resource ≡ true = eq-eqb _ _ c.before.before.before.before.before.before.if2.false in
-    let delegates : has_right start.p.rights delegating ≡ true = sym c.before.before.before.before.before.has.ensures ∙ not-false _ c.before.before.before.before.if3.false in
-    let contains : has_rights start.p.rights start.c.rights ≡ true = sym c.before.before.before.Has-All.ensures ∙ not-false _ c.before.before.if4.false in
+    let start = c.args in
+    let held : eqb start.p.holder start.c.grantor ≡ true = eq-eqb _ _ c.if-p-c.false in
+    let same : eqb start.p.resource start.c.resource ≡ true = eq-eqb _ _ c.if-p-c-2.false in
+    let delegates : has_right start.p.rights delegating ≡ true = sym c.has.ensures ∙ c.if-not-has.false in
+    let contains : has_rights start.p.rights start.c.rights ≡ true = sym c.has_all.ensures ∙ c.if-not-has_all.false in
     sym (passes held ∙ passes same ∙ passes delegates ∙ passes contains ∙ and-true (leb start.c.weight start.p.weight))
 
 pub drawn_from_spec : {M : Type 1} → statement M

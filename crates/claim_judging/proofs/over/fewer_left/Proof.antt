@@ -4,11 +4,11 @@ use Rattle.claim_judging.proofs.Chains.{fewer_counted}
 use Rattle.claim_judging.proofs.over.fewer_left.Statement.{statement}
 use Rattle.claim_judging.proofs.over.fewer_left.Tie as tie
 
-returns : tie.Need-returns
-returns c = rw (eq-eqb c.before.before.before.args.version 2 c.before.before.if1.true)
+returns : tie.Need-returns-then-version-eq-VERSION_TWO
+returns c = rw (eq-eqb c.args.version 2 c.if-version-eq-VERSION_TWO.true)
 
-returns_2 : tie.Need-returns-2
-returns_2 c = let given = c.before.args in fewer_counted given.version c.if1.false given.steps given.p given.c
+returns_2 : tie.Need-returns
+returns_2 c = let given = c.args in fewer_counted given.version c.if-version-eq-VERSION_TWO.false given.steps given.p given.c
 
 pub fewer_left_spec : {M : Type 1} → statement M
 fewer_left_spec = tie.close (tie.spec returns returns_2)

@@ -9,135 +9,119 @@ use Rattle.coverage.proofs.Ending.{Ending, ending_start, ending_room, ending_wei
 use Rattle.coverage.proofs.gathering.ends.Statement.{statement}
 use Rattle.coverage.proofs.gathering.ends.Tie as tie
 
-abbrev invariant_loop : tie.invariant-loop
+abbrev invariant_loop : tie.invariant-loop-i
 invariant_loop weights expiries ups n long top found₀ i₀ found i = Ending weights expiries ups n top i found
 
-abbrev decreases_loop : tie.decreases-loop
+abbrev decreases_loop : tie.decreases-loop-i
 decreases_loop weights expiries ups n long top found₀ i₀ found i = top - i
 
-loop_holds : tie.Need-loop-init invariant_loop decreases_loop
+loop_holds : tie.Need-loop-i-init invariant_loop decreases_loop
 loop_holds c =
     ending_start
-    (c.least4.ensures
-    ∙ rw (c.before.least3.ensures, c.before.before.least2.ensures, c.before.before.before.least.ensures))
+    (c.least-top.ensures
+    ∙ rw (c.least-2.ensures, c.least-long.ensures, c.least.ensures))
 
-mul_up : tie.Need-overflow-mul-up invariant_loop decreases_loop
+mul_up : tie.Need-offset_bounds-ups-i invariant_loop decreases_loop
 mul_up c =
-    let room = ending_room c.before.loop.invariant c.loop-test.true in
+    let room = ending_room c.loop-i.invariant c.loop-i-test.true in
     search rules
 
-shared_slice_read_up : tie.Need-shared-slice-read-up invariant_loop decreases_loop
-shared_slice_read_up c = ending_up c.before.before.loop.invariant c.before.loop-test.true
+shared_slice_read_up : tie.Need-bounds-ups-i invariant_loop decreases_loop
+shared_slice_read_up c = ending_up c.loop-i.invariant c.loop-i-test.true
 
-cast_up : tie.Need-overflow-cast-up invariant_loop decreases_loop
-cast_up c = Fits-widen tt (c.shared-slice-known4.given c.before.before.loop.i)
+cast_up : tie.Need-overflow_cast-up invariant_loop decreases_loop
+cast_up c = Fits-widen tt (c.shared_slice_known-in-loop-i-1.given c.loop-i.i)
 
-mul_end_under : tie.Need-overflow-mul-end-under invariant_loop decreases_loop
+mul_end_under : tie.Need-offset_bounds-weights-i invariant_loop decreases_loop
 mul_end_under c =
-    let turn = c.before.before in
-    let room = ending_room turn.before.loop.invariant turn.loop-test.true in
+    let room = ending_room c.loop-i.invariant c.loop-i-test.true in
     search rules
 
-shared_slice_read_end_under : tie.Need-shared-slice-read-end-under invariant_loop decreases_loop
+shared_slice_read_end_under : tie.Need-bounds-weights-i invariant_loop decreases_loop
 shared_slice_read_end_under c =
-    let turn = c.before.before.before in
-    ending_weighed turn.before.loop.invariant turn.loop-test.true
+    ending_weighed c.loop-i.invariant c.loop-i-test.true
 
-mul_end_under_2 : tie.Need-overflow-mul-end-under-2 invariant_loop decreases_loop
+mul_end_under_2 : tie.Need-offset_bounds-expiries-i invariant_loop decreases_loop
 mul_end_under_2 c =
-    let turn = c.before.before.before in
-    let room = ending_room turn.before.loop.invariant turn.loop-test.true in
+    let room = ending_room c.loop-i.invariant c.loop-i-test.true in
     search rules
 
-shared_slice_read_end_under_2 : tie.Need-shared-slice-read-end-under-2 invariant_loop decreases_loop
+shared_slice_read_end_under_2 : tie.Need-bounds-expiries-i invariant_loop decreases_loop
 shared_slice_read_end_under_2 c =
-    let turn = c.before.before.before.before in
-    ending_expiring turn.before.loop.invariant turn.loop-test.true
+    ending_expiring c.loop-i.invariant c.loop-i-test.true
 
-cast_end_under : tie.Need-overflow-cast-end-under invariant_loop decreases_loop
-cast_end_under c = Fits-widen tt (c.shared-slice-known6.given c.before.before.before.before.before.loop.i)
+cast_end_under : tie.Need-overflow_cast-expiries invariant_loop decreases_loop
+cast_end_under c = Fits-widen tt (c.shared_slice_known-then-up-i-2-1.given c.loop-i.i)
 
-mul_end_under_3 : tie.Need-overflow-mul-end-under-3 invariant_loop decreases_loop
+mul_end_under_3 : tie.Need-offset_bounds-found-up invariant_loop decreases_loop
 mul_end_under_3 c =
-    let turn = c.before.before.before.before in
-    let room = ending_room turn.before.loop.invariant turn.loop-test.true in
+    let room = ending_room c.loop-i.invariant c.loop-i-test.true in
     search rules
 
-array_read_end_under : tie.Need-array-read-end-under invariant_loop decreases_loop
+array_read_end_under : tie.Need-bounds-found-up invariant_loop decreases_loop
 array_read_end_under c =
-    let turn = c.before.before.before.before in
-    let room = ending_room turn.before.loop.invariant turn.loop-test.true in
-    omega (arith, room, c.before.before.if1.true)
+    let room = ending_room c.loop-i.invariant c.loop-i-test.true in
+    omega (arith, room, c.if-up-i.true)
 
-mul_found : tie.Need-overflow-mul-found invariant_loop decreases_loop
+mul_found : tie.Need-offset_bounds-found-i invariant_loop decreases_loop
 mul_found c =
-    let turn = c.before.before.before.before.before in
-    let room = ending_room turn.before.loop.invariant turn.loop-test.true in
+    let room = ending_room c.loop-i.invariant c.loop-i-test.true in
     search rules
 
-array_write_found : tie.Need-array-write-found invariant_loop decreases_loop
+array_write_found : tie.Need-bounds-found-i invariant_loop decreases_loop
 array_write_found c =
-    let turn = c.before.before.before.before.before in
-    let room = ending_room turn.before.loop.invariant turn.loop-test.true in
+    let room = ending_room c.loop-i.invariant c.loop-i-test.true in
     room
 
-loop_less : tie.Need-loop-smaller invariant_loop decreases_loop
-loop_less c = less _ _ c.before.before.before.before.before.loop-test.true
+loop_less : tie.Need-loop-i-smaller-then-up-i invariant_loop decreases_loop
+loop_less c = less _ _ c.loop-i-test.true
 
 -- a claim whose parent stands before it
-loop_again : tie.Need-loop-preserved invariant_loop decreases_loop
+loop_again : tie.Need-loop-i-preserved-then-up-i invariant_loop decreases_loop
 loop_again c =
-    let turn = c.before.before.before.before.before in
-    ending_drawn turn.before.loop.invariant turn.loop-test.true c.before.before.before.if1.true c.end-under.ensures
+    ending_drawn c.loop-i.invariant c.loop-i-test.true c.if-up-i.true c.end_under.ensures
 
-mul_end_under_4 : tie.Need-overflow-mul-end-under-4 invariant_loop decreases_loop
+mul_end_under_4 : tie.Need-offset_bounds-weights-i-else-up-i invariant_loop decreases_loop
 mul_end_under_4 c =
-    let turn = c.before.before in
-    let room = ending_room turn.before.loop.invariant turn.loop-test.true in
+    let room = ending_room c.loop-i.invariant c.loop-i-test.true in
     search rules
 
-shared_slice_read_end_under_3 : tie.Need-shared-slice-read-end-under-3 invariant_loop decreases_loop
+shared_slice_read_end_under_3 : tie.Need-bounds-weights-i-else-up-i invariant_loop decreases_loop
 shared_slice_read_end_under_3 c =
-    let turn = c.before.before.before in
-    ending_weighed turn.before.loop.invariant turn.loop-test.true
+    ending_weighed c.loop-i.invariant c.loop-i-test.true
 
-mul_end_under_5 : tie.Need-overflow-mul-end-under-5 invariant_loop decreases_loop
+mul_end_under_5 : tie.Need-offset_bounds-expiries-i-else-up-i invariant_loop decreases_loop
 mul_end_under_5 c =
-    let turn = c.before.before.before in
-    let room = ending_room turn.before.loop.invariant turn.loop-test.true in
+    let room = ending_room c.loop-i.invariant c.loop-i-test.true in
     search rules
 
-shared_slice_read_end_under_4 : tie.Need-shared-slice-read-end-under-4 invariant_loop decreases_loop
+shared_slice_read_end_under_4 : tie.Need-bounds-expiries-i-else-up-i invariant_loop decreases_loop
 shared_slice_read_end_under_4 c =
-    let turn = c.before.before.before.before in
-    ending_expiring turn.before.loop.invariant turn.loop-test.true
+    ending_expiring c.loop-i.invariant c.loop-i-test.true
 
-cast_end_under_2 : tie.Need-overflow-cast-end-under-2 invariant_loop decreases_loop
-cast_end_under_2 c = Fits-widen tt (c.shared-slice-known8.given c.before.before.before.before.before.loop.i)
+cast_end_under_2 : tie.Need-overflow_cast-expiries-else-up-i invariant_loop decreases_loop
+cast_end_under_2 c = Fits-widen tt (c.shared_slice_known-else-up-i-2-1.given c.loop-i.i)
 
-mul_found_2 : tie.Need-overflow-mul-found-2 invariant_loop decreases_loop
+mul_found_2 : tie.Need-offset_bounds-found-i-else-up-i invariant_loop decreases_loop
 mul_found_2 c =
-    let turn = c.before.before.before.before.before in
-    let room = ending_room turn.before.loop.invariant turn.loop-test.true in
+    let room = ending_room c.loop-i.invariant c.loop-i-test.true in
     search rules
 
-array_write_found_2 : tie.Need-array-write-found-2 invariant_loop decreases_loop
+array_write_found_2 : tie.Need-bounds-found-i-else-up-i invariant_loop decreases_loop
 array_write_found_2 c =
-    let turn = c.before.before.before.before.before in
-    let room = ending_room turn.before.loop.invariant turn.loop-test.true in
+    let room = ending_room c.loop-i.invariant c.loop-i-test.true in
     room
 
-loop_less_2 : tie.Need-loop-smaller-2 invariant_loop decreases_loop
-loop_less_2 c = less _ _ c.before.before.before.before.before.loop-test.true
+loop_less_2 : tie.Need-loop-i-smaller invariant_loop decreases_loop
+loop_less_2 c = less _ _ c.loop-i-test.true
 
 -- one that has none there
-loop_again_2 : tie.Need-loop-preserved-2 invariant_loop decreases_loop
+loop_again_2 : tie.Need-loop-i-preserved invariant_loop decreases_loop
 loop_again_2 c =
-    let turn = c.before.before.before.before.before in
-    ending_root turn.before.loop.invariant turn.loop-test.true c.before.before.before.if1.false c.end-under2.ensures
+    ending_root c.loop-i.invariant c.loop-i-test.true c.if-up-i.false c.end_under-else-up-i.ensures
 
 returns : tie.Need-returns invariant_loop decreases_loop
-returns c = ending_done c.before.loop.invariant c.loop-test.false
+returns c = ending_done c.loop-i.invariant c.loop-i-test.false
 
 pub ends_spec : {M : Type 1} → statement M
 ends_spec =

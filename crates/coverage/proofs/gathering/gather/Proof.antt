@@ -45,61 +45,55 @@ module _ {holders ends : List ℕ} {n x moment top i count : ℕ} {places : List
   unfolding gathered_by
   gathering_done h = rw (← s.whole, ← collecting_count s.collected h, collecting_places s.collected h)
 
-abbrev invariant_loop : tie.invariant-loop
+abbrev invariant_loop : tie.invariant-loop-i
 invariant_loop holders ends n x moment places₀ count₀ top i₀ places count i = Gathering holders ends n x moment top i count places
 
-abbrev decreases_loop : tie.decreases-loop
+abbrev decreases_loop : tie.decreases-loop-i
 decreases_loop holders ends n x moment places₀ count₀ top i₀ places count i = top - i
 
-loop_holds : tie.Need-loop-init invariant_loop decreases_loop
-loop_holds c = gathering_start c.looked-at.ensures
+loop_holds : tie.Need-loop-i-init invariant_loop decreases_loop
+loop_holds c = gathering_start c.looked_at-top.ensures
 
-shared_slice_read_if1 : tie.Need-shared-slice-read-if1 invariant_loop decreases_loop
+shared_slice_read_if1 : tie.Need-bounds-holders-i invariant_loop decreases_loop
 shared_slice_read_if1 c =
-    let come = c.before.before.loop.invariant in
+    let come = c.loop-i.invariant in
     omega (arith, come.whole, come.within.held)
 
-shared_slice_read_if1_2 : tie.Need-shared-slice-read-if1-2 invariant_loop decreases_loop
+shared_slice_read_if1_2 : tie.Need-bounds-ends-i invariant_loop decreases_loop
 shared_slice_read_if1_2 c =
-    let come = c.before.before.before.loop.invariant in
+    let come = c.loop-i.invariant in
     omega (arith, come.whole, come.within.ending)
 
-cast_places : tie.Need-overflow-cast-places invariant_loop decreases_loop
+cast_places : tie.Need-overflow_cast-places invariant_loop decreases_loop
 cast_places c =
-    let turn = c.before.before.before in
-    let place = gathering_place turn.before.loop.invariant turn.loop-test.true in
+    let place = gathering_place c.loop-i.invariant c.loop-i-test.true in
     search rules
 
-mul_places : tie.Need-overflow-mul-places invariant_loop decreases_loop
+mul_places : tie.Need-offset_bounds-places-count invariant_loop decreases_loop
 mul_places c =
-    let turn = c.before.before.before in
-    let room = gathering_room turn.before.loop.invariant turn.loop-test.true in
+    let room = gathering_room c.loop-i.invariant c.loop-i-test.true in
     search rules
 
-array_write_places : tie.Need-array-write-places invariant_loop decreases_loop
+array_write_places : tie.Need-bounds-places-count invariant_loop decreases_loop
 array_write_places c =
-    let turn = c.before.before.before in
-    let room = gathering_room turn.before.loop.invariant turn.loop-test.true in
+    let room = gathering_room c.loop-i.invariant c.loop-i-test.true in
     search rules
 
-add_count : tie.Need-overflow-add-count invariant_loop decreases_loop
+add_count : tie.Need-overflow_add-count invariant_loop decreases_loop
 add_count c =
-    let turn = c.before.before.before in
-    let room = gathering_room turn.before.loop.invariant turn.loop-test.true in
+    let room = gathering_room c.loop-i.invariant c.loop-i-test.true in
     search rules
 
-loop_again : tie.Need-loop-preserved invariant_loop decreases_loop
+loop_again : tie.Need-loop-i-preserved-then-holders-i invariant_loop decreases_loop
 loop_again c =
-    let turn = c.before.before.before in
-    gathering_covers turn.before.loop.invariant turn.loop-test.true c.if1.true
+    gathering_covers c.loop-i.invariant c.loop-i-test.true c.if-holders-i.true
 
-loop_again_2 : tie.Need-loop-preserved-2 invariant_loop decreases_loop
+loop_again_2 : tie.Need-loop-i-preserved invariant_loop decreases_loop
 loop_again_2 c =
-    let turn = c.before.before.before in
-    gathering_misses turn.before.loop.invariant turn.loop-test.true c.if1.false
+    gathering_misses c.loop-i.invariant c.loop-i-test.true c.if-holders-i.false
 
 returns : tie.Need-returns invariant_loop decreases_loop
-returns c = gathering_done c.before.loop.invariant c.loop-test.false
+returns c = gathering_done c.loop-i.invariant c.loop-i-test.false
 
 pub gather_spec : {M : Type 1} → statement M
 gather_spec =

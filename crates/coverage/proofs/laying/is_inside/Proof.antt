@@ -5,7 +5,7 @@ use Rattle.coverage.proofs.laying.is_inside.Statement.{statement}
 use Rattle.coverage.proofs.laying.is_inside.Tie as tie
 
 returns : tie.Need-returns
-returns c = judged c.before.before.part_at.ensures c.before.part-at2.ensures c.contains.ensures
+returns c = judged c.part_at-outer.ensures c.part_at-inner.ensures c.contains.ensures
 
 pub is_inside_spec : {M : Type 1} → statement M
 is_inside_spec = tie.close (tie.spec (λ c κs. search rules) (λ c κs. search rules) (λ c κs. search rules) returns)

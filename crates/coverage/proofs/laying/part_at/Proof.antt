@@ -6,20 +6,20 @@ use Rattle.coverage.proofs.Parts.{part_unmeasured, part_within}
 use Rattle.coverage.proofs.laying.part_at.Statement.{statement}
 use Rattle.coverage.proofs.laying.part_at.Tie as tie
 
-returns : tie.Need-returns
+returns : tie.Need-returns-then-lens-x
 returns c =
-    let a = c.before.before.before.before.args in
-    sym (part_unmeasured a.bytes.now a.lens.now a.x c.before.if1.true)
+    let a = c.args in
+    sym (part_unmeasured a.bytes.now a.lens.now a.x c.if-lens-x.true)
 
-returns_2 : tie.Need-returns-2
+returns_2 : tie.Need-returns-then-bytes-x
 returns_2 c =
-    let a = c.before.before.before.before.before.args in
-    sym (part_past a.bytes.now a.lens.now a.x c.before.if2.true)
+    let a = c.args in
+    sym (part_past a.bytes.now a.lens.now a.x c.if-bytes-x.true)
 
-returns_3 : tie.Need-returns-3
+returns_3 : tie.Need-returns
 returns_3 c =
-    let a = c.before.before.before.before.before.before.before.args in
-    part_within a.bytes.now a.lens.now a.x c.before.least.result c.before.before.before.if2.false c.before.least.ensures
+    let a = c.args in
+    part_within a.bytes.now a.lens.now a.x c.least-len.result c.if-bytes-x.false c.least-len.ensures
 
 pub part_at_spec : {M : Type 1} → statement M
 part_at_spec =

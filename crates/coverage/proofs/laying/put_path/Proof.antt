@@ -12,35 +12,34 @@ use Rattle.coverage.proofs.Copying.{Copying, copying_start, copying_length, copy
 use Rattle.coverage.proofs.laying.put_path.Statement.{statement}
 use Rattle.coverage.proofs.laying.put_path.Tie as tie
 
-abbrev invariant_loop : tie.invariant-loop
+abbrev invariant_loop : tie.invariant-loop-i
 invariant_loop bytes₀ at o i₀ bytes i = Copying bytes₀ at o.path path_limit i bytes
 
-abbrev decreases_loop : tie.decreases-loop
+abbrev decreases_loop : tie.decreases-loop-i
 decreases_loop bytes₀ at o i₀ bytes i = path_limit - i
 
-returns : tie.Need-returns invariant_loop decreases_loop
+returns : tie.Need-returns-then-bytes-ne-BYTES invariant_loop decreases_loop
 returns c =
-    let long : length c.before.args.t3.path ≡ path_limit = search rules in
-    (long, rw (ne_eqb (length c.before.args.bytes.now) bytes_limit c.if1.true))
+    let long : length c.args.o.path ≡ path_limit = search rules in
+    (long, rw (ne_eqb (length c.args.bytes.now) bytes_limit c.if-bytes-ne-BYTES.true))
 
-loop_holds : tie.Need-loop-init invariant_loop decreases_loop
-loop_holds c = copying_start (search rules) (omega (arith, c.before.requires, c.if1.false))
+loop_holds : tie.Need-loop-i-init invariant_loop decreases_loop
+loop_holds c = copying_start (search rules) (omega (arith, c.requires, c.if-bytes-ne-BYTES.false))
 
-slice_write_bytes : tie.Need-slice-write-bytes invariant_loop decreases_loop
-slice_write_bytes c = omega (arith, copying_length c.before.before.loop.invariant)
+slice_write_bytes : tie.Need-bounds-bytes-at invariant_loop decreases_loop
+slice_write_bytes c = omega (arith, copying_length c.loop-i.invariant)
 
-loop_again : tie.Need-loop-preserved invariant_loop decreases_loop
-loop_again c = copying_next c.before.before.loop.invariant c.before.loop-test.true
+loop_again : tie.Need-loop-i-preserved invariant_loop decreases_loop
+loop_again c = copying_next c.loop-i.invariant c.loop-i-test.true
 
-same_length : tie.Need-same-length invariant_loop decreases_loop
-same_length c = copying_length c.before.loop.invariant
+same_length : tie.Need-shape_of-bytes invariant_loop decreases_loop
+same_length c = copying_length c.loop-i.invariant
 
-returns_2 : tie.Need-returns-2 invariant_loop decreases_loop
-returns_2 c =
-    let tested = c.before.before in (
-      c.before.loop.invariant.long,
-      rw (eq-eqb (length tested.before.args.bytes.now) bytes_limit tested.if1.false) (copying_done c.before.loop.invariant c.loop-test.false),
-    )
+returns_2 : tie.Need-returns invariant_loop decreases_loop
+returns_2 c = (
+  c.loop-i.invariant.long,
+  rw (eq-eqb (length c.args.bytes.now) bytes_limit c.if-bytes-ne-BYTES.false) (copying_done c.loop-i.invariant c.loop-i-test.false),
+)
 
 pub put_path_spec : {M : Type 1} → statement M
 put_path_spec =

@@ -5,17 +5,17 @@ use borrow.Author.Tests.{lt-ltb, le-ltb}
 use Rattle.coverage.proofs.reaching.is_short.Statement.{statement}
 use Rattle.coverage.proofs.reaching.is_short.Tie as tie
 
-returns : tie.Need-returns
-returns c = rw (le-ltb _ _ c.if1.true)
+returns : tie.Need-returns-then-spots-j
+returns c = rw (le-ltb _ _ c.if-spots-j.true)
 
-cast_spot : tie.Need-overflow-cast-spot
-cast_spot c = Fits-widen tt (c.shared-slice-known.given c.before.before.args.j)
+cast_spot : tie.Need-overflow_cast-spot
+cast_spot c = Fits-widen tt (c.shared_slice_known-1.given c.args.j)
 
-returns_2 : tie.Need-returns-2
-returns_2 c = rw (lt-ltb _ _ c.before.before.if1.false, le-ltb _ _ c.if2.true)
+returns_2 : tie.Need-returns-then-lens-spot
+returns_2 c = rw (lt-ltb _ _ c.if-spots-j.false, le-ltb _ _ c.if-lens-spot.true)
 
-returns_3 : tie.Need-returns-3
-returns_3 c = rw (lt-ltb _ _ c.before.before.before.if1.false, lt-ltb _ _ c.before.if2.false)
+returns_3 : tie.Need-returns
+returns_3 c = rw (lt-ltb _ _ c.if-spots-j.false, lt-ltb _ _ c.if-lens-spot.false)
 
 pub is_short_spec : {M : Type 1} → statement M
 is_short_spec =

@@ -13,79 +13,74 @@ use Rattle.coverage.proofs.Nearing.{not_far, is_far, reach_limit}
 use Rattle.coverage.proofs.reaching.nearest_covering.Statement.{statement}
 use Rattle.coverage.proofs.reaching.nearest_covering.Tie as tie
 
-abbrev invariant_loop : tie.invariant-loop
+abbrev invariant_loop : tie.invariant-loop-i
 invariant_loop places count rights spots bytes lens right spot top best₀ bar₀ i₀ best bar i =
     Loop (λ n l. nearest_from (reaching rights spots bytes lens right spot) (reach_at spots bytes lens spot) best bar l) count places top i
     (nearest_covering (take count places) rights spots bytes lens right spot)
 
-abbrev decreases_loop : tie.decreases-loop
+abbrev decreases_loop : tie.decreases-loop-i
 decreases_loop places count rights spots bytes lens right spot top best₀ bar₀ i₀ best bar i = top - i
 
-loop_holds : tie.Need-loop-init invariant_loop decreases_loop
-loop_holds c = start c.least.ensures refl
+loop_holds : tie.Need-loop-i-init invariant_loop decreases_loop
+loop_holds c = start c.least-top.ensures refl
 
-shared_slice_read_j : tie.Need-shared-slice-read-j invariant_loop decreases_loop
-shared_slice_read_j c = omega (arith, c.before.before.before.least.ensures, c.before.loop-test.true)
+shared_slice_read_j : tie.Need-bounds-places-i invariant_loop decreases_loop
+shared_slice_read_j c = omega (arith, c.least-top.ensures, c.loop-i-test.true)
 
-cast_j : tie.Need-overflow-cast-j invariant_loop decreases_loop
-cast_j c = Fits-widen tt (c.shared-slice-known6.given c.before.before.loop.i)
+cast_j : tie.Need-overflow_cast-j invariant_loop decreases_loop
+cast_j c = Fits-widen tt (c.shared_slice_known-in-loop-i-1.given c.loop-i.i)
 
 -- what does not reach so far is passed over
-loop_again : tie.Need-loop-preserved invariant_loop decreases_loop
+loop_again : tie.Need-loop-i-preserved-in-Outside invariant_loop decreases_loop
 loop_again c =
-    let turning = c.before.before.before.before in
-    let a = turning.before.before.before.before.before.before.before.before.args in
-    let s = turning.before.loop in
-    next s.invariant turning.loop-test.true
-    (turn s.invariant 0 turning.loop-test.true
+    let a = c.args in
+    let s = c.loop-i in
+    next s.invariant c.loop-i-test.true
+    (turn s.invariant 0 c.loop-i-test.true
     ∙ nearest_passed (reaching a.rights.now a.spots.now a.bytes.now a.lens.now a.right a.spot)
     (reach_at a.spots.now a.bytes.now a.lens.now a.spot) s.best s.bar _ _
     (not_far a.rights.now a.spots.now a.bytes.now a.lens.now a.right a.spot _ s.bar
-    (sym c.before.before.reach-from.ensures ∙ c.enum_told.given.1)))
+    (sym c.reach_from.ensures ∙ c.in-Outside.is)))
 
 -- a path has at most 64 bytes
-add_bar : tie.Need-overflow-add-bar invariant_loop decreases_loop
+add_bar : tie.Need-overflow_add-bar invariant_loop decreases_loop
 add_bar c =
-    let told = c.before in
-    let turning = told.before.before.before.before in
-    let a = turning.before.before.before.before.before.before.before.before.args in
-    let far = is_far a.rights.now a.spots.now a.bytes.now a.lens.now a.right a.spot _ turning.before.loop.bar _
-    (sym told.before.before.reach-from.ensures ∙ told.length.given.1) in
+    let a = c.args in
+    let far = is_far a.rights.now a.spots.now a.bytes.now a.lens.now a.right a.spot _ c.loop-i.bar _
+    (sym c.reach_from.ensures ∙ c.in-Inside.is) in
     let most = reach_limit a.rights.now a.spots.now a.bytes.now a.lens.now a.right a.spot
-    (get_or a.places.now turning.before.loop.i 0) in
+    (get_or a.places.now c.loop-i.i 0) in
     omega (arith, far.1, most)
 
 -- what does is taken, and a further one must exceed it
-loop_again_2 : tie.Need-loop-preserved-2 invariant_loop decreases_loop
+loop_again_2 : tie.Need-loop-i-preserved invariant_loop decreases_loop
 loop_again_2 c =
-    let told = c.before in
-    let turning = told.before.before.before.before in
-    let a = turning.before.before.before.before.before.before.before.before.args in
-    let s = turning.before.loop in
+    let a = c.args in
+    let s = c.loop-i in
     let far = is_far a.rights.now a.spots.now a.bytes.now a.lens.now a.right a.spot _ s.bar _
-    (sym told.before.before.reach-from.ensures ∙ told.length.given.1) in
-    next s.invariant turning.loop-test.true
-    (turn s.invariant 0 turning.loop-test.true
+    (sym c.reach_from.ensures ∙ c.in-Inside.is) in
+    next s.invariant c.loop-i-test.true
+    (turn s.invariant 0 c.loop-i-test.true
     ∙ nearest_taken (reaching a.rights.now a.spots.now a.bytes.now a.lens.now a.right a.spot)
     (reach_at a.spots.now a.bytes.now a.lens.now a.spot) s.best s.bar _ _ _ far.1 far.0)
 
-returns : tie.Need-returns invariant_loop decreases_loop
+returns : tie.Need-returns-then-bar-eq0 invariant_loop decreases_loop
 returns c =
-    let a = c.before.before.before.before.before.before.before.before.before.args in
-    let s = c.before.before.loop in
+    let a = c.args in
+    let s = c.loop-i in
     sym
-    (done s.invariant c.before.loop-test.false
+    (done s.invariant c.loop-i-test.false
     ∙ nearest_nowhere (reaching a.rights.now a.spots.now a.bytes.now a.lens.now a.right a.spot)
-    (reach_at a.spots.now a.bytes.now a.lens.now a.spot) s.best s.bar c.if1.true)
+    (reach_at a.spots.now a.bytes.now a.lens.now a.spot) s.best s.bar c.if-bar-eq0.true)
 
-returns_2 : tie.Need-returns-2 invariant_loop decreases_loop
+returns_2 : tie.Need-returns invariant_loop decreases_loop
 returns_2 c =
-    let a = c.before.before.before.before.before.before.before.before.before.args in
-    let s = c.before.before.loop in
+    let a = c.args in
+    let s = c.loop-i in
     sym
-    (done s.invariant c.before.loop-test.false
+    (done s.invariant c.loop-i-test.false
     ∙ nearest_best (reaching a.rights.now a.spots.now a.bytes.now a.lens.now a.right a.spot)
-    (reach_at a.spots.now a.bytes.now a.lens.now a.spot) s.best s.bar c.if1.false)
+    (reach_at a.spots.now a.bytes.now a.lens.now a.spot) s.best s.bar c.if-bar-eq0.false)
 
 pub nearest_covering_spec : {M : Type 1} → statement M
 nearest_covering_spec =

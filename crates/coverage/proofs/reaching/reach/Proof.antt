@@ -6,54 +6,51 @@ use Rattle.coverage.proofs.Nearing.{right_missing, right_had, without_right, wit
 use Rattle.coverage.proofs.reaching.reach.Statement.{statement}
 use Rattle.coverage.proofs.reaching.reach.Tie as tie
 
-returns : tie.Need-returns
+returns : tie.Need-returns-then-not-has
 returns c =
-    let a = c.before.before.before.before.before.before.before.args in
+    let a = c.args in
     sym
     (without_right a.rights.now a.spots.now a.bytes.now a.lens.now a.right a.spot a.j
-    (right_missing a.right c.before.before.number_at.ensures c.before.has.ensures c.if1.true))
+    (right_missing a.right c.number_at.ensures c.has.ensures c.if-not-has.true))
 
-returns_2 : tie.Need-returns-2
+returns_2 : tie.Need-returns-then-spots-j
 returns_2 c =
-    let a = c.before.before.before.before.before.before.before.before.args in
+    let a = c.args in
     sym
     (without_spot a.rights.now a.spots.now a.bytes.now a.lens.now a.right a.spot a.j
-    (right_had a.right c.before.before.before.number_at.ensures c.before.before.has.ensures c.before.if1.false)
-    c.if2.true)
+    (right_had a.right c.number_at.ensures c.has.ensures c.if-not-has.false)
+    c.if-spots-j.true)
 
-cast_if3 : tie.Need-overflow-cast-if3
-cast_if3 c = Fits-widen tt (c.shared-slice-known5.given c.before.before.before.before.before.before.before.before.before.args.j)
+cast_if3 : tie.Need-overflow_cast-spots
+cast_if3 c = Fits-widen tt (c.shared_slice_known-5-1.given c.args.j)
 
-returns_3 : tie.Need-returns-3
+returns_3 : tie.Need-returns-then-spots-j-ge-RESOURCES
 returns_3 c =
-    let tests = c.before.before in
-    let a = c.before.before.before.before.before.before.before.before.before.before.args in
+    let a = c.args in
     sym
     (claimed_past a.rights.now a.spots.now a.bytes.now a.lens.now a.right a.spot a.j
-    (right_had a.right tests.before.before.before.number_at.ensures tests.before.before.has.ensures tests.before.if1.false)
-    tests.if2.false c.if3.true)
+    (right_had a.right c.number_at.ensures c.has.ensures c.if-not-has.false)
+    c.if-spots-j.false c.if-spots-j-ge-RESOURCES.true)
 
-returns_4 : tie.Need-returns-4
+returns_4 : tie.Need-returns-then-spot-ge-RESOURCES
 returns_4 c =
-    let tests = c.before.before.before in
-    let a = c.before.before.before.before.before.before.before.before.before.before.before.args in
+    let a = c.args in
     sym
     (used_past a.rights.now a.spots.now a.bytes.now a.lens.now a.right a.spot a.j
-    (right_had a.right tests.before.before.before.number_at.ensures tests.before.before.has.ensures tests.before.if1.false)
-    tests.if2.false c.before.if3.false c.if4.true)
+    (right_had a.right c.number_at.ensures c.has.ensures c.if-not-has.false)
+    c.if-spots-j.false c.if-spots-j-ge-RESOURCES.false c.if-spot-ge-RESOURCES.true)
 
-cast_is_inside : tie.Need-overflow-cast-is-inside
-cast_is_inside c = Fits-widen tt (c.shared-slice-known6.given c.before.before.before.before.before.before.before.before.before.before.before.before.args.j)
+cast_is_inside : tie.Need-overflow_cast-spots-2
+cast_is_inside c = Fits-widen tt (c.shared_slice_known-6-1.given c.args.j)
 
-returns_5 : tie.Need-returns-5
+returns_5 : tie.Need-returns
 returns_5 c =
-    let tests = c.before.before.before.before.before in
-    let a = c.before.before.before.before.before.before.before.before.before.before.before.before.before.args in
-    c.is-inside.ensures
+    let a = c.args in
+    c.is_inside.ensures
     ∙ sym
     (by_paths a.rights.now a.spots.now a.bytes.now a.lens.now a.right a.spot a.j
-    (right_had a.right tests.before.before.before.number_at.ensures tests.before.before.has.ensures tests.before.if1.false)
-    tests.if2.false c.before.before.before.if3.false c.before.before.if4.false)
+    (right_had a.right c.number_at.ensures c.has.ensures c.if-not-has.false)
+    c.if-spots-j.false c.if-spots-j-ge-RESOURCES.false c.if-spot-ge-RESOURCES.false)
 
 pub reach_spec : {M : Type 1} → statement M
 reach_spec =

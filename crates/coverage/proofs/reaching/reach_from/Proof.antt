@@ -6,43 +6,41 @@ use Rattle.coverage.proofs.Nearing.{right_missing, without_right, short_out, out
 use Rattle.coverage.proofs.reaching.reach_from.Statement.{statement}
 use Rattle.coverage.proofs.reaching.reach_from.Tie as tie
 
-returns : tie.Need-returns
+returns : tie.Need-returns-then-not-has
 returns c =
-    let a = c.before.before.before.before.before.before.before.args in
+    let a = c.args in
     sym
     (outside_out a.rights.now a.spots.now a.bytes.now a.lens.now a.right a.spot a.j a.bar
     (without_right a.rights.now a.spots.now a.bytes.now a.lens.now a.right a.spot a.j
-    (right_missing a.right c.before.before.number_at.ensures c.before.has.ensures c.if1.true)))
+    (right_missing a.right c.number_at-held.ensures c.has.ensures c.if-not-has.true)))
 
-returns_2 : tie.Need-returns-2
+returns_2 : tie.Need-returns-then-is_short
 returns_2 c =
-    let a = c.before.before.before.before.before.before.before.before.before.args in
+    let a = c.args in
     sym
     (short_out a.rights.now a.spots.now a.bytes.now a.lens.now a.right a.spot a.j a.bar
-    (sym c.before.is-short.ensures ∙ c.if2.true))
+    (sym c.is_short.ensures ∙ c.if-is_short.true))
 
-returns_3 : tie.Need-returns-3
+returns_3 : tie.Need-returns-in-Outside
 returns_3 c =
-    let a = c.before.before.before.before.before.before.before.before.before.before.before.before.args in
+    let a = c.args in
     sym
     (outside_out a.rights.now a.spots.now a.bytes.now a.lens.now a.right a.spot a.j a.bar
-    (sym c.before.before.reach.ensures ∙ c.enum_told.given.1))
+    (sym c.reach.ensures ∙ c.in-Outside.is))
 
-returns_4 : tie.Need-returns-4
+returns_4 : tie.Need-returns-then-length-bar
 returns_4 c =
-    let told = c.before.before in
-    let a = told.before.before.before.before.before.before.before.before.before.before.before.before.args in
+    let a = c.args in
     sym
     (below_out a.rights.now a.spots.now a.bytes.now a.lens.now a.right a.spot a.j a.bar _
-    (sym told.before.before.reach.ensures ∙ told.length.given.1) c.if3.true)
+    (sym c.reach.ensures ∙ c.in-Inside.is) c.if-length-bar.true)
 
-returns_5 : tie.Need-returns-5
+returns_5 : tie.Need-returns-else-length-bar
 returns_5 c =
-    let told = c.before.before in
-    let a = told.before.before.before.before.before.before.before.before.before.before.before.before.args in
+    let a = c.args in
     sym
     (above_in a.rights.now a.spots.now a.bytes.now a.lens.now a.right a.spot a.j a.bar _
-    (sym told.before.before.reach.ensures ∙ told.length.given.1) c.if3.false)
+    (sym c.reach.ensures ∙ c.in-Inside.is) c.if-length-bar.false)
 
 pub reach_from_spec : {M : Type 1} → statement M
 reach_from_spec =

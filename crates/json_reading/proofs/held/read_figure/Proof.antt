@@ -15,72 +15,64 @@ use Rattle.json_reading.proofs.held.read_figure.Statement.{statement}
 use Rattle.json_reading.proofs.held.read_figure.Tie as tie
 
 -- what the number, the flags or the mark says, at the answer that the match found
-number : (c : tie.After-read-number) (r : NumberAt) → c.read_number.result ≡ r →
-    let a = c.before.before.before.args in NumberSays a.s.now a.at r (take_number (tokens (drop a.at a.s.now)))
+number : (c : tie.After-read_number) (r : NumberAt) → c.read_number.result ≡ r →
+    let a = c.args in NumberSays a.s.now a.at r (take_number (tokens (drop a.at a.s.now)))
 number c r e =
-    let a = c.before.before.before.args in
+    let a = c.args in
     subst (λ (x : NumberAt). NumberSays a.s.now a.at x (take_number (tokens (drop a.at a.s.now)))) e c.read_number.ensures
 
-flags : (c : tie.After-read-settings) (r : Settings) → c.read-settings.result ≡ r →
-    let a = c.before.before.before.before.args in SettingsSays a.s.now a.at r (take_settings (tokens (drop a.at a.s.now)))
+flags : (c : tie.After-read_settings) (r : Settings) → c.read_settings.result ≡ r →
+    let a = c.args in SettingsSays a.s.now a.at r (take_settings (tokens (drop a.at a.s.now)))
 flags c r e =
-    let a = c.before.before.before.before.args in
-    subst (λ (x : Settings). SettingsSays a.s.now a.at x (take_settings (tokens (drop a.at a.s.now)))) e c.read-settings.ensures
+    let a = c.args in
+    subst (λ (x : Settings). SettingsSays a.s.now a.at x (take_settings (tokens (drop a.at a.s.now)))) e c.read_settings.ensures
 
-passed : (c : tie.After-pass-mark) (r : Passed) → c.pass-mark.result ≡ r →
-    let a = c.before.before.before.before.args in PassedSays a.s.now a.at zero_mark r (tokens (drop a.at a.s.now))
+passed : (c : tie.After-pass_mark) (r : Passed) → c.pass_mark.result ≡ r →
+    let a = c.args in PassedSays a.s.now a.at zero_mark r (tokens (drop a.at a.s.now))
 passed c r e =
-    let a = c.before.before.before.before.args in
-    subst (λ (x : Passed). PassedSays a.s.now a.at zero_mark x (tokens (drop a.at a.s.now))) e c.pass-mark.ensures
+    let a = c.args in
+    subst (λ (x : Passed). PassedSays a.s.now a.at zero_mark x (tokens (drop a.at a.s.now))) e c.pass_mark.ensures
 
-returns : tie.Need-returns
+returns : tie.Need-returns-in-Is
 returns c =
-    let m = c.before.before.before.before in
-    let a = m.before.before.before.args in
-    let t = number m _ c.before.before.n.given.1 in
+    let a = c.args in
+    let t = number c.before.before _ c.in-Is.is in
     says_held a.s.now a.at a.key _ _ _ _ _ 0 0
-    (actor_took _ _ _ _ m.before.if1.true t.0) c.held_number.ensures (omega arith) (omega arith)
-    (λ numbers. holds_figure _ numbers _ _ _ _ _ (rw m.before.if1.true) refl)
+    (actor_took _ _ _ _ c.if-key-eq-ACTOR.true t.0) c.held_number.ensures (omega arith) (omega arith)
+    (λ numbers. holds_figure _ numbers _ _ _ _ _ (rw c.if-key-eq-ACTOR.true) refl)
 
-returns_2 : tie.Need-returns-2
+returns_2 : tie.Need-returns-in-Not
 returns_2 c =
-    let m = c.before.before.before in
-    let a = m.before.before.before.args in
-    says_missed a.s.now a.at a.key _ _ (actor_missed _ _ m.before.if1.true (number m _ c.before.enum_told.given.1)) c.not_held.ensures
+    let a = c.args in
+    says_missed a.s.now a.at a.key _ _ (actor_missed _ _ c.if-key-eq-ACTOR.true (number c.before.before _ c.in-Not.is)) c.not_held.ensures
 
-returns_3 : tie.Need-returns-3
+returns_3 : tie.Need-returns-in-Are
 returns_3 c =
-    let m = c.before.before.before.before in
-    let a = m.before.before.before.before.args in
-    let t = flags m _ c.before.before.flags.given.1 in
+    let a = c.args in
+    let t = flags c.before.before _ c.in-Are.is in
     says_held a.s.now a.at a.key _ _ _ _ _ 0 0
-    (flags_took _ _ _ _ m.before.if2.true t.1) c.held-number2.ensures (omega (arith, t.3)) (omega (arith, t.3))
-    (λ numbers. holds_flags _ numbers _ _ _ _ _ m.before.if2.true (sym t.2))
+    (flags_took _ _ _ _ c.if-key-eq-SETTINGS.true t.1) c.held_number-in-Are.ensures (omega (arith, t.3)) (omega (arith, t.3))
+    (λ numbers. holds_flags _ numbers _ _ _ _ _ c.if-key-eq-SETTINGS.true (sym t.2))
 
-returns_4 : tie.Need-returns-4
+returns_4 : tie.Need-returns-in-Not-read_settings
 returns_4 c =
-    let m = c.before.before.before in
-    let a = m.before.before.before.before.args in
-    says_missed a.s.now a.at a.key _ _ (flags_missed _ _ m.before.if2.true (flags m _ c.before.enum-told2.given.1)) c.not-held2.ensures
+    let a = c.args in
+    says_missed a.s.now a.at a.key _ _ (flags_missed _ _ c.if-key-eq-SETTINGS.true (flags c.before.before _ c.in-Not-read_settings.is)) c.not_held-in-Not-read_settings.ensures
 
-returns_5 : tie.Need-returns-5
+returns_5 : tie.Need-returns-in-At
 returns_5 c =
-    let m = c.before.before.before.before in
-    let s = m.before.before.before.before in
-    let a = s.args in
-    let t = passed m _ c.before.before.next.given.1 in
-    let last = depth_last a.key s.requires m.before.before.if1.false m.before.if2.false in
+    let a = c.args in
+    let t = passed c.before.before _ c.in-At.is in
+    let last = depth_last a.key c.requires c.if-key-eq-ACTOR.false c.if-key-eq-SETTINGS.false in
     says_held a.s.now a.at a.key _ _ _ _ 0 0 0
-    (depth_took _ _ _ last t.0) c.held-number3.ensures (omega arith) (omega arith)
+    (depth_took _ _ _ last t.0) c.held_number-in-At.ensures (omega arith) (omega arith)
     (λ numbers. holds_nothing _ numbers _ _ _ _ _ (omega arith))
 
-returns_6 : tie.Need-returns-6
+returns_6 : tie.Need-returns-in-Not-pass_mark
 returns_6 c =
-    let m = c.before.before.before in
-    let s = m.before.before.before.before in
-    let a = s.args in
-    let last = depth_last a.key s.requires m.before.before.if1.false m.before.if2.false in
-    says_missed a.s.now a.at a.key _ _ (depth_missed _ _ last (passed m _ c.before.enum-told3.given.1)) c.not-held3.ensures
+    let a = c.args in
+    let last = depth_last a.key c.requires c.if-key-eq-ACTOR.false c.if-key-eq-SETTINGS.false in
+    says_missed a.s.now a.at a.key _ _ (depth_missed _ _ last (passed c.before.before _ c.in-Not-pass_mark.is)) c.not_held-in-Not-pass_mark.ensures
 
 pub read_figure_spec : {M : Type 1} → statement M
 read_figure_spec =

@@ -15,56 +15,51 @@ use Rattle.json_reading.proofs.held.read_value.Statement.{statement}
 use Rattle.json_reading.proofs.held.read_value.Tie as tie
 
 -- what the list of numbers says, at the answer that the match found
-told : (c : tie.After-read-numbers) (r : Numbers) → c.read-numbers.result ≡ r →
-    let a = c.before.before.before.before.before.args in
-    NumbersSays a.s.now a.at (block_of a.key) a.numbers.now c.read-numbers.new.1.1.0 r
+told : (c : tie.After-read_numbers) (r : Numbers) → c.read_numbers.result ≡ r →
+    let a = c.args in
+    NumbersSays a.s.now a.at (block_of a.key) a.numbers.now c.read_numbers.new.numbers r
     (limited (take_numbers (tokens (drop a.at a.s.now))))
 told c r e =
-    let a = c.before.before.before.before.before.args in
-    subst (λ (x : Numbers). NumbersSays a.s.now a.at (block_of a.key) a.numbers.now c.read-numbers.new.1.1.0 x
-    (limited (take_numbers (tokens (drop a.at a.s.now))))) e c.read-numbers.ensures
+    let a = c.args in
+    subst (λ (x : Numbers). NumbersSays a.s.now a.at (block_of a.key) a.numbers.now c.read_numbers.new.numbers x
+    (limited (take_numbers (tokens (drop a.at a.s.now))))) e c.read_numbers.ensures
 
-sub_base : tie.Need-overflow-sub-base
-sub_base c = omega (arith, list_key c.before.before.before.args.key c.if1.true)
+sub_base : tie.Need-overflow_sub-base
+sub_base c = omega (arith, list_key c.args.key c.if-key.true)
 
-read_numbers_requires : tie.Need-read-numbers-requires
-read_numbers_requires c κs = omega (arith, list_key c.before.before.before.before.args.key c.before.if1.true)
+read_numbers_requires : tie.Need-read_numbers-requires
+read_numbers_requires c κs = omega (arith, list_key c.args.key c.if-key.true)
 
-returns : tie.Need-returns
+returns : tie.Need-returns-in-Are
 returns c =
-    let m = c.before.before.before.before.before in
-    let b = m.before.before.before.before.before in
-    let a = b.args in
-    let inside = list_key a.key m.before.before.if1.true in
-    let t = told m _ c.before.len.given.1 in (
-      list_held a.s.now a.numbers.now _ a.at a.key inside.0 inside.1 b.requires.1 t.0 _ _ t.1 t.2 t.3 t.4 t.5,
-      λ kept. list_apart a.s.now a.numbers.now _ a.at a.key inside.0 inside.1 b.requires.1 t.0 (omega (arith, t.2, t.3)) t.4,
+    let a = c.args in
+    let inside = list_key a.key c.if-key.true in
+    let t = told c.before.before.before _ c.in-Are.is in (
+      list_held a.s.now a.numbers.now _ a.at a.key inside.0 inside.1 c.requires.1 t.0 _ _ t.1 t.2 t.3 t.4 t.5,
+      λ kept. list_apart a.s.now a.numbers.now _ a.at a.key inside.0 inside.1 c.requires.1 t.0 (omega (arith, t.2, t.3)) t.4,
     )
 
-returns_2 : tie.Need-returns-2
+returns_2 : tie.Need-returns-in-Not
 returns_2 c =
-    let m = c.before.before.before.before.before in
-    let b = m.before.before.before.before.before in
-    let a = b.args in
-    let inside = list_key a.key m.before.before.if1.true in (
-      list_missed a.s.now a.numbers.now _ a.at a.key inside.0 inside.1 b.requires.1 _
-          (told m _ c.before.enum_told.given.1) c.not_held.ensures,
+    let a = c.args in
+    let inside = list_key a.key c.if-key.true in (
+      list_missed a.s.now a.numbers.now _ a.at a.key inside.0 inside.1 c.requires.1 _
+          (told c.before.before.before.before _ c.in-Not.is) c.not_held.ensures,
       λ kept. clash c.not_held.result.ok kept c.not_held.ensures,
     )
 
-read_text_requires : tie.Need-read-text-requires
-read_text_requires c κs = text_key c.before.before.before.before.args.key c.if2.true
+read_text_requires : tie.Need-read_text-requires
+read_text_requires c κs = text_key c.args.key c.if-key-2.true
 
-returns_3 : tie.Need-returns-3
-returns_3 c = (c.read-text.ensures _, λ kept k n first last other few. refl)
+returns_3 : tie.Need-returns-then-key-2
+returns_3 c = (c.read_text.ensures _, λ kept k n first last other few. refl)
 
-read_figure_requires : tie.Need-read-figure-requires
+read_figure_requires : tie.Need-read_figure-requires
 read_figure_requires c κs =
-    let b = c.before.before.before.before in
-    figure_key b.args.key b.requires.0 c.before.if1.false c.if2.false
+    figure_key c.args.key c.requires.0 c.if-key.false c.if-key-2.false
 
-returns_4 : tie.Need-returns-4
-returns_4 c = (c.read-figure.ensures _, λ kept k n first last other few. refl)
+returns_4 : tie.Need-returns
+returns_4 c = (c.read_figure.ensures _, λ kept k n first last other few. refl)
 
 pub read_value_spec : {M : Type 1} → statement M
 read_value_spec =

@@ -13,35 +13,30 @@ use Rattle.json_reading.proofs.marks.pass_mark.Statement.{statement}
 use Rattle.json_reading.proofs.marks.pass_mark.Tie as tie
 
 -- what the token says, at the answer that the match found
-told : (c : tie.After-next-token) (r : TokenAt) → c.next-token.result ≡ r →
-    let a = c.before.before.args in
+told : (c : tie.After-next_token) (r : TokenAt) → c.next_token.result ≡ r →
+    let a = c.args in
     TokenSays a.s.now a.at r (tokens (drop a.at a.s.now))
 told c r e =
-    let a = c.before.before.args in
-    subst (λ (x : TokenAt). TokenSays a.s.now a.at x (tokens (drop a.at a.s.now))) e c.next-token.ensures
+    let a = c.args in
+    subst (λ (x : TokenAt). TokenSays a.s.now a.at x (tokens (drop a.at a.s.now))) e c.next_token.ensures
 
-returns : tie.Need-returns
+returns : tie.Need-returns-then-b-mark
 returns c =
-    let k = c.before.before in
-    let r = k.before.before in
-    let f = k.b.given in
-    let says = told r _ f.1 in
-    (says.0 ∙ ap (λ (b : ℕ). mark b ∷ tokens (drop f.0.1.0 r.before.before.args.s.now)) c.if1.true, (says.1, says.2))
+    let says = told c.before.before _ c.in-Mark.is in
+    (says.0 ∙ ap (λ (b : ℕ). mark b ∷ tokens (drop c.in-Mark.next c.args.s.now)) c.if-b-mark.true, (says.1, says.2))
 
-returns_2 : tie.Need-returns-2
+returns_2 : tie.Need-returns-else-b-mark
 returns_2 c =
-    let k = c.before.before in
-    let r = k.before.before in
-    ap (is_marked r.before.before.args.mark) (told r _ k.b.given.1).0 ∙ ne_eqb _ _ c.if1.false
+    ap (is_marked c.args.mark) (told c.before.before _ c.in-Mark.is).0 ∙ ne_eqb _ _ c.if-b-mark.false
 
-returns_3 : tie.Need-returns-3
-returns_3 c = let r = c.before.before in ap (is_marked r.before.before.args.mark) (told r _ c.enum_told.given.1).0
+returns_3 : tie.Need-returns-in-Text
+returns_3 c = ap (is_marked c.args.mark) (told c.before _ c.in-Text.is).0
 
-returns_4 : tie.Need-returns-4
-returns_4 c = let r = c.before.before in ap (is_marked r.before.before.args.mark) (told r _ c.enum-told2.given.1)
+returns_4 : tie.Need-returns-in-End
+returns_4 c = ap (is_marked c.args.mark) (told c.before _ c.in-End.is)
 
-returns_5 : tie.Need-returns-5
-returns_5 c = let r = c.before.before in ap (is_marked r.before.before.args.mark) (told r _ c.enum-told3.given.1)
+returns_5 : tie.Need-returns-in-Bad
+returns_5 c = ap (is_marked c.args.mark) (told c.before _ c.in-Bad.is)
 
 pub pass_mark_spec : {M : Type 1} → statement M
 pass_mark_spec =

@@ -11,44 +11,38 @@ use Rattle.json_reading.proofs.marks.read_separator.Statement.{statement}
 use Rattle.json_reading.proofs.marks.read_separator.Tie as tie
 
 -- what the token says, at the answer that the match found
-told : (c : tie.After-next-token) (r : TokenAt) → c.next-token.result ≡ r →
-    let a = c.before.before.args in
+told : (c : tie.After-next_token) (r : TokenAt) → c.next_token.result ≡ r →
+    let a = c.args in
     TokenSays a.s.now a.at r (tokens (drop a.at a.s.now))
 told c r e =
-    let a = c.before.before.args in
-    subst (λ (x : TokenAt). TokenSays a.s.now a.at x (tokens (drop a.at a.s.now))) e c.next-token.ensures
+    let a = c.args in
+    subst (λ (x : TokenAt). TokenSays a.s.now a.at x (tokens (drop a.at a.s.now))) e c.next_token.ensures
 
-returns : tie.Need-returns
+returns : tie.Need-returns-then-b-eq-COMMA
 returns c =
-    let k = c.before.before in
-    let r = k.before.before in
-    let a = r.before.before.args in
-    let says = told r _ k.b.given.1 in
-    (ap (separation a.close) says.0 ∙ separation_comma a.close _ _ c.if1.true, (says.1, says.2))
+    let a = c.args in
+    let says = told c.before.before _ c.in-Mark.is in
+    (ap (separation a.close) says.0 ∙ separation_comma a.close _ _ c.if-b-eq-COMMA.true, (says.1, says.2))
 
-returns_2 : tie.Need-returns-2
+returns_2 : tie.Need-returns-then-b-close
 returns_2 c =
-    let k = c.before.before.before in
-    let r = k.before.before in
-    let a = r.before.before.args in
-    let says = told r _ k.b.given.1 in
-    (ap (separation a.close) says.0 ∙ separation_close a.close _ _ c.before.if1.false c.if2.true, (says.1, says.2))
+    let a = c.args in
+    let says = told c.before.before.before _ c.in-Mark.is in
+    (ap (separation a.close) says.0 ∙ separation_close a.close _ _ c.if-b-eq-COMMA.false c.if-b-close.true, (says.1, says.2))
 
-returns_3 : tie.Need-returns-3
+returns_3 : tie.Need-returns-else-b-close
 returns_3 c =
-    let k = c.before.before.before in
-    let r = k.before.before in
-    let a = r.before.before.args in
-    ap (separation a.close) (told r _ k.b.given.1).0 ∙ separation_other a.close _ _ c.before.if1.false c.if2.false
+    let a = c.args in
+    ap (separation a.close) (told c.before.before.before _ c.in-Mark.is).0 ∙ separation_other a.close _ _ c.if-b-eq-COMMA.false c.if-b-close.false
 
-returns_4 : tie.Need-returns-4
-returns_4 c = let r = c.before.before in ap (separation r.before.before.args.close) (told r _ c.enum_told.given.1).0
+returns_4 : tie.Need-returns-in-Text
+returns_4 c = ap (separation c.args.close) (told c.before _ c.in-Text.is).0
 
-returns_5 : tie.Need-returns-5
-returns_5 c = let r = c.before.before in ap (separation r.before.before.args.close) (told r _ c.enum-told2.given.1)
+returns_5 : tie.Need-returns-in-End
+returns_5 c = ap (separation c.args.close) (told c.before _ c.in-End.is)
 
-returns_6 : tie.Need-returns-6
-returns_6 c = let r = c.before.before in ap (separation r.before.before.args.close) (told r _ c.enum-told3.given.1)
+returns_6 : tie.Need-returns-in-Bad
+returns_6 c = ap (separation c.args.close) (told c.before _ c.in-Bad.is)
 
 pub read_separator_spec : {M : Type 1} → statement M
 read_separator_spec =

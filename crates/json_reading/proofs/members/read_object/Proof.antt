@@ -14,56 +14,42 @@ use Rattle.json_reading.proofs.members.read_object.Statement.{statement}
 use Rattle.json_reading.proofs.members.read_object.Tie as tie
 
 -- what the reading of the opening brace says, at the answer that the match found
-mark_told : (c : tie.After-pass-mark) (r : Passed) → c.pass-mark.result ≡ r →
-    let a = c.before.before.before.args in
+mark_told : (c : tie.After-pass_mark) (r : Passed) → c.pass_mark.result ≡ r →
+    let a = c.args in
     PassedSays a.s.now 0 opens_object r (tokens a.s.now)
 mark_told c r e =
-    let a = c.before.before.before.args in
-    subst (λ (x : Passed). PassedSays a.s.now 0 opens_object x (tokens a.s.now)) e c.pass-mark.ensures
+    let a = c.args in
+    subst (λ (x : Passed). PassedSays a.s.now 0 opens_object x (tokens a.s.now)) e c.pass_mark.ensures
 
 -- and that of what follows the members
-token_told : (c : tie.After-next-token) (r : TokenAt) → c.next-token.result ≡ r →
-    let m = c.before.before.before in
-    let s = m.before.before.before.before.before.before.before.before.args.s.now in
-    TokenSays s m.read_members_lem.result.next r (tokens (drop m.read_members_lem.result.next s))
+token_told : (c : tie.After-next_token) (r : TokenAt) → c.next_token.result ≡ r →
+    let s = c.args.s.now in
+    TokenSays s c.read_members-draft.result.next r (tokens (drop c.read_members-draft.result.next s))
 token_told c r e =
-    let m = c.before.before.before in
-    let s = m.before.before.before.before.before.before.before.before.args.s.now in
-    subst (λ (x : TokenAt). TokenSays s m.read_members_lem.result.next x (tokens (drop m.read_members_lem.result.next s))) e c.next-token.ensures
+    let s = c.args.s.now in
+    subst (λ (x : TokenAt). TokenSays s c.read_members-draft.result.next x (tokens (drop c.read_members-draft.result.next s))) e c.next_token.ensures
 
-returns : tie.Need-returns
+returns : tie.Need-returns-in-End
 returns c =
-    let p = c.before.before in
-    let m = p.before.before.before in
-    let b = m.before.before.before in
-    object_ended _ _ (mark_told b.before.before _ b.begun.given.1).0 _ m.read_members_lem.ensures (token_told p _ c.enum_told.given.1)
+    object_ended _ _ (mark_told c.before.before.before.before.before.before.before _ c.in-At.is).0 _ c.read_members-draft.ensures (token_told c.before _ c.in-End.is)
 
-returns_2 : tie.Need-returns-2
+returns_2 : tie.Need-returns-in-Mark
 returns_2 c =
-    let p = c.before.before.before in
-    let m = p.before.before.before in
-    let b = m.before.before.before in
-    object_followed _ _ (mark_told b.before.before _ b.begun.given.1).0 _ m.read_members_lem.ensures _ _ _
-    (token_told p _ c.before.enum-told2.given.1).0 (ap (λ (d : Draft). d.ok) c.no-draft.ensures)
+    object_followed _ _ (mark_told c.before.before.before.before.before.before.before.before _ c.in-At.is).0 _ c.read_members-draft.ensures _ _ _
+    (token_told c.before.before _ c.in-Mark.is).0 (ap (λ (d : Draft). d.ok) c.no_draft.ensures)
 
-returns_3 : tie.Need-returns-3
+returns_3 : tie.Need-returns-in-Text
 returns_3 c =
-    let p = c.before.before.before in
-    let m = p.before.before.before in
-    let b = m.before.before.before in
-    object_followed _ _ (mark_told b.before.before _ b.begun.given.1).0 _ m.read_members_lem.ensures _ _ _
-    (token_told p _ c.before.enum-told3.given.1).0 (ap (λ (d : Draft). d.ok) c.no-draft2.ensures)
+    object_followed _ _ (mark_told c.before.before.before.before.before.before.before.before _ c.in-At.is).0 _ c.read_members-draft.ensures _ _ _
+    (token_told c.before.before _ c.in-Text.is).0 (ap (λ (d : Draft). d.ok) c.no_draft-in-Text.ensures)
 
-returns_4 : tie.Need-returns-4
+returns_4 : tie.Need-returns-in-Bad
 returns_4 c =
-    let p = c.before.before.before in
-    let m = p.before.before.before in
-    let b = m.before.before.before in
-    object_followed _ _ (mark_told b.before.before _ b.begun.given.1).0 _ m.read_members_lem.ensures _ _ _
-    (token_told p _ c.before.enum-told4.given.1) (ap (λ (d : Draft). d.ok) c.no-draft3.ensures)
+    object_followed _ _ (mark_told c.before.before.before.before.before.before.before.before _ c.in-At.is).0 _ c.read_members-draft.ensures _ _ _
+    (token_told c.before.before _ c.in-Bad.is) (ap (λ (d : Draft). d.ok) c.no_draft-in-Bad.ensures)
 
-returns_5 : tie.Need-returns-5
-returns_5 c = object_unopened _ _ (mark_told c.before.before.before _ c.before.enum-told5.given.1) (ap (λ (d : Draft). d.ok) c.no-draft4.ensures)
+returns_5 : tie.Need-returns-in-Not
+returns_5 c = object_unopened _ _ (mark_told c.before.before _ c.in-Not.is) (ap (λ (d : Draft). d.ok) c.no_draft-in-Not.ensures)
 
 pub read_object_spec : {M : Type 1} → statement M
 read_object_spec =

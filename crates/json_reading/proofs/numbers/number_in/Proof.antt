@@ -11,26 +11,22 @@ use Rattle.json_reading.proofs.numbers.number_in.Statement.{statement}
 use Rattle.json_reading.proofs.numbers.number_in.Tie as tie
 
 -- what the number's reading says, at the answer that the match found
-told : (c : tie.After-read-number) (r : Number) → c.read_number.result ≡ r → let x = c.before.before.args.x.now in Says x r (parse id_limit x)
-told c r e = let x = c.before.before.args.x.now in subst (λ (y : Number). Says x y (parse id_limit x)) e c.read_number.ensures
+told : (c : tie.After-read_number) (r : Number) → c.read_number.result ≡ r → let x = c.args.x.now in Says x r (parse id_limit x)
+told c r e = let x = c.args.x.now in subst (λ (y : Number). Says x y (parse id_limit x)) e c.read_number.ensures
 
-returns : tie.Need-returns
+returns : tie.Need-returns-then-next-x
 returns c =
-    let k = c.before.before in
-    let r = k.before.before in
-    exact_behind r.before.before.args.x.now _ _ _ (told r _ k.n.given.1).0 c.if1.true
+    exact_behind c.args.x.now _ _ _ (told c.before.before _ c.in-Value.is).0 c.if-next-x.true
 
-returns_2 : tie.Need-returns-2
+returns_2 : tie.Need-returns-else-next-x
 returns_2 c =
-    let k = c.before.before in
-    let r = k.before.before in
-    exact_whole r.before.before.args.x.now _ _ _ (told r _ k.n.given.1).0 c.if1.false
+    exact_whole c.args.x.now _ _ _ (told c.before.before _ c.in-Value.is).0 c.if-next-x.false
 
-returns_3 : tie.Need-returns-3
-returns_3 c = let r = c.before.before in ap is_exact (told r _ c.enum_told.given.1).0
+returns_3 : tie.Need-returns-in-Large
+returns_3 c = ap is_exact (told c.before _ c.in-Large.is).0
 
-returns_4 : tie.Need-returns-4
-returns_4 c = let r = c.before.before in ap is_exact (told r _ c.enum-told2.given.1)
+returns_4 : tie.Need-returns-in-Bad
+returns_4 c = ap is_exact (told c.before _ c.in-Bad.is)
 
 pub number_in_spec : {M : Type 1} → statement M
 number_in_spec =

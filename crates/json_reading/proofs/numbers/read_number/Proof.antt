@@ -17,62 +17,53 @@ use Rattle.json_reading.proofs.numbers.read_number.Statement.{statement}
 use Rattle.json_reading.proofs.numbers.read_number.Tie as tie
 
 -- what the token says, at the answer that the match found
-told : (c : tie.After-next-token) (r : TokenAt) → c.next-token.result ≡ r →
-    let a = c.before.before.args in
+told : (c : tie.After-next_token) (r : TokenAt) → c.next_token.result ≡ r →
+    let a = c.args in
     TokenSays a.s.now a.at r (tokens (drop a.at a.s.now))
 told c r e =
-    let a = c.before.before.args in
-    subst (λ (x : TokenAt). TokenSays a.s.now a.at x (tokens (drop a.at a.s.now))) e c.next-token.ensures
+    let a = c.args in
+    subst (λ (x : TokenAt). TokenSays a.s.now a.at x (tokens (drop a.at a.s.now))) e c.next_token.ensures
 
 -- what the text in quotes says
-told_text : (c : tie.After-number-in) (r : Exact) → c.number_in.result ≡ r →
-    let f = c.before.before.before.from.given in
-    let s = c.before.before.before.before.before.before.before.args.s.now in
-    ExactSays r (parse id_limit (part f.0.0 f.0.1.0 s))
+told_text : (c : tie.After-number_in) (r : Exact) → c.number_in.result ≡ r →
+    let s = c.args.s.now in
+    ExactSays r (parse id_limit (part c.in-Text.from c.in-Text.end s))
 told_text c r e =
-    let f = c.before.before.before.from.given in
-    let s = c.before.before.before.before.before.before.before.args.s.now in
-    subst (λ (x : Exact). ExactSays x (parse id_limit (part f.0.0 f.0.1.0 s))) e c.number_in.ensures
+    let s = c.args.s.now in
+    subst (λ (x : Exact). ExactSays x (parse id_limit (part c.in-Text.from c.in-Text.end s))) e c.number_in.ensures
 
-sub_number_in : tie.Need-overflow-sub-number-in
-sub_number_in c = let k = c.before in let says = told k.before.before _ k.from.given.1 in omega arith
+sub_number_in : tie.Need-slice_bounds-number_in-count
+sub_number_in c = let says = told c.before _ c.in-Text.is in omega arith
 
-part_number_in_start : tie.Need-slice-bounds-number-in-start
-part_number_in_start c = let k = c.before in let says = told k.before.before _ k.from.given.1 in omega arith
+part_number_in_start : tie.Need-slice_bounds-number_in-start
+part_number_in_start c = let says = told c.before _ c.in-Text.is in omega arith
 
-part_number_in_end : tie.Need-slice-bounds-number-in-end
-part_number_in_end c = let k = c.before in let says = told k.before.before _ k.from.given.1 in omega arith
+part_number_in_end : tie.Need-slice_bounds-number_in-end
+part_number_in_end c = let says = told c.before _ c.in-Text.is in omega arith
 
-add_t14 : tie.Need-overflow-add-t14
+add_t14 : tie.Need-overflow_add-result
 add_t14 c =
-    let k = c.before.before.before.before.before.before in
-    let says = told k.before.before _ k.from.given.1 in
+    let says = told c.before.before.before.before _ c.in-Text.is in
     omega arith
 
-returns : tie.Need-returns
+returns : tie.Need-returns-in-Is
 returns c =
-    let n = c.before in
-    let i = n.before.before in
-    let k = i.before.before.before in
-    let r = k.before.before in
-    let says = told r _ k.from.given.1 in
-    let holds = told_text i _ n.n.given.1 in
+    let says = told c.before.before.before.before _ c.in-Text.is in
+    let holds = told_text c.before _ c.in-Is.is in
     (ap take_number says.0 ∙ number_taken _ _ _ holds.0 holds.1, (omega arith, omega arith))
 
-returns_2 : tie.Need-returns-2
+returns_2 : tie.Need-returns-in-Not
 returns_2 c =
-    let i = c.before.before in
-    let k = i.before.before.before in
-    ap take_number (told k.before.before _ k.from.given.1).0 ∙ number_inexact _ _ (told_text i _ c.enum_told.given.1)
+    ap take_number (told c.before.before.before.before _ c.in-Text.is).0 ∙ number_inexact _ _ (told_text c.before _ c.in-Not.is)
 
-returns_3 : tie.Need-returns-3
-returns_3 c = ap take_number (told c.before.before _ c.enum-told2.given.1).0 ∙ number_mark _ _
+returns_3 : tie.Need-returns-in-Mark
+returns_3 c = ap take_number (told c.before _ c.in-Mark.is).0 ∙ number_mark _ _
 
-returns_4 : tie.Need-returns-4
-returns_4 c = ap take_number (told c.before.before _ c.enum-told3.given.1) ∙ number_nil
+returns_4 : tie.Need-returns-in-End
+returns_4 c = ap take_number (told c.before _ c.in-End.is) ∙ number_nil
 
-returns_5 : tie.Need-returns-5
-returns_5 c = ap take_number (told c.before.before _ c.enum-told4.given.1) ∙ number_no_token _
+returns_5 : tie.Need-returns-in-Bad
+returns_5 c = ap take_number (told c.before _ c.in-Bad.is) ∙ number_no_token _
 
 pub read_number_spec : {M : Type 1} → statement M
 read_number_spec =

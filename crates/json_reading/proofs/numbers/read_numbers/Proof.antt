@@ -11,47 +11,37 @@ use Rattle.json_reading.proofs.numbers.read_numbers.Statement.{statement}
 use Rattle.json_reading.proofs.numbers.read_numbers.Tie as tie
 
 -- whether the list is opened, at the answer that the match found
-told : (c : tie.After-pass-mark) (r : Passed) → c.pass-mark.result ≡ r →
-    let a = c.before.before.before.args in
+told : (c : tie.After-pass_mark) (r : Passed) → c.pass_mark.result ≡ r →
+    let a = c.args in
     PassedSays a.s.now a.at opens_list r (tokens (drop a.at a.s.now))
 told c r e =
-    let a = c.before.before.before.args in
-    subst (λ (x : Passed). PassedSays a.s.now a.at opens_list x (tokens (drop a.at a.s.now))) e c.pass-mark.ensures
+    let a = c.args in
+    subst (λ (x : Passed). PassedSays a.s.now a.at opens_list x (tokens (drop a.at a.s.now))) e c.pass_mark.ensures
 
 -- and closed at once
-told_close : (c : tie.After-pass-mark2) (r : Passed) → c.pass-mark2.result ≡ r →
-    let k = c.before.before in
-    let s = k.before.before.before.before.before.args.s.now in
-    PassedSays s k.begun.given.0.0 closes_list r (tokens (drop k.begun.given.0.0 s))
+told_close : (c : tie.After-pass_mark-in-At) (r : Passed) → c.pass_mark-in-At.result ≡ r →
+    let s = c.args.s.now in
+    PassedSays s c.in-At.begun closes_list r (tokens (drop c.in-At.begun s))
 told_close c r e =
-    let k = c.before.before in
-    let s = k.before.before.before.before.before.args.s.now in
-    subst (λ (x : Passed). PassedSays s k.begun.given.0.0 closes_list x (tokens (drop k.begun.given.0.0 s))) e c.pass-mark2.ensures
+    let s = c.args.s.now in
+    subst (λ (x : Passed). PassedSays s c.in-At.begun closes_list x (tokens (drop c.in-At.begun s))) e c.pass_mark-in-At.ensures
 
-returns : tie.Need-returns
+returns : tie.Need-returns-in-At-pass_mark
 returns c =
-    let d = c.before.before.before in
-    let k = d.before.before in
-    let r = k.before.before in
-    let a = r.before.before.before.args in
-    let opened = told r _ k.begun.given.1 in
-    let closed = told_close d _ c.before.next.given.1 in
+    let a = c.args in
+    let opened = told c.before.before.before _ c.in-At.is in
+    let closed = told_close c.before _ c.in-At-pass_mark.is in
     says_none a.s.now a.at _ a.base a.numbers.now _ opened.0 closed.0 (omega arith, closed.1.1)
 
-returns_2 : tie.Need-returns-2
+returns_2 : tie.Need-returns-in-Not-pass_mark
 returns_2 c =
-    let i = c.before.before in
-    let t = i.before.before in
-    let d = t.before.before in
-    let k = d.before.before in
-    let r = k.before.before in
-    let a = r.before.before.before.args in
-    let opened = told r _ k.begun.given.1 in
-    says_from a.s.now a.at k.begun.given.0.0 a.base a.numbers.now _ i.read-items.result _ _ (omega arith)
-    (ap limited (numbers_some _ _ opened.0 (told_close d _ t.enum_told.given.1))) i.read-items.ensures
+    let a = c.args in
+    let opened = told c.before.before.before.before.before.before.before _ c.in-At.is in
+    says_from a.s.now a.at c.in-At.begun a.base a.numbers.now _ c.read_items.result _ _ (omega arith)
+    (ap limited (numbers_some _ _ opened.0 (told_close c.before.before.before.before.before _ c.in-Not-pass_mark.is))) c.read_items.ensures
 
-returns_3 : tie.Need-returns-3
-returns_3 c = ap limited (numbers_unopened _ (told c.before.before _ c.enum-told2.given.1))
+returns_3 : tie.Need-returns-in-Not
+returns_3 c = ap limited (numbers_unopened _ (told c.before _ c.in-Not.is))
 
 pub read_numbers_spec : {M : Type 1} → statement M
 read_numbers_spec =

@@ -11,23 +11,21 @@ use Rattle.json_reading.proofs.settings.read_settings.Statement.{statement}
 use Rattle.json_reading.proofs.settings.read_settings.Tie as tie
 
 -- what the mark's answer says, at the answer that the match found
-passed : (c : tie.After-pass-mark) (r : Passed) → c.pass-mark.result ≡ r →
-    let a = c.before.before.args in
+passed : (c : tie.After-pass_mark) (r : Passed) → c.pass_mark.result ≡ r →
+    let a = c.args in
     PassedSays a.s.now a.at opens_object r (tokens (drop a.at a.s.now))
 passed c r e =
-    let a = c.before.before.args in
-    subst (λ (x : Passed). PassedSays a.s.now a.at opens_object x (tokens (drop a.at a.s.now))) e c.pass-mark.ensures
+    let a = c.args in
+    subst (λ (x : Passed). PassedSays a.s.now a.at opens_object x (tokens (drop a.at a.s.now))) e c.pass_mark.ensures
 
-returns : tie.Need-returns
+returns : tie.Need-returns-in-At
 returns c =
-    let p = c.before.before.before.before in
-    let a = p.before.before.args in
-    let f = c.before.before.begun.given in
-    let brace = passed p _ f.1 in
-    settings_from_lem a.s.now a.at f.0.0 c.read-Flags.result _ _ (omega (arith, brace.1)) (settings_some _ _ brace.0) c.read-Flags.ensures
+    let a = c.args in
+    let brace = passed c.before.before _ c.in-At.is in
+    settings_from_lem a.s.now a.at c.in-At.begun c.read_flags.result _ _ (omega (arith, brace.1)) (settings_some _ _ brace.0) c.read_flags.ensures
 
-returns_2 : tie.Need-returns-2
-returns_2 c = settings_none _ (passed c.before.before _ c.enum_told.given.1)
+returns_2 : tie.Need-returns-in-Not
+returns_2 c = settings_none _ (passed c.before _ c.in-Not.is)
 
 pub read_settings_spec : {M : Type 1} → statement M
 read_settings_spec =

@@ -14,60 +14,45 @@ use Rattle.json_reading.proofs.settings.read_word.Statement.{statement}
 use Rattle.json_reading.proofs.settings.read_word.Tie as tie
 
 -- what the token says, at the answer that the match found
-told : (c : tie.After-next-token) (r : TokenAt) → c.next-token.result ≡ r →
-    let a = c.before.before.before.args in
+told : (c : tie.After-next_token) (r : TokenAt) → c.next_token.result ≡ r →
+    let a = c.args in
     TokenSays a.s.now a.at r (tokens (drop a.at a.s.now))
 told c r e =
-    let a = c.before.before.before.args in
-    subst (λ (x : TokenAt). TokenSays a.s.now a.at x (tokens (drop a.at a.s.now))) e c.next-token.ensures
+    let a = c.args in
+    subst (λ (x : TokenAt). TokenSays a.s.now a.at x (tokens (drop a.at a.s.now))) e c.next_token.ensures
 
-returns : tie.Need-returns
-returns c = let a = c.before.before.args in set_unknown a.flag (tokens (drop a.at a.s.now)) c.if1.true
+returns : tie.Need-returns-then-flag-ge-FLAGS
+returns c = let a = c.args in set_unknown a.flag (tokens (drop a.at a.s.now)) c.if-flag-ge-FLAGS.true
 
-returns_2 : tie.Need-returns-2
+returns_2 : tie.Need-returns-then-b-eq-TRUE
 returns_2 c =
-    let k = c.before.before in
-    let r = k.before.before in
-    let a = r.before.before.before.args in
-    let f = k.b.given in
-    let said = told r _ f.1 in
-    let below : a.flag < flag_count = omega (arith, r.before.if1.false) in
-    (set_on a.flag f.0.0 _ _ said.0 below c.if2.true, below, (said.1, said.2))
+    let a = c.args in
+    let said = told c.before.before _ c.in-Mark.is in
+    let below : a.flag < flag_count = omega (arith, c.if-flag-ge-FLAGS.false) in
+    (set_on a.flag c.in-Mark.b _ _ said.0 below c.if-b-eq-TRUE.true, below, (said.1, said.2))
 
-returns_3 : tie.Need-returns-3
+returns_3 : tie.Need-returns-then-b-eq-FALSE
 returns_3 c =
-    let k = c.before.before.before in
-    let r = k.before.before in
-    let a = r.before.before.before.args in
-    let f = k.b.given in
-    let said = told r _ f.1 in
-    let below : a.flag < flag_count = omega (arith, r.before.if1.false) in
-    (set_off a.flag f.0.0 _ _ said.0 below c.if3.true, below, (said.1, said.2))
+    let a = c.args in
+    let said = told c.before.before.before _ c.in-Mark.is in
+    let below : a.flag < flag_count = omega (arith, c.if-flag-ge-FLAGS.false) in
+    (set_off a.flag c.in-Mark.b _ _ said.0 below c.if-b-eq-FALSE.true, below, (said.1, said.2))
 
-returns_4 : tie.Need-returns-4
+returns_4 : tie.Need-returns-else-b-eq-FALSE
 returns_4 c =
-    let k = c.before.before.before in
-    let r = k.before.before in
-    let f = k.b.given in
-    set_neither r.before.before.before.args.flag f.0.0 _ _ (told r _ f.1).0 c.before.if2.false c.if3.false
+    set_neither c.args.flag c.in-Mark.b _ _ (told c.before.before.before _ c.in-Mark.is).0 c.if-b-eq-TRUE.false c.if-b-eq-FALSE.false
 
-returns_5 : tie.Need-returns-5
+returns_5 : tie.Need-returns-in-Text
 returns_5 c =
-    let r = c.before.before in
-    let f = c.enum_told.given in
-    set_wordless r.before.before.before.args.flag (told r _ f.1).0 refl
+    set_wordless c.args.flag (told c.before _ c.in-Text.is).0 refl
 
-returns_6 : tie.Need-returns-6
+returns_6 : tie.Need-returns-in-End
 returns_6 c =
-    let r = c.before.before in
-    let f = c.enum-told2.given in
-    set_wordless r.before.before.before.args.flag (told r _ f.1) refl
+    set_wordless c.args.flag (told c.before _ c.in-End.is) refl
 
-returns_7 : tie.Need-returns-7
+returns_7 : tie.Need-returns-in-Bad
 returns_7 c =
-    let r = c.before.before in
-    let f = c.enum-told3.given in
-    set_wordless r.before.before.before.args.flag (told r _ f.1) refl
+    set_wordless c.args.flag (told c.before _ c.in-Bad.is) refl
 
 pub read_word_spec : {M : Type 1} → statement M
 read_word_spec =

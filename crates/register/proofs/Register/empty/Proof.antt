@@ -7,7 +7,7 @@ use Rattle.register.proofs.Register.empty.Tie as tie
 
 returns : tie.Need-returns
 unfolding empty_register
-returns c = rw c.none.ensures
+returns c = rw c.none-claim.ensures
 
 pub empty_spec : {M : Type 1} → statement M
 empty_spec = tie.close (tie.spec (λ c κs. search rules) returns)

@@ -6,36 +6,29 @@ use borrow.Author.Tests.{not-true, not-false}
 use Rattle.soundness.proofs.actors.actor_fits.Statement.{statement}
 use Rattle.soundness.proofs.actors.actor_fits.Tie as tie
 
-returns : tie.Need-returns
-returns c = sym (actor_unnumbered _ _ (sym c.before.is-id.ensures ∙ not-true _ c.if1.true))
+returns : tie.Need-returns-then-not-is_id
+returns c = sym (actor_unnumbered _ _ (sym c.is_id.ensures ∙ c.if-not-is_id.true))
 
-returns_2 : tie.Need-returns-2
+returns_2 : tie.Need-returns-then-a-eq-HUMAN
 returns_2 c =
-    let numbered = c.before.before.before.before in
-    sym (actor_alone_human _ _ (sym numbered.before.is-id.ensures ∙ not-false _ numbered.if1.false) c.before.before.if2.true c.if3.true)
+    sym (actor_alone_human _ _ (sym c.is_id.ensures ∙ c.if-not-is_id.false) c.if-a-eq0.true c.if-a-eq-HUMAN.true)
 
-returns_3 : tie.Need-returns-3
+returns_3 : tie.Need-returns-then-a-eq0
 returns_3 c =
-    let numbered = c.before.before.before.before.before in
-    sym (actor_alone_other _ _ (sym numbered.before.is-id.ensures ∙ not-false _ numbered.if1.false) c.before.before.before.if2.true c.before.if3.false)
+    sym (actor_alone_other _ _ (sym c.is_id.ensures ∙ c.if-not-is_id.false) c.if-a-eq0.true c.if-a-eq-HUMAN.false)
 
-returns_4 : tie.Need-returns-4
+returns_4 : tie.Need-returns-then-a-gt-ID_LIMIT
 returns_4 c =
-    let numbered = c.before.before.before.before in
-    sym (actor_owner_beyond _ _ (sym numbered.before.is-id.ensures ∙ not-false _ numbered.if1.false) c.if4.true)
+    sym (actor_owner_beyond _ _ (sym c.is_id.ensures ∙ c.if-not-is_id.false) c.if-a-gt-ID_LIMIT.true)
 
-returns_5 : tie.Need-returns-5
+returns_5 : tie.Need-returns-then-a-ne-MACHINE
 returns_5 c =
-    let owned = c.before.before.before.before in
-    let numbered = owned.before.before in
-    sym (actor_owned_other _ _ (sym numbered.before.is-id.ensures ∙ not-false _ numbered.if1.false) owned.if2.false c.if5.true)
+    sym (actor_owned_other _ _ (sym c.is_id.ensures ∙ c.if-not-is_id.false) c.if-a-eq0.false c.if-a-ne-MACHINE.true)
 
-returns_6 : tie.Need-returns-6
+returns_6 : tie.Need-returns
 returns_6 c =
-    let owned = c.before.before.before.before.before in
-    let numbered = owned.before.before in
-    c.is-beside.ensures
-    ∙ sym (actor_owned_machine _ _ (sym numbered.before.is-id.ensures ∙ not-false _ numbered.if1.false) owned.if2.false c.before.before.before.if4.false c.before.if5.false)
+    c.is_beside.ensures
+    ∙ sym (actor_owned_machine _ _ (sym c.is_id.ensures ∙ c.if-not-is_id.false) c.if-a-eq0.false c.if-a-gt-ID_LIMIT.false c.if-a-ne-MACHINE.false)
 
 pub actor_fits_spec : {M : Type 1} → statement M
 actor_fits_spec =

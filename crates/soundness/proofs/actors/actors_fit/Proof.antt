@@ -8,27 +8,27 @@ use borrow.Author.Rules.{rules}
 use Rattle.soundness.proofs.actors.actors_fit.Statement.{statement}
 use Rattle.soundness.proofs.actors.actors_fit.Tie as tie
 
-abbrev invariant_loop : tie.invariant-loop
+abbrev invariant_loop : tie.invariant-loop-i
 invariant_loop ids kinds owners n long top i₀ i = Judging ids kinds owners n top i
 
-abbrev decreases_loop : tie.decreases-loop
+abbrev decreases_loop : tie.decreases-loop-i
 decreases_loop ids kinds owners n long top i₀ i = top - i
 
-loop_holds : tie.Need-loop-init invariant_loop decreases_loop
+loop_holds : tie.Need-loop-i-init invariant_loop decreases_loop
 loop_holds c =
-    judging_start (c.least3.ensures ∙ rw (c.before.least2.ensures, c.before.before.least.ensures))
+    judging_start (c.least-top.ensures ∙ rw (c.least-long.ensures, c.least.ensures))
 
-returns : tie.Need-returns invariant_loop decreases_loop
-returns c = sym (judging_no c.before.before.before.before.before.before.loop.invariant c.before.before.before.before.before.loop-test.true c.before.actor_fits_lem.ensures (not-true _ c.if1.true))
+returns : tie.Need-returns-then-not-actor_fits invariant_loop decreases_loop
+returns c = sym (judging_no c.loop-i.invariant c.loop-i-test.true c.actor_fits.ensures (c.if-not-actor_fits.true))
 
-loop_less : tie.Need-loop-smaller invariant_loop decreases_loop
-loop_less c = less _ c.before.before.before.before.before.before.loop.i c.before.before.before.before.before.loop-test.true
+loop_less : tie.Need-loop-i-smaller invariant_loop decreases_loop
+loop_less c = less _ c.loop-i.i c.loop-i-test.true
 
-loop_again : tie.Need-loop-preserved invariant_loop decreases_loop
-loop_again c = judging_next c.before.before.before.before.before.before.loop.invariant c.before.before.before.before.before.loop-test.true c.before.actor_fits_lem.ensures (not-false _ c.if1.false)
+loop_again : tie.Need-loop-i-preserved invariant_loop decreases_loop
+loop_again c = judging_next c.loop-i.invariant c.loop-i-test.true c.actor_fits.ensures (c.if-not-actor_fits.false)
 
-returns_2 : tie.Need-returns-2 invariant_loop decreases_loop
-returns_2 c = sym (judging_done c.before.loop.invariant c.loop-test.false)
+returns_2 : tie.Need-returns invariant_loop decreases_loop
+returns_2 c = sym (judging_done c.loop-i.invariant c.loop-i-test.false)
 
 pub actors_fit_spec : {M : Type 1} → statement M
 actors_fit_spec =

@@ -7,23 +7,23 @@ use borrow.Author.Rules.{rules}
 use Rattle.soundness.proofs.actors.human_ids.Statement.{statement}
 use Rattle.soundness.proofs.actors.human_ids.Tie as tie
 
-abbrev invariant_loop : tie.invariant-loop
+abbrev invariant_loop : tie.invariant-loop-i
 invariant_loop ids kinds n long top humans₀ i₀ humans i = Naming ids kinds n top i humans
 
-abbrev decreases_loop : tie.decreases-loop
+abbrev decreases_loop : tie.decreases-loop-i
 decreases_loop ids kinds n long top humans₀ i₀ humans i = top - i
 
-loop_holds : tie.Need-loop-init invariant_loop decreases_loop
-loop_holds c = naming_start (c.least3.ensures ∙ rw (c.before.least2.ensures, c.before.before.least.ensures))
+loop_holds : tie.Need-loop-i-init invariant_loop decreases_loop
+loop_holds c = naming_start (c.least-top.ensures ∙ rw (c.least.ensures, c.least-long.ensures))
 
-loop_less : tie.Need-loop-smaller invariant_loop decreases_loop
-loop_less c = less _ c.before.before.before.before.loop.i c.before.before.before.loop-test.true
+loop_less : tie.Need-loop-i-smaller invariant_loop decreases_loop
+loop_less c = less _ c.loop-i.i c.loop-i-test.true
 
-loop_again : tie.Need-loop-preserved invariant_loop decreases_loop
-loop_again c = naming_next c.before.before.before.before.loop.invariant c.human-id.ensures c.before.before.before.loop-test.true
+loop_again : tie.Need-loop-i-preserved invariant_loop decreases_loop
+loop_again c = naming_next c.loop-i.invariant c.human_id.ensures c.loop-i-test.true
 
 returns : tie.Need-returns invariant_loop decreases_loop
-returns c = naming_done c.before.loop.invariant c.loop-test.false
+returns c = naming_done c.loop-i.invariant c.loop-i-test.false
 
 pub human_ids_spec : {M : Type 1} → statement M
 human_ids_spec =

@@ -12,26 +12,24 @@ use borrow.Author.Rules.{rules}
 use Rattle.soundness.proofs.actors.keepers_fit.Statement.{statement}
 use Rattle.soundness.proofs.actors.keepers_fit.Tie as tie
 
-abbrev invariant_loop : tie.invariant-loop
+abbrev invariant_loop : tie.invariant-loop-i
 invariant_loop names kinds n keepers m top keeping fit₀ i₀ fit i = Asked true (λ j. ltb (get_or keeping.places j 0) claim_limit) top i fit
 
-abbrev decreases_loop : tie.decreases-loop
+abbrev decreases_loop : tie.decreases-loop-i
 decreases_loop names kinds n keepers m top keeping fit₀ i₀ fit i = top - i
 
-loop_holds : tie.Need-loop-init invariant_loop decreases_loop
+loop_holds : tie.Need-loop-i-init invariant_loop decreases_loop
 loop_holds c = asked_none refl
 
-loop_again : tie.Need-loop-preserved invariant_loop decreases_loop
-loop_again c = asked_next c.before.before.loop.invariant c.before.loop-test.true refl
+loop_again : tie.Need-loop-i-preserved invariant_loop decreases_loop
+loop_again c = asked_next c.loop-i.invariant c.loop-i-test.true refl
 
 returns : tie.Need-returns invariant_loop decreases_loop
 returns c =
-    let looked = c.before.before in
-    let humans = looked.before.before.before in
-    let given = humans.before.before.before.before.args in
-    asked_done c.before.loop.invariant c.loop-test.false
-    ∙ keepers_told humans.human-ids.result given.n given.keepers.now given.m looked.before.before.least.ensures looked.places_of.ensures
-    ∙ rw humans.human-ids.ensures
+    let given = c.args in
+    asked_done c.loop-i.invariant c.loop-i-test.false
+    ∙ keepers_told c.human_ids-humans.result given.n given.keepers.now given.m c.least-top.ensures c.places_of-keeping.ensures
+    ∙ rw c.human_ids-humans.ensures
 
 pub keepers_fit_spec : {M : Type 1} → statement M
 keepers_fit_spec =

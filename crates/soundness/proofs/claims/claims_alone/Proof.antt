@@ -17,47 +17,41 @@ use borrow.Author.Rules.{rules}
 use Rattle.soundness.proofs.claims.claims_alone.Statement.{statement}
 use Rattle.soundness.proofs.claims.claims_alone.Tie as tie
 
-abbrev invariant_loop : tie.invariant-loop
+abbrev invariant_loop : tie.invariant-loop-i
 invariant_loop version h keepers spots sheet n actors named stand₀ i₀ stand i =
     Asked (distinct (take (min h claim_limit) actors.names))
     (λ j. named_at (claim_at sheet j) (found_at actors keepers named.first named.second spots j)) n i stand
 
-abbrev decreases_loop : tie.decreases-loop
+abbrev decreases_loop : tie.decreases-loop-i
 decreases_loop version h keepers spots sheet n actors named stand₀ i₀ stand i = n - i
 
-loop_holds : tie.Need-loop-init invariant_loop decreases_loop
+loop_holds : tie.Need-loop-i-init invariant_loop decreases_loop
 loop_holds c =
-    let start = c.before.before.before.before.before.before.before.before.before in
-    asked_none (ids_told start.args.version start.args.t2 start.args.h start.args.sheet.now start.args.n start.requires.0 start.requires.1
-    (c.both-places.ensures ∙ rw (c.before.before.before.before.before.column.ensures, c.before.before.before.before.column2.ensures)))
+    asked_none (ids_told c.args.version c.args.actors c.args.h c.args.sheet.now c.args.n c.requires.0 c.requires.1
+    (c.both_places-named.ensures ∙ rw (c.column-grantors.ensures, c.column-holders.ensures)))
 
-cast_report : tie.Need-overflow-cast-report invariant_loop decreases_loop
-cast_report c = Fits-widen tt (c.shared-slice-known4.given c.before.before.before.before.before.loop.i)
+cast_report : tie.Need-overflow_cast-report invariant_loop decreases_loop
+cast_report c = Fits-widen tt (c.shared_slice_known-in-loop-i-1.given c.loop-i.i)
 
-add_i : tie.Need-overflow-add-i invariant_loop decreases_loop
+add_i : tie.Need-overflow_add-i invariant_loop decreases_loop
 add_i c =
-    let short = c.before.before.before.before.before.before.before.before.before.before.before.before.before.before.before.before.before.before.before.before.before.before.before.before.before.requires.0 in
-    let inside = c.before.before.before.before.before.before.before.before.before.before.before.before.before.before.loop-test.true in
+    let short = c.requires.0 in
+    let inside = c.loop-i-test.true in
     Fits-below {n = claim_limit} tt (omega (arith, short, inside))
 
-loop_again : tie.Need-loop-preserved invariant_loop decreases_loop
+loop_again : tie.Need-loop-i-preserved invariant_loop decreases_loop
 loop_again c =
-    let kind = c.before.before.before.before.before.before in
-    let read = kind.before.before.before.before.before.before.before in
-    asked_next read.before.before.loop.invariant read.before.loop-test.true
-    (c.stands-named.ensures ∙ rw (read.claim-at.ensures, kind.number_at.ensures, c.before.before.number-at2.ensures, c.before.number-at3.ensures))
+    asked_next c.loop-i.invariant c.loop-i-test.true
+    (c.stands_named-stand.ensures ∙ rw (c.claim_at-c.ensures, c.number_at-kind.ensures, c.number_at-owner.ensures, c.number_at-keeper.ensures))
 
-claims_fit_requires : tie.Need-claims-fit-requires invariant_loop decreases_loop
-claims_fit_requires c κs = let start = c.before.before.before.before.before.before.before.before.before.before.before in (start.requires.0, start.requires.1)
+claims_fit_requires : tie.Need-claims_fit-requires invariant_loop decreases_loop
+claims_fit_requires c κs = (c.requires.0, c.requires.1)
 
 returns : tie.Need-returns invariant_loop decreases_loop
 returns c =
-    let ended = c.before in
-    let named = ended.before.before in
-    let start = named.before.before.before.before.before.before.before.before.before in
-    rw (asked_done ended.before.loop.invariant ended.loop-test.false, c.claims-fit.ensures)
-    (alone_told start.args.version start.args.t2 start.args.h start.args.sheet.now start.args.n start.requires.0 start.requires.1
-    (named.both-places.ensures ∙ rw (named.before.before.before.before.before.column.ensures, named.before.before.before.before.column2.ensures)) start.args.keepers.now start.args.spots.now)
+    rw (asked_done c.loop-i.invariant c.loop-i-test.false, c.claims_fit.ensures)
+    (alone_told c.args.version c.args.actors c.args.h c.args.sheet.now c.args.n c.requires.0 c.requires.1
+    (c.both_places-named.ensures ∙ rw (c.column-grantors.ensures, c.column-holders.ensures)) c.args.keepers.now c.args.spots.now)
 
 pub claims_alone_spec : {M : Type 1} → statement M
 claims_alone_spec =

@@ -8,44 +8,23 @@ use Rattle.soundness.proofs.Fitting.{columns_fit}
 use Rattle.soundness.proofs.ranges.claims_fit.Statement.{statement}
 use Rattle.soundness.proofs.ranges.claims_fit.Tie as tie
 
-expiries_fit_requires : tie.Need-expiries-fit-requires
+expiries_fit_requires : tie.Need-expiries_fit-requires
 expiries_fit_requires c κs =
-    let late = c.before.before.before.before.before.before.before.before in
-    let start = late.before.before.before.before.before.before.before.before.before.before.before in
-    let long = start.pre.1 in
-    (start.pre.0, rw late.before.column9.ensures (column_length start.args.sheet.now expiry_column long (omega arith)), rw late.column10.ensures (column_length start.args.sheet.now late_column long (omega arith)))
+    let long = c.requires.1 in
+    (c.requires.0, rw c.column-expiries.ensures (column_length c.args.sheet.now expiry_column long (omega arith)), rw c.column-late.ensures (column_length c.args.sheet.now late_column long (omega arith)))
 
 returns : tie.Need-returns
 returns c =
-    let left = c.before in
-    let weights = left.before in
-    let rights = weights.before in
-    let claimed = rights.before in
-    let holders = claimed.before in
-    let grantors = holders.before in
-    let parents = grantors.before in
-    let ids = parents.before in
-    let late = ids.before in
-    let expiries = late.before in
-    let lefts = expiries.before in
-    let weight = lefts.before in
-    let right = weight.before in
-    let claim = right.before in
-    let holder = claim.before in
-    let grantor = holder.before in
-    let parent = grantor.before in
-    let id = parent.before in
-    let start = id.before.before in
-    columns_fit start.args.version start.args.sheet.now start.args.n start.pre.0 start.pre.1
-    (ids.numbers_fit.ensures ∙ rw id.column.ensures)
-    (parents.numbers-fit2.ensures ∙ rw parent.column2.ensures)
-    (grantors.numbers-fit3.ensures ∙ rw grantor.column3.ensures)
-    (holders.numbers-fit4.ensures ∙ rw holder.column4.ensures)
-    (claimed.numbers-fit5.ensures ∙ rw claim.column5.ensures)
-    (rights.rights-fit.ensures ∙ rw right.column6.ensures)
-    (weights.numbers-fit6.ensures ∙ rw weight.column7.ensures)
-    (left.numbers-fit7.ensures ∙ rw lefts.column8.ensures)
-    (c.expiries-fit.ensures ∙ rw (expiries.column9.ensures, late.column10.ensures))
+    columns_fit c.args.version c.args.sheet.now c.args.n c.requires.0 c.requires.1
+    (c.numbers_fit.ensures ∙ rw c.column-ids.ensures)
+    (c.numbers_fit-2.ensures ∙ rw c.column-parents.ensures)
+    (c.numbers_fit-3.ensures ∙ rw c.column-grantors.ensures)
+    (c.numbers_fit-4.ensures ∙ rw c.column-holders.ensures)
+    (c.numbers_fit-5.ensures ∙ rw c.column-claimed.ensures)
+    (c.rights_fit.ensures ∙ rw c.column-rights.ensures)
+    (c.numbers_fit-6.ensures ∙ rw c.column-weights.ensures)
+    (c.numbers_fit-7.ensures ∙ rw c.column-left.ensures)
+    (c.expiries_fit.ensures ∙ rw (c.column-expiries.ensures, c.column-late.ensures))
 
 pub claims_fit_spec : {M : Type 1} → statement M
 claims_fit_spec =

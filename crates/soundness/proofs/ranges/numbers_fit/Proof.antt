@@ -11,24 +11,23 @@ use Rattle.register.specs.Limits.{ranged}
 use Rattle.soundness.proofs.ranges.numbers_fit.Statement.{statement}
 use Rattle.soundness.proofs.ranges.numbers_fit.Tie as tie
 
-abbrev invariant_loop : tie.invariant-loop
+abbrev invariant_loop : tie.invariant-loop-i
 invariant_loop column n least greatest top fit₀ i₀ fit i =
     Loop (λ at l. fit && every (ranged least greatest) l) n column top i (every (ranged least greatest) (take n column))
 
-abbrev decreases_loop : tie.decreases-loop
+abbrev decreases_loop : tie.decreases-loop-i
 decreases_loop column n least greatest top fit₀ i₀ fit i = top - i
 
-loop_holds : tie.Need-loop-init invariant_loop decreases_loop
-loop_holds c = start c.least.ensures refl
+loop_holds : tie.Need-loop-i-init invariant_loop decreases_loop
+loop_holds c = start c.least-top.ensures refl
 
-loop_again : tie.Need-loop-preserved invariant_loop decreases_loop
+loop_again : tie.Need-loop-i-preserved invariant_loop decreases_loop
 loop_again c =
-    let loop = c.before.before in
-    next loop.loop.invariant c.before.loop-test.true
-    (turn loop.loop.invariant 0 c.before.loop-test.true ∙ sym (and_assoc loop.loop.fit _ _))
+    next c.loop-i.invariant c.loop-i-test.true
+    (turn c.loop-i.invariant 0 c.loop-i-test.true ∙ sym (and_assoc c.loop-i.fit _ _))
 
 returns : tie.Need-returns invariant_loop decreases_loop
-returns c = sym (done c.before.loop.invariant c.loop-test.false ∙ and-true c.before.loop.fit)
+returns c = sym (done c.loop-i.invariant c.loop-i-test.false ∙ and-true c.loop-i.fit)
 
 pub numbers_fit_spec : {M : Type 1} → statement M
 numbers_fit_spec =

@@ -11,28 +11,26 @@ use Rattle.rights.specs.Rights.{is_rights}
 use Rattle.soundness.proofs.ranges.rights_fit.Statement.{statement}
 use Rattle.soundness.proofs.ranges.rights_fit.Tie as tie
 
-abbrev invariant_loop : tie.invariant-loop
+abbrev invariant_loop : tie.invariant-loop-i
 invariant_loop column n top fit₀ i₀ fit i = Loop (λ at l. fit && every is_rights l) n column top i (every is_rights (take n column))
 
-abbrev decreases_loop : tie.decreases-loop
+abbrev decreases_loop : tie.decreases-loop-i
 decreases_loop column n top fit₀ i₀ fit i = top - i
 
-loop_holds : tie.Need-loop-init invariant_loop decreases_loop
-loop_holds c = start c.least.ensures refl
+loop_holds : tie.Need-loop-i-init invariant_loop decreases_loop
+loop_holds c = start c.least-top.ensures refl
 
-loop_again : tie.Need-loop-preserved invariant_loop decreases_loop
+loop_again : tie.Need-loop-i-preserved invariant_loop decreases_loop
 loop_again c =
-    let tested = c.before in
-    let loop = tested.before.before in
-    let given = loop.before.before.before.args in
-    let behind = every is_rights (drop (loop.loop.i + 1) (take given.n given.column.now)) in
-    next loop.loop.invariant tested.before.loop-test.true
-    (turn loop.loop.invariant 0 tested.before.loop-test.true
-    ∙ sym (and_assoc loop.loop.fit _ _)
-    ∙ ap (λ b. (loop.loop.fit && b) && behind) (sym c.in_range.ensures))
+    let given = c.args in
+    let behind = every is_rights (drop (c.loop-i.i + 1) (take given.n given.column.now)) in
+    next c.loop-i.invariant c.loop-i-test.true
+    (turn c.loop-i.invariant 0 c.loop-i-test.true
+    ∙ sym (and_assoc c.loop-i.fit _ _)
+    ∙ ap (λ b. (c.loop-i.fit && b) && behind) (sym c.in_range-fit.ensures))
 
 returns : tie.Need-returns invariant_loop decreases_loop
-returns c = sym (done c.before.loop.invariant c.loop-test.false ∙ and-true c.before.loop.fit)
+returns c = sym (done c.loop-i.invariant c.loop-i-test.false ∙ and-true c.loop-i.fit)
 
 pub rights_fit_spec : {M : Type 1} → statement M
 rights_fit_spec =
