@@ -10,7 +10,6 @@ ghost use Rattle.register_reading.specs.Reads.{Reads};
 
 use actions::{Action, FLAGS_LIMIT, Usage};
 use lines::Cursor;
-use refusals::Outcome;
 use register::ID_LIMIT;
 use rights::POLICY_MODIFY;
 use text_rules::{ActionRead, LAST_MOMENT};
@@ -53,8 +52,10 @@ fn read_use(s: &[u8], c: Cursor) -> UseRead
         resource: resource.value,
         right: right.value,
     };
-    let cursor = right.cursor;
-    UseRead { usage, cursor }
+    UseRead {
+        usage,
+        cursor: right.cursor,
+    }
 }
 
 // The line `uses` and that many uses.
@@ -71,14 +72,10 @@ fn read_uses(s: &[u8], c: Cursor) -> UsesRead
     };
     let mut uses = [none; Action::USES];
     let mut cursor = counted.cursor;
-    let mut i: usize = 0;
-    while i < used {
+    for i in 0..used {
         let one = read_use(s, cursor);
-        let usage = one.usage;
-        let next = one.cursor;
-        uses[i] = usage;
-        cursor = next;
-        i += 1;
+        uses[i] = one.usage;
+        cursor = one.cursor;
     }
     UsesRead { uses, used, cursor }
 }
@@ -93,13 +90,10 @@ fn read_governs(s: &[u8], c: Cursor) -> GovernsRead
     let governed = counted.value as usize;
     let mut governs = [0u32; Action::GOVERNED];
     let mut cursor = counted.cursor;
-    let mut i: usize = 0;
-    while i < governed {
+    for i in 0..governed {
         let one = lines::read_number(s, cursor, b"govern=", 0, ID_LIMIT);
-        let next = one.cursor;
         governs[i] = one.value;
-        cursor = next;
-        i += 1;
+        cursor = one.cursor;
     }
     GovernsRead {
         governs,
@@ -116,15 +110,13 @@ fn no_action() -> Action
         resource: 0,
         right: 0,
     };
-    let uses = [none; Action::USES];
-    let governs = [0u32; Action::GOVERNED];
     Action {
         actor: 0,
         flags: 0,
         now: 0,
-        uses,
+        uses: [none; Action::USES],
         used: 0,
-        governs,
+        governs: [0; Action::GOVERNED],
         governed: 0,
     }
 }
@@ -134,17 +126,15 @@ fn answer(s: &[u8], c: Cursor, action: Action) -> ActionRead
     ensures { result ≡ action_ending action (state_of s.now c) }
 {
     if !lines::goes_on(s, c) {
-        let none = no_action();
-        let why = c.refusal;
         return ActionRead {
-            action: none,
-            outcome: Outcome::Refused(why),
+            action: no_action(),
+            outcome: Err(c.refusal),
             line: c.line,
         };
     }
     ActionRead {
         action,
-        outcome: Outcome::Accepted,
+        outcome: Ok(()),
         line: 0,
     }
 }
@@ -169,8 +159,10 @@ pub fn read_lines(s: &[u8], c: Cursor) -> ActionForm
         governs,
         governed: second.governed,
     };
-    let cursor = second.cursor;
-    ActionForm { action, cursor }
+    ActionForm {
+        action,
+        cursor: second.cursor,
+    }
 }
 
 // Reads a text as an action.
@@ -178,7 +170,6 @@ pub fn read_action(text: &[u8]) -> ActionRead
     ensures { result ≡ action_read text.now }
 {
     let form = read_lines(text, lines::start());
-    let action = form.action;
     let end = lines::finish(text, form.cursor);
-    answer(text, end, action)
+    answer(text, end, form.action)
 }

@@ -1,9 +1,7 @@
 -- What a number out of range, or every number in range, says of an action's ranges. Assumes nothing.
-use mathlib.Core.Path.{◌≡◌}
-use mathlib.Core.Bool.{false, ◌&&◌, and-false, and-true}
-use Prim.Native.Nat.{◌^◌, ◌≤◌, ◌<◌}
-use borrow.Author.Tests.{le-leb, lt-leb, lt-ltb, le-ltb}
-use lib.Dec.{leb}
+use Rattle.std.proofs.Common.{◌≡◌, false, ◌&&◌, ◌^◌, ◌≤◌, ◌<◌, le-leb, lt-ltb, le-ltb, leb}
+use mathlib.Core.Bool.{and-false, and-true}
+use borrow.Author.Tests.{lt-leb}
 use Rattle.lists.specs.Lists.{every}
 use Rattle.rights.specs.Rights.{is_right}
 use Rattle.register.specs.Limits.{id_limit, moment_end}

@@ -11,7 +11,7 @@ ghost use Rattle.actions.specs.Actions.{one_use};
 
 pub use numbers::{judgement_number, judgement_value, kind, value};
 pub use ranges::action_fits;
-use refusals::{Outcome, Refusal};
+use refusals::Refusal;
 
 // A resource number with a right.
 #[repr(C)]
@@ -112,17 +112,12 @@ pub enum Judgement {
     Cancelled,
 }
 
-#[derive(Clone, Copy)]
-pub struct Judged {
-    pub what: Judgement,
-}
-
 // The answer for a plan: past the count, permitted. A stopped plan has no verdicts, and the position of the action that stopped it.
 #[derive(Clone, Copy)]
 pub struct PlanVerdict {
-    pub outcome: Outcome,
+    pub outcome: Result<(), Refusal>,
     pub position: usize,
-    pub list: [Judged; Plan::ACTIONS],
+    pub list: [Judgement; Plan::ACTIONS],
     pub count: usize,
 }
 

@@ -11,17 +11,13 @@ use crate::{Action, FLAGS_LIMIT};
 fn uses_fit(a: Action) -> bool
     ensures { result ≡ every (λ u. leb u.resource id_limit && is_right u.right) (uses_of a) }
 {
-    let top = lists::least(a.used, Action::USES);
-    let mut i: usize = 0;
-    while i < top {
-        let u = a.uses[i];
+    for u in &a.uses[..a.used.min(Action::USES)] {
         if register::ID_LIMIT < u.resource {
             return false;
         }
         if rights::POLICY_MODIFY < u.right {
             return false;
         }
-        i += 1;
     }
     true
 }
@@ -30,13 +26,10 @@ fn uses_fit(a: Action) -> bool
 fn governs_fit(a: Action) -> bool
     ensures { result ≡ every (λ g. leb g id_limit) (governs_of a) }
 {
-    let top = lists::least(a.governed, Action::GOVERNED);
-    let mut i: usize = 0;
-    while i < top {
-        if register::ID_LIMIT < a.governs[i] {
+    for g in &a.governs[..a.governed.min(Action::GOVERNED)] {
+        if register::ID_LIMIT < *g {
             return false;
         }
-        i += 1;
     }
     true
 }

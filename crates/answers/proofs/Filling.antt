@@ -1,12 +1,9 @@
 -- A loop that fills an array from the front with f of each of the first k elements of a list. Assumes nothing.
-use mathlib.Core.Path.{◌≡◌, sym, ap, ◌∙◌}
-use mathlib.Core.List.{List, ◌++◌, map, map-append}
-use Prim.Native.Nat.{ℕ, suc, ◌+◌, ◌-◌, ◌≤◌, ◌<◌, min}
+use Rattle.std.proofs.Common.{◌≡◌, sym, ap, ◌∙◌, List, ◌++◌, map, ℕ, suc, ◌+◌, ◌-◌, ◌≤◌, ◌<◌, min, add-one, arith, length, take, get_or, set, replicate, length-take, take-suc, take_all, get_or-take}
+use mathlib.Core.List.{map-append}
 use native.Mathlib.Nat.{sub-zero}
-use native.Mathlib.Numerals.{add-one}
-use native.Mathlib.Omega.{arith}
-use lib.ListN.{length, take, get_or, set, replicate, length-take, length-map}
-use lib.Seq.{take-suc, take_all, get_or-take, set_at, append_snoc}
+use lib.ListN.{length-map}
+use lib.Seq.{set_at, append_snoc}
 use Rattle.answers.specs.Answers.{filled}
 
 -- the loop has come to place i, of top: f of what stands before it is in its places, and every place past it is free

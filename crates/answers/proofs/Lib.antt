@@ -1,4 +1,4 @@
 pub mod Filling
-pub mod Granting
 pub mod Telling
 pub mod Theorems
+pub mod Together

@@ -1,10 +1,7 @@
 -- What the numbers of an exported answer tell, answer by answer. Assumes nothing.
-use mathlib.Core.Path.{◌≡◌, refl}
-use native.Mathlib.Omega.{arith}
+use Rattle.std.proofs.Common.{Result, Err, Ok, ◌≡◌, refl, arith}
 use Rattle.refusals.proofs.Laws.{number_bounds}
-use Rattle.refusals.specs.declared.Outcome.{Outcome}
 use Rattle.refusals.specs.declared.Refusal.{Refusal}
-use Rattle.refusals.specs.declared.Outcome.TheVariants.{Accepted, Refused as RefusedFor}
 use Rattle.actions.specs.Actions.{judgement_number}
 use Rattle.actions.specs.declared.Decision.{Decision}
 use Rattle.actions.specs.declared.Decision.TheVariants.{Permitted, Refused, Stopped}
@@ -16,9 +13,9 @@ use Rattle.proposals.specs.declared.Checked.TheVariants.{Passes, Fails, Stopped 
 use Rattle.answers.specs.Answers.{accepted_number, refusal_number, decision_number}
 
 -- only what is accepted has the number 1
-pub accepted_alone : (o : Outcome) → accepted_number o ≡ 1 → o ≡ Accepted
-accepted_alone Accepted one = refl
-accepted_alone (RefusedFor why) one = absurd (omega arith)
+pub accepted_alone : (o : Result Unit Refusal) → accepted_number o ≡ 1 → o ≡ Ok tt
+accepted_alone (Ok _) one = refl
+accepted_alone (Err why) one = absurd (omega arith)
 
 -- only the permitted action has the number 1
 pub permitted_alone : (d : Decision) → decision_number d ≡ 1 → d ≡ Permitted
@@ -45,9 +42,9 @@ checked_zero_clash Fails zero = omega arith
 checked_zero_clash (Halted why) zero = omega arith
 
 -- no outcome is told by zeros alone
-pub outcome_zero_clash : (o : Outcome) → accepted_number o ≡ 0 → refusal_number o ≡ 0 → ⊥
-outcome_zero_clash Accepted accepted refused = omega arith
-outcome_zero_clash (RefusedFor why) accepted refused = omega (arith, (number_bounds why).0)
+pub outcome_zero_clash : (o : Result Unit Refusal) → accepted_number o ≡ 0 → refusal_number o ≡ 0 → ⊥
+outcome_zero_clash (Ok _) accepted refused = omega arith
+outcome_zero_clash (Err why) accepted refused = omega (arith, (number_bounds why).0)
 
 -- no decision is told by 0
 pub decision_zero_clash : (d : Decision) → decision_number d ≡ 0 → ⊥

@@ -1,9 +1,7 @@
 -- What the numbers of an exported answer tell: memory that was never written, all zeros, is no yes, and is no answer of a call that can
 -- refuse; no number means stopped and cancelled. Assumes nothing.
-use mathlib.Core.Path.{◌≡◌}
-use Rattle.refusals.specs.declared.Outcome.{Outcome}
+use Rattle.std.proofs.Common.{Result, Ok, ◌≡◌}
 use Rattle.refusals.specs.declared.Refusal.{Refusal}
-use Rattle.refusals.specs.declared.Outcome.TheVariants.{Accepted}
 use Rattle.actions.specs.Actions.{judgement_number}
 use Rattle.actions.specs.declared.Decision.{Decision}
 use Rattle.actions.specs.declared.Decision.TheVariants.{Permitted, Stopped}
@@ -16,7 +14,7 @@ use Rattle.answers.specs.Answers.{accepted_number, refusal_number, decision_numb
 use Rattle.answers.proofs.Telling as telling
 
 -- 1. Only what is accepted has the number 1.
-pub accepted_alone : (o : Outcome) → accepted_number o ≡ 1 → o ≡ Accepted
+pub accepted_alone : (o : Result Unit Refusal) → accepted_number o ≡ 1 → o ≡ Ok tt
 accepted_alone = telling.accepted_alone
 
 -- 2a. Only the permitted action has the number 1.
@@ -32,7 +30,7 @@ pub passes_alone : (k : Checked) → checked_number k ≡ 1 → k ≡ Passes
 passes_alone = telling.passes_alone
 
 -- 3a. No outcome is told by zeros alone.
-pub outcome_zero_clash : (o : Outcome) → accepted_number o ≡ 0 → refusal_number o ≡ 0 → ⊥
+pub outcome_zero_clash : (o : Result Unit Refusal) → accepted_number o ≡ 0 → refusal_number o ≡ 0 → ⊥
 outcome_zero_clash = telling.outcome_zero_clash
 
 -- 3b. No decision is told by 0.

@@ -1,10 +1,9 @@
 -- Believed: What the exported calls answer: for each inner answer the struct of numbers that crosses to the portal. No answer whose numbers are all
 -- zero is a yes.
-use Rattle.std.specs.Prelude.{Bool, cond, List, ◌++◌, map, ℕ, ◌-◌, length, take, replicate}
+use Rattle.refusals.specs.declared.Refusal.{Refusal}
+use Rattle.std.specs.Prelude.{Bool, cond, List, ◌++◌, map, ℕ, ◌-◌, length, take, replicate, Result, Err, Ok}
 use Rattle.paths.specs.Containment.{contained, reached}
 use Rattle.refusals.specs.Refusals.{number_of}
-use Rattle.refusals.specs.declared.Outcome.{Outcome}
-use Rattle.refusals.specs.declared.Outcome.TheVariants.{Accepted, Refused as RefusedFor}
 use Rattle.change_rules.specs.declared.Granted.{Granted}
 use Rattle.change_rules.specs.declared.Revoked.{Revoked}
 use Rattle.actions.specs.Actions.{violation_limit, action_limit, kind_of, value_of, judgement_number, judgement_value}
@@ -64,14 +63,14 @@ abbrev pub soundness : Bool → Soundness
 soundness held = record { sound = yes_number held }
 
 -- accepted is 1 and refused is 0
-abbrev pub accepted_number : Outcome → ℕ
-accepted_number Accepted = 1
-accepted_number (RefusedFor why) = 0
+abbrev pub accepted_number : Result Unit Refusal → ℕ
+accepted_number (Ok _) = 1
+accepted_number (Err why) = 0
 
 -- 01's number of the refusal, 0 where there is none
-abbrev pub refusal_number : Outcome → ℕ
-refusal_number Accepted = 0
-refusal_number (RefusedFor why) = number_of why
+abbrev pub refusal_number : Result Unit Refusal → ℕ
+refusal_number (Ok _) = 0
+refusal_number (Err why) = number_of why
 
 -- a grant: the parts of the register as the grant leaves it, beside its outcome
 abbrev pub grant_answer : Granted → GrantAnswer
@@ -148,7 +147,7 @@ abbrev pub no_judgement : JudgementNumbers
 no_judgement = record { decision = 0; violations = 0 }
 
 abbrev pub judgement_list : PlanVerdict → List JudgementNumbers
-judgement_list v = filled (λ j. judgement_numbers j.what) no_judgement action_limit v.count v.list
+judgement_list v = filled judgement_numbers no_judgement action_limit v.count v.list
 
 -- a plan: the outcome, the position of the action that stopped it, and the verdicts with their count
 abbrev pub plan_answer : PlanVerdict → PlanAnswer
@@ -162,7 +161,7 @@ plan_answer v = record {
 
 -- a plan text: the outcome, the failing line, the position of the action that stopped it, and the verdicts with their count
 abbrev pub text_judgement_list : PlanTextVerdict → List JudgementNumbers
-text_judgement_list v = filled (λ j. judgement_numbers j.what) no_judgement text_action_limit v.count v.list
+text_judgement_list v = filled judgement_numbers no_judgement text_action_limit v.count v.list
 
 abbrev pub plan_text_answer : PlanTextVerdict → PlanTextAnswer
 plan_text_answer v = record {

@@ -4,7 +4,7 @@
 #![tactic(auto)]
 
 ghost use Rattle.std.specs.Prelude.{◌≡◌};
-ghost use Rattle.answers.specs.Answers.{yes_number, accepted_number, refusal_number, proposal_answer, check_answer, decision_number, stop_number, violation_numbers, violation_list, judgement_numbers, judgement_list, text_judgement_list, written_answer, version_numbers};
+ghost use Rattle.answers.specs.Answers.{yes_number, accepted_number, refusal_number, proposal_answer, check_answer, decision_number, stop_number, violation_numbers, violation_list, judgement_numbers, no_judgement, filled, judgement_list, text_judgement_list, written_answer, version_numbers};
 ghost use Rattle.answers.specs.Laws.{containment_of, granted_answer, withdrawn_answer};
 
 use actions::{Action, Decision, Judgement, Plan, PlanVerdict, Violation, Violations};
@@ -12,10 +12,9 @@ use buffers::Written;
 use fingerprints::{Book, Entry};
 use json_rules::ID_BYTES;
 use paper::CELLS;
-use paths::Reach;
 use proposals::{Checked, Proposal, Proposed};
 use reasons::Told;
-use refusals::Outcome;
+use refusals::Refusal;
 use register::{Actors, Claim, Claims, Register, Resources};
 use steps::{PlanTextVerdict, TEXT_ACTIONS};
 use withdrawing::Struck;
@@ -262,15 +261,15 @@ pub fn yes(held: bool) -> u32
 }
 
 // A containment: a yes with its length, or a no.
-pub fn contained(w: Reach) -> Containment
+pub fn contained(w: Option<usize>) -> Containment
     ensures { result ≡ containment_of w }
 {
     match w {
-        Reach::Outside => Containment {
+        None => Containment {
             contained: yes(false) as u64,
             length: 0,
         },
-        Reach::Inside(n) => Containment {
+        Some(n) => Containment {
             contained: yes(true) as u64,
             length: n,
         },
@@ -278,22 +277,22 @@ pub fn contained(w: Reach) -> Containment
 }
 
 // Accepted is 1 and refused is 0.
-pub fn accepted(o: Outcome) -> u32
+pub fn accepted(o: Result<(), Refusal>) -> u32
     ensures { result ≡ accepted_number o }
 {
     match o {
-        Outcome::Accepted => 1,
-        Outcome::Refused(_) => 0,
+        Ok(()) => 1,
+        Err(_) => 0,
     }
 }
 
 // 01's number of the refusal, 0 where there is none.
-pub fn refusal(o: Outcome) -> u32
+pub fn refusal(o: Result<(), Refusal>) -> u32
     ensures { result ≡ refusal_number o }
 {
     match o {
-        Outcome::Accepted => 0,
-        Outcome::Refused(why) => refusals::number(why),
+        Ok(()) => 0,
+        Err(why) => refusals::number(why),
     }
 }
 
@@ -365,15 +364,11 @@ fn violation(v: Violation) -> ViolationNumbers
 pub fn violations(vs: Violations) -> [ViolationNumbers; Violations::MOST]
     ensures { result ≡ violation_list vs }
 {
-    let top = lists::least(vs.count, Violations::MOST);
+    let top = vs.count.min(Violations::MOST);
     let none = ViolationNumbers { kind: 0, value: 0 };
     let mut list = [none; Violations::MOST];
-    let mut i: usize = 0;
-    while i < top {
-        let v = vs.list[i];
-        let what = v.what;
-        list[i] = violation(what);
-        i += 1;
+    for i in 0..top {
+        list[i] = violation(vs.list[i].what);
     }
     list
 }
@@ -388,44 +383,33 @@ pub fn judgement(j: Judgement) -> JudgementNumbers
     }
 }
 
-// The verdicts below the count, and zeros past them.
-pub fn judgements(v: PlanVerdict) -> [JudgementNumbers; Plan::ACTIONS]
-    ensures { result ≡ judgement_list v }
+// The numbers of the verdicts below the count, and zeros past them.
+fn judged<const N: usize>(list: &[Judgement; N], count: usize) -> [JudgementNumbers; N]
+    ensures { result ≡ filled judgement_numbers no_judgement N count list.now }
 {
-    let top = lists::least(v.count, Plan::ACTIONS);
     let none = JudgementNumbers {
         decision: 0,
         violations: 0,
     };
-    let mut list = [none; Plan::ACTIONS];
-    let mut i: usize = 0;
-    while i < top {
-        let j = v.list[i];
-        let what = j.what;
-        list[i] = judgement(what);
-        i += 1;
+    let mut numbers = [none; N];
+    for i in 0..count.min(N) {
+        numbers[i] = judgement(list[i]);
     }
-    list
+    numbers
+}
+
+// The verdicts below the count, and zeros past them.
+pub fn judgements(v: PlanVerdict) -> [JudgementNumbers; Plan::ACTIONS]
+    ensures { result ≡ judgement_list v }
+{
+    judged(&v.list, v.count)
 }
 
 // The same of a plan text.
 pub fn text_judgements(v: PlanTextVerdict) -> [JudgementNumbers; TEXT_ACTIONS]
     ensures { result ≡ text_judgement_list v }
 {
-    let top = lists::least(v.count, TEXT_ACTIONS);
-    let none = JudgementNumbers {
-        decision: 0,
-        violations: 0,
-    };
-    let mut list = [none; TEXT_ACTIONS];
-    let mut i: usize = 0;
-    while i < top {
-        let j = v.list[i];
-        let what = j.what;
-        list[i] = judgement(what);
-        i += 1;
-    }
-    list
+    judged(&v.list, v.count)
 }
 
 // A writing: its outcome and the length of the text.
@@ -442,7 +426,7 @@ pub fn written(w: Written) -> WrittenAnswer
 
 // A grant with this outcome of the claim as it is stored: accepted, and where there is room, the claim goes to the end of the list; else the
 // register is as it came. Each part is put in place once.
-pub fn granted(r: Register, c: Claim, outcome: Outcome) -> GrantAnswer
+pub fn granted(r: Register, c: Claim, outcome: Result<(), Refusal>) -> GrantAnswer
     ensures { result ≡ granted_answer r c outcome }
 {
     let accepted = accepted(outcome);

@@ -1,15 +1,9 @@
 -- The numbers of a book's entries as a column, filled from the front, and what one look at it tells: whether the book fits, and the place of a number's
 -- entry. Assumes nothing.
-use mathlib.Core.Path.{◌≡◌, refl, ap, sym, ◌∙◌}
-use mathlib.Core.Bool.{true, false, not, ◌&&◌}
-use mathlib.Core.List.{List, [], ◌∷◌, ◌++◌, map, map-append, append-nil}
-use Prim.Native.Nat.{ℕ, zero, suc, ◌+◌, ◌-◌, ◌≤◌, ◌<◌, min}
-use native.Mathlib.Numerals.{add-one}
-use native.Mathlib.Omega.{arith}
-use borrow.Author.Tests.{eq-eqb, eqb-true, leb-true, not-true}
-use lib.Dec.{eqb, leb}
-use lib.ListN.{length, take, get_or, set, replicate, length-take, length-map, get_or-map}
-use lib.Seq.{take-suc, take_all, get_or-take}
+use Rattle.std.proofs.Common.{◌≡◌, ap, sym, ◌∙◌, true, false, not, ◌&&◌, List, [], ◌∷◌, ◌++◌, map, ℕ, zero, suc, ◌+◌, ◌-◌, ◌≤◌, ◌<◌, min, add-one, arith, eq-eqb, eqb-true, leb-true, eqb, leb, length, take, get_or, set, replicate, length-take, take-suc, get_or-take, Some, None}
+use mathlib.Core.List.{map-append}
+use borrow.Author.Tests.{not-true}
+use lib.ListN.{length-map, get_or-map}
 use Rattle.lists.specs.Tests.{cases, clash, and_left, and_right, or_second}
 use Rattle.lists.specs.Lists.{any, distinct}
 use Rattle.lists.specs.Each.{any_map, take_map}
@@ -17,7 +11,6 @@ use Rattle.lists.specs.Distinct.{distinct_cons}
 use Rattle.lists.specs.Fills.{put_first}
 use Rattle.register.specs.Limits.{claim_limit}
 use Rattle.columns.specs.Columns.{latest_place}
-use Rattle.columns.specs.declared.Place.TheVariants.{At, Nowhere}
 use Rattle.columns.specs.Laws.{place_cases, place_found_lem, nowhere_none}
 use Rattle.lookup.specs.Finding.{place_number, places_found}
 use Rattle.lookup.specs.Laws.{places_at}
@@ -27,7 +20,6 @@ use Rattle.fingerprints.proofs.Laws.{entry_hit, entry_miss, entry_none}
 use Rattle.fingerprints.specs.declared.Entry.{Entry}
 use Rattle.fingerprints.specs.declared.Book.{Book}
 use Rattle.attaching.specs.Spots.{entry_spot}
-use Rattle.attaching.specs.declared.Spot.{Spot}
 
 abbrev numbers_of : List Entry → List ℕ
 numbers_of l = map (λ e. e.resource) l
@@ -37,9 +29,6 @@ pub record Filled (l : List Entry) (i : ℕ) (column : List ℕ) : Type 0 where
   pub within : i ≤ place_limit
   pub long : length l ≡ place_limit
   pub told : column ≡ numbers_of (take i l) ++ replicate (place_limit - i) 0
-
-pub filled_start : (l : List Entry) → length l ≡ place_limit → Filled l 0 (replicate place_limit 0)
-filled_start l long = record { within = omega arith; long = long; told = refl }
 
 pub filled_next : {l : List Entry} {i : ℕ} {column : List ℕ} → Filled l i column → (d : Entry) → i < place_limit
     → Filled l (i + 1) (set column i (get_or l i d).resource)
@@ -53,11 +42,6 @@ filled_next {l} {i} {column} s d below =
       long = s.long;
       told = rw (s.told, more) (put_first (numbers_of (take i l)) place_limit i 0 (get_or l i d).resource first below);
     }
-
-pub filled_end : {l : List Entry} {i : ℕ} {column : List ℕ} → Filled l i column → place_limit ≤ i → column ≡ numbers_of l
-filled_end {l} {i} {column} s past =
-    let over : place_limit - i ≡ 0 = omega (arith, past) in
-    s.told ∙ rw (over, take_all i l (omega (arith, s.long, past))) (append-nil (numbers_of l))
 
 -- a number that stands at a place is among the numbers
 stands_any : (x : ℕ) (l : List Entry) (k : ℕ) (d : Entry) → k < length l → (get_or l k d).resource ≡ x → any (eqb x) (numbers_of l) ≡ true
@@ -117,7 +101,7 @@ module _ (b : Book) (n : ℕ) (long : length b.entries ≡ place_limit) where
         let same : min b.count claim_limit ≡ b.count = omega (arith, entries_few) in
         places_at column b.count (n ∷ []) 1 0 d (omega arith) ∙ ap (λ k. place_number claim_limit (latest_place column k n)) same
 
-    stands_there : (k : ℕ) → latest_place column b.count n ≡ At k → entry_place n (entries_of b) ≡ k
+    stands_there : (k : ℕ) → latest_place column b.count n ≡ Some k → entry_place n (entries_of b) ≡ k
     stands_there k q =
         let found = place_found_lem column n b.count k q in
         distinct_place n (entries_of b) k (entry 0 zeros) apart (omega (arith, found.0, entries_long))
@@ -125,7 +109,7 @@ module _ (b : Book) (n : ℕ) (long : length b.entries ≡ place_limit) where
         ∙ sym (get_or-map (λ (e : Entry). e.resource) b.entries k (entry 0 zeros))
         ∙ found.2)
 
-    stands_nowhere : latest_place column b.count n ≡ Nowhere → entry_place n (entries_of b) ≡ b.count
+    stands_nowhere : latest_place column b.count n ≡ None → entry_place n (entries_of b) ≡ b.count
     stands_nowhere q =
         entry_none n (entries_of b)
         (sym (any_map (λ (e : Entry). e.resource) (eqb n) (entries_of b))
@@ -157,15 +141,15 @@ module _ (b : Book) (n : ℕ) (long : length b.entries ≡ place_limit) {found :
   place_found_by : get_or found.places 0 0 ≡ get_or (places_found (numbers_of b.entries) b.count (n ∷ []) 1).places 0 0
   place_found_by = ap (λ (f : Found). get_or f.places 0 0) told
 
-  pub spot_unfit : leb b.count place_limit && found.distinct ≡ false → ◌≡◌ {A = Spot} (record { fits = false; place = 0 }) (entry_spot b n)
+  pub spot_unfit : leb b.count place_limit && found.distinct ≡ false → None ≡ entry_spot b n
   spot_unfit unfit = rw (sym fits_found ∙ unfit)
 
   module _ (fit : leb b.count place_limit && found.distinct ≡ true) where
     fits : book_fits b ≡ true
     fits = sym fits_found ∙ fit
 
-    pub spot_none : get_or found.places 0 0 ≡ claim_limit → ◌≡◌ {A = Spot} (record { fits = true; place = b.count }) (entry_spot b n)
+    pub spot_none : get_or found.places 0 0 ≡ claim_limit → Some b.count ≡ entry_spot b n
     spot_none none = rw (fits, place_none b n long fits 0 (sym place_found_by ∙ none))
 
-    pub spot_some : (get_or found.places 0 0 ≡ claim_limit → ⊥) → ◌≡◌ {A = Spot} (record { fits = true; place = get_or found.places 0 0 }) (entry_spot b n)
+    pub spot_some : (get_or found.places 0 0 ≡ claim_limit → ⊥) → Some (get_or found.places 0 0) ≡ entry_spot b n
     spot_some some = rw (fits, place_some b n long fits 0 (λ same. some (place_found_by ∙ same)), place_found_by)

@@ -4,83 +4,61 @@
 // book tells whether they are distinct, and where the entry of the asked one stands.
 #![tactic(auto)]
 
-ghost use Rattle.std.specs.Prelude.{◌≡◌, map};
+ghost use Rattle.std.specs.Prelude.{◌≡◌, true, Some, is_some, map, MatchResult, Ok, Err};
 ghost use Rattle.refusals.specs.Refusals.{outcome_of};
 ghost use Rattle.fingerprints.specs.Fingerprints.{entry, book_tests, attached, fetched};
 ghost use Rattle.attaching.specs.Spots.{entry_spot, put_at, print_at};
 
 use actions::{Action, Decision, Usage};
 use fingerprints::{Attached, Book, Entry, Fetched};
-use refusals::{Outcome, Refusal};
+use refusals::Refusal;
 use register::Register;
-
-// Whether a book fits, and the place of a number's entry: the count where it has none, 0 where the book does not fit.
-#[derive(Clone, Copy)]
-struct Spot {
-    fits: bool,
-    place: usize,
-}
 
 // The numbers of a book's entries, past the count too.
 fn numbers(b: Book) -> [u32; Book::PLACES]
     ensures { result ≡ map (λ e. e.resource) b.entries }
 {
     let mut column = [0u32; Book::PLACES];
-    let mut i: usize = 0;
-    while i < Book::PLACES {
+    for i in 0..Book::PLACES {
         column[i] = b.entries[i].resource;
-        i += 1;
     }
     column
 }
 
-// Whether the book fits, and the place of the number's entry.
-fn entry_spot(b: Book, resource: u32) -> Spot
+// The place of the number's entry in a book that fits, the count where it has none. None where the book does not fit.
+fn entry_spot(b: Book, resource: u32) -> Option<usize>
     ensures { result ≡ entry_spot b resource }
 {
     let column = numbers(b);
-    let wanted = [resource; 1];
-    let found = lookup::places_of(&column, b.count, &wanted, 1);
+    let found = lookup::places_of(&column, b.count, &[resource], 1);
     if !((b.count <= Book::PLACES) & found.distinct) {
-        return Spot {
-            fits: false,
-            place: 0,
-        };
+        return None;
     }
     let at = found.places[0];
     if at == lookup::NOWHERE {
-        return Spot {
-            fits: true,
-            place: b.count,
-        };
+        return Some(b.count);
     }
-    Spot {
-        fits: true,
-        place: at as usize,
-    }
+    Some(at as usize)
 }
 
-// The tests that both calls begin with: 1, 30 where the book does not fit, 2, 3, and 27 where the action is not permitted.
-fn settle(r: Register, fits: bool, a: Action) -> Outcome
-    ensures { result ≡ outcome_of (book_tests fits r a) }
+// The tests that both calls begin with: 1, 30 where the book does not fit and there is no place, 2, 3, and 27 where the action is not permitted. The
+// place, where they are passed.
+fn settle(r: Register, at: Option<usize>, a: Action) -> Result<usize, Refusal>
+    ensures { MatchResult result (λ place. (at ≡ Some place) × (outcome_of (book_tests true r a) ≡ (Ok tt))) (λ why. outcome_of (book_tests (is_some at) r a) ≡ Err why) }
 {
-    let actors = r.actors;
-    let o = r.resources;
-    let k = r.claims;
     let mut sheet = [0u32; columns::SHEET];
-    let found = soundness::examine(&mut sheet, r.version, actors, o, k);
+    let found = soundness::examine(&mut sheet, r.version, r.actors, r.resources, r.claims);
     if !found.sound {
-        return Outcome::Refused(Refusal::Unsound);
+        return Err(Refusal::Unsound);
     }
-    if !fits {
-        return Outcome::Refused(Refusal::BadBook);
-    }
+    let Some(place) = at else {
+        return Err(Refusal::BadBook);
+    };
     let verdict = gate::gate_by(r, &sheet, found, a);
-    let decision = verdict.decision;
-    match decision {
-        Decision::Permitted => Outcome::Accepted,
-        Decision::Refused => Outcome::Refused(Refusal::NotPermitted),
-        Decision::Stopped(why) => Outcome::Refused(why),
+    match verdict.decision {
+        Decision::Permitted => Ok(place),
+        Decision::Refused => Err(Refusal::NotPermitted),
+        Decision::Stopped(why) => Err(why),
     }
 }
 
@@ -91,7 +69,7 @@ fn put_at(b: Book, place: usize, resource: u32, fingerprint: [u8; Entry::BYTES])
     if Book::PLACES <= place {
         return Attached {
             book: b,
-            outcome: Outcome::Refused(Refusal::BookFull),
+            outcome: Err(Refusal::BookFull),
         };
     }
     let mut book = b;
@@ -104,7 +82,7 @@ fn put_at(b: Book, place: usize, resource: u32, fingerprint: [u8; Entry::BYTES])
     }
     Attached {
         book,
-        outcome: Outcome::Accepted,
+        outcome: Ok(()),
     }
 }
 
@@ -112,17 +90,15 @@ fn put_at(b: Book, place: usize, resource: u32, fingerprint: [u8; Entry::BYTES])
 fn print_at(b: Book, place: usize) -> Fetched
     ensures { result ≡ print_at b place }
 {
-    if place < lists::least(b.count, Book::PLACES) {
-        let e = b.entries[place];
-        let fingerprint = e.fingerprint;
+    if place < b.count.min(Book::PLACES) {
         return Fetched {
-            fingerprint,
-            outcome: Outcome::Accepted,
+            fingerprint: b.entries[place].fingerprint,
+            outcome: Ok(()),
         };
     }
     Fetched {
         fingerprint: [0; Entry::BYTES],
-        outcome: Outcome::Refused(Refusal::NoEntry),
+        outcome: Err(Refusal::NoEntry),
     }
 }
 
@@ -142,13 +118,12 @@ pub fn attach(
         resource,
         right: rights::WRITE,
     };
-    let outcome = settle(r, at.fits, actions::one_use(actor, usage, moment));
-    match outcome {
-        Outcome::Refused(why) => Attached {
+    match settle(r, at, actions::one_use(actor, usage, moment)) {
+        Ok(place) => put_at(b, place, resource, fingerprint),
+        Err(why) => Attached {
             book: b,
-            outcome: Outcome::Refused(why),
+            outcome: Err(why),
         },
-        Outcome::Accepted => put_at(b, at.place, resource, fingerprint),
     }
 }
 
@@ -161,12 +136,11 @@ pub fn fetch(b: Book, r: Register, actor: u32, resource: u32, moment: u64) -> Fe
         resource,
         right: rights::READ,
     };
-    let outcome = settle(r, at.fits, actions::one_use(actor, usage, moment));
-    match outcome {
-        Outcome::Refused(why) => Fetched {
+    match settle(r, at, actions::one_use(actor, usage, moment)) {
+        Ok(place) => print_at(b, place),
+        Err(why) => Fetched {
             fingerprint: [0; Entry::BYTES],
-            outcome: Outcome::Refused(why),
+            outcome: Err(why),
         },
-        Outcome::Accepted => print_at(b, at.place),
     }
 }

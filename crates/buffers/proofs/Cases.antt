@@ -1,6 +1,5 @@
 -- Texts put into small buffers: within one, up to its last byte, and one byte too far. Computed. Assumes nothing.
-use mathlib.Core.Path.{◌≡◌, refl}
-use mathlib.Core.List.{[], ◌∷◌}
+use Rattle.std.proofs.Common.{◌≡◌, refl, [], ◌∷◌}
 use Rattle.lists.specs.Lists.{splice}
 use Rattle.buffers.specs.Buffers.{put}
 use Rattle.buffers.specs.Positions.{behind}

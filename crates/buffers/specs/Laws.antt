@@ -1,13 +1,12 @@
 -- Laws: What a text put into a buffer leaves, and what is answered of one that is delivered, where it fits and where it does not; and the law by
 -- which a text that is put part by part is written whole. Assumes nothing.
-use Rattle.std.specs.Prelude.{ℕ, ◌+◌, ◌≤◌, ◌<◌, ◌≡◌, refl, List, [], ◌++◌, leb, length, take, drop}
+use Rattle.std.specs.Prelude.{ℕ, ◌+◌, ◌≤◌, ◌<◌, ◌≡◌, refl, List, [], ◌++◌, leb, length, take, drop, Ok}
 use Rattle.std.proofs.Common.{sym, ap, ◌∙◌, append_assoc, append-nil, arith, add-zero, length-append, le-leb, leb-true}
 use Rattle.std.proofs.Math.Seq.{take-append_seam}
 use Rattle.std.proofs.lemmas.Bool.{lt-leb}
 use Rattle.lists.specs.Tests.{cases}
 use Rattle.lists.specs.Splices.{splice_nil, splice_then, length_splice}
 use Rattle.lists.specs.Lists.{splice}
-use Rattle.refusals.specs.declared.Outcome.TheVariants.{Accepted}
 use Rattle.refusals.specs.declared.Refusal.TheVariants.{Buffer}
 use Rattle.buffers.specs.Buffers.{put}
 use Rattle.buffers.specs.Positions.{behind}
@@ -24,7 +23,7 @@ put_short at t old short = rw (lt-leb (at + length t) (length old) short) (refl,
 
 -- a text that fits is answered with its length
 pub delivered_fits : (t old : List ℕ) (n : ℕ) → length t ≤ length old → n ≡ length t →
-    ◌≡◌ {A = Written} (record { outcome = Accepted; length = n }) (delivered t old)
+    ◌≡◌ {A = Written} (record { outcome = Ok tt; length = n }) (delivered t old)
 unfolding delivered
 delivered_fits t old n room same = rw (le-leb (length t) (length old) room, same)
 

@@ -11,13 +11,13 @@ ghost use Rattle.buffers.specs.Positions.{behind};
 ghost use Rattle.buffers.specs.Delivery.{delivered};
 
 use lines::LINE_FEED;
-use refusals::{Outcome, Refusal};
+use refusals::Refusal;
 use register::Actor;
 
 // What was written into a lent buffer: the length of the text. Refused: 0.
 #[derive(Clone, Copy)]
 pub struct Written {
-    pub outcome: Outcome,
+    pub outcome: Result<(), Refusal>,
     pub length: usize,
 }
 
@@ -28,7 +28,7 @@ fn digit_count(n: u64) -> usize
     let mut m = n;
     let mut k: usize = 1;
     while 10 <= m {
-        m = m / 10;
+        m /= 10;
         k += 1;
     }
     k
@@ -38,10 +38,7 @@ fn digit_count(n: u64) -> usize
 fn has_room(buf: &[u8], at: usize, n: usize) -> bool
     ensures { result ≡ leb (at + n) (length buf.now) }
 {
-    if buf.len() < at {
-        return false;
-    }
-    n <= buf.len() - at
+    at <= buf.len() && n <= buf.len() - at
 }
 
 // Copies `t` into the buffer at `at`.
@@ -50,12 +47,8 @@ fn copy(buf: &mut [u8], at: usize, t: &[u8]) -> usize
     ensures behind { result ≡ at + length t.now }
     ensures written { buf.new ≡ splice at t.now buf.old }
 {
-    let mut i: usize = 0;
-    while i < t.len() {
-        buf[at + i] = t[i];
-        i += 1;
-    }
-    at + i
+    buf[at..at + t.len()].copy_from_slice(t);
+    at + t.len()
 }
 
 // Writes the digits of `n` into the buffer at `at`.
@@ -131,13 +124,13 @@ pub fn deliver(buf: &mut [u8], t: &[u8]) -> Written
 {
     if buf.len() < t.len() {
         return Written {
-            outcome: Outcome::Refused(Refusal::Buffer),
+            outcome: Err(Refusal::Buffer),
             length: 0,
         };
     }
     let length = put_bytes(buf, 0, t);
     Written {
-        outcome: Outcome::Accepted,
+        outcome: Ok(()),
         length,
     }
 }

@@ -1,9 +1,7 @@
 -- The tests of a grant and of the three withdrawals on a small register: each refuses once, by its
 -- own number, and what passes them all is accepted. All by computing. Assumes nothing.
-use mathlib.Core.Path.{◌≡◌, refl}
-use mathlib.Core.List.{List, [], ◌∷◌, map}
-use Prim.Native.Nat.{ℕ}
-use lib.ListN.{replicate}
+use Rattle.std.proofs.Common.{Result, Err, Ok, ◌≡◌, refl, List, [], ◌∷◌, map, ℕ, replicate}
+use Rattle.refusals.specs.declared.Refusal.{Refusal}
 use Rattle.lists.specs.Lists.{dropping, distinct}
 use Rattle.rights.specs.Rights.{has_right, has_rights, bars_machine}
 use Rattle.register.specs.Register.{claims_of, with_left, no_actor, no_resource, no_claim}
@@ -13,8 +11,6 @@ use Rattle.register.specs.declared.Register.{Register}
 use Rattle.soundness_rules.specs.Sound.{actor_fits, resource_fits, claim_fits, names_stand, root_kept, drawn_from, machine_may, over_chain, drawn, fresh, alone, over, acceptable, sound_claims, sound_actors, sound_resources, within_limits, sound}
 use Rattle.refusals.specs.Refusals.{outcome_of, number_of}
 use Rattle.change_rules.specs.Changes.{source_live, parent_tests, world_tests, grant_tests, granted, revoke_tests, clear_resource_tests, clear_expired_tests, Withdrawal, revoke, clear_resource, clear_expired, withdrawn}
-use Rattle.refusals.specs.declared.Outcome.{Outcome}
-use Rattle.refusals.specs.declared.Outcome.TheVariants.{Accepted, Refused}
 
 abbrev pub claim : ℕ → ℕ → ℕ → ℕ → ℕ → ℕ → ℕ → ℕ → Claim
 claim id parent grantor holder resource rights weight expiry =
@@ -63,9 +59,9 @@ desk_two = record {
 }
 
 -- 0 for accepted, else the refusal's number
-abbrev pub told : Outcome → ℕ
-told Accepted = 0
-told (Refused why) = number_of why
+abbrev pub told : Result Unit Refusal → ℕ
+told (Ok _) = 0
+told (Err why) = number_of why
 
 -- a claim to grant, at a moment
 pub record Asked : Type 0 where

@@ -1,9 +1,6 @@
 -- The order of the tests of a grant and of the three withdrawals: where two faults meet, the lower
 -- number is told. All by computing. Assumes nothing.
-use mathlib.Core.Path.{◌≡◌, refl}
-use mathlib.Core.List.{List, [], ◌∷◌, map}
-use Prim.Native.Nat.{ℕ, ◌+◌, ◌-◌}
-use lib.ListN.{replicate}
+use Rattle.std.proofs.Common.{◌≡◌, refl, List, [], ◌∷◌, map, ℕ, ◌+◌, ◌-◌, replicate}
 use Rattle.lists.specs.Lists.{counted, distinct}
 use Rattle.rights.specs.Rights.{has_right, has_rights, bars_machine}
 use Rattle.register.specs.Register.{with_left}

@@ -1,15 +1,10 @@
 -- Registers that are the same pass the same tests of a grant and of a withdrawal, and what either hands back is the same. Outside version 2
 -- their claims may hold other numbers as left: no test asks for them. Assumes nothing.
-use mathlib.Core.Path.{◌≡◌, refl, ap, sym, ◌∙◌, fun_ext}
-use mathlib.Core.Bool.{Bool, true, false, not, ◌&&◌, ◌||◌, cond}
-use mathlib.Core.List.{List, [], ◌∷◌, ◌++◌, map, map-append}
-use Prim.Native.Nat.{ℕ, ◌+◌, ◌-◌, ◌≤◌, ◌<◌}
-use native.Mathlib.Numerals.{add-one}
-use native.Mathlib.Omega.{arith}
-use borrow.Author.Tests.{ltb-true, ltb-false}
-use lib.Dec.{eqb, leb, ltb}
-use lib.ListN.{length, take, set, replicate, length-map}
-use lib.Seq.{take-suc-set, take_all, take-append_seam, set_out}
+use Rattle.std.proofs.Common.{◌≡◌, refl, ap, sym, ◌∙◌, Bool, true, false, not, ◌&&◌, ◌||◌, cond, List, [], ◌∷◌, ◌++◌, map, ℕ, ◌+◌, ◌-◌, ◌≤◌, ◌<◌, add-one, arith, ltb-true, ltb-false, eqb, leb, ltb, length, take, set, replicate, take-suc-set, take_all}
+use mathlib.Core.Path.{fun_ext}
+use mathlib.Core.List.{map-append}
+use lib.ListN.{length-map}
+use lib.Seq.{take-append_seam, set_out}
 use Rattle.lists.specs.Tests.{cases}
 use Rattle.lists.specs.Lists.{any}
 use Rattle.lists.specs.Each.{any_map, every_map, reverse_map}

@@ -1,9 +1,6 @@
 -- The liveness that refusal 11 asks of a grant is that of the parent, as the gate asks it. Assumes
 -- nothing.
-use mathlib.Core.Path.{◌≡◌, refl, sym, ap, ◌∙◌}
-use mathlib.Core.Bool.{true}
-use mathlib.Core.List.{List, ◌∷◌, ◌++◌}
-use Prim.Native.Nat.{ℕ}
+use Rattle.std.proofs.Common.{◌≡◌, refl, sym, ap, ◌∙◌, true, List, ◌∷◌, ◌++◌, ℕ}
 use Rattle.lists.specs.Lists.{every}
 use Rattle.register.specs.Chain.{chain, above, chain_of, current, live}
 use Rattle.register.specs.declared.Claim.{Claim}

@@ -1,10 +1,6 @@
 -- What is proved of a grant's answer `granted` and a withdrawal's `withdrawn`. What any calls of them come to is in the crate `history`.
 -- Assumes nothing.
-use mathlib.Core.Path.{◌≡◌}
-use mathlib.Core.Bool.{true, false}
-use mathlib.Core.List.{List, ◌∷◌, ◌++◌}
-use Prim.Native.Nat.{ℕ}
-use lib.ListN.{length}
+use Rattle.std.proofs.Common.{◌≡◌, true, false, List, ◌∷◌, ◌++◌, ℕ, length}
 use Rattle.register.specs.Limits.{tells_left}
 use Rattle.register.specs.Register.{Same, with_left}
 use Rattle.register.specs.Chain.{above, live}

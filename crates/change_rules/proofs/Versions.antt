@@ -1,8 +1,5 @@
 -- A change keeps the version of a register, and outside version 2 a grant does not ask what the claim holds as left. Assumes nothing.
-use mathlib.Core.Path.{◌≡◌, refl}
-use mathlib.Core.Bool.{Bool, true, false, cond}
-use mathlib.Core.List.{List, [], ◌∷◌}
-use Prim.Native.Nat.{ℕ}
+use Rattle.std.proofs.Common.{◌≡◌, refl, Bool, true, false, cond, List, [], ◌∷◌, ℕ}
 use Rattle.register.specs.Limits.{tells_left}
 use Rattle.register.specs.Register.{with_left}
 use Rattle.register.specs.Chain.{above}

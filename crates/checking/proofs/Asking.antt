@@ -1,15 +1,11 @@
 -- The tests of the check by what the gate decides of the one use are the tests of both calls, and what the check answers by them. Assumes nothing.
-use mathlib.Core.Path.{◌≡◌, refl, ap, sym, ◌∙◌}
-use mathlib.Core.Bool.{Bool, true, false, cond}
-use mathlib.Core.List.{List, [], ◌∷◌}
-use Prim.Native.Nat.{ℕ}
+use Rattle.std.proofs.Common.{Err, Ok, ◌≡◌, refl, ap, sym, ◌∙◌, Bool, true, false, cond, List, [], ◌∷◌, ℕ}
 use Rattle.lists.specs.Tests.{cases}
 use Rattle.register.specs.declared.Register.{Register}
 use Rattle.soundness_rules.specs.Sound.{sound}
 use Rattle.refusals.specs.Refusals.{outcome_of}
 use Rattle.refusals.specs.declared.Refusal.{Refusal}
 use Rattle.refusals.specs.declared.Refusal.TheVariants.{Unsound, Range, Absent}
-use Rattle.refusals.specs.declared.Outcome.TheVariants.{Accepted, Refused}
 use Rattle.change_rules.specs.Changes.{world_in}
 use Rattle.actions.specs.Actions.{one_use, action_fits}
 use Rattle.actions.specs.declared.Usage.{Usage}
@@ -45,34 +41,34 @@ unfolding gate_tests action_tests outcome_of
 decided_judged r a e f k = ap (λ v. v.decision) (gated_judged r a (rw (e, f, k)))
 
 -- an action that is judged leaves test 2
-judged_asked : (vs : List Violation) (inside : Bool) → asked_by (decided vs) inside ≡ cond inside Accepted (Refused Range)
+judged_asked : (vs : List Violation) (inside : Bool) → asked_by (decided vs) inside ≡ cond inside (Ok tt) (Err Range)
 judged_asked [] inside = refl
 judged_asked (v ∷ vs) inside = refl
 
 -- the tests, one by one
-asked_unsound : (r : Register) (x : ℕ) (u : Usage) (moment : ℕ) (s : Signers) → sound r ≡ false → outcome_of (ask_tests r x u moment s) ≡ Refused Unsound
+asked_unsound : (r : Register) (x : ℕ) (u : Usage) (moment : ℕ) (s : Signers) → sound r ≡ false → outcome_of (ask_tests r x u moment s) ≡ Err Unsound
 unfolding ask_tests outcome_of
 asked_unsound r x u moment s e = rw e
 
 asked_range : (r : Register) (x : ℕ) (u : Usage) (moment : ℕ) (s : Signers) → sound r ≡ true → asks_fit u moment s ≡ false
-    → outcome_of (ask_tests r x u moment s) ≡ Refused Range
+    → outcome_of (ask_tests r x u moment s) ≡ Err Range
 unfolding ask_tests outcome_of
 asked_range r x u moment s e f = rw (e, f)
 
 asked_absent : (r : Register) (x : ℕ) (u : Usage) (moment : ℕ) (s : Signers) → sound r ≡ true → asks_fit u moment s ≡ true
-    → (world_in r).known x ≡ false → outcome_of (ask_tests r x u moment s) ≡ Refused Absent
+    → (world_in r).known x ≡ false → outcome_of (ask_tests r x u moment s) ≡ Err Absent
 unfolding ask_tests outcome_of
 asked_absent r x u moment s e f k = rw (e, f, k)
 
 asked_passed : (r : Register) (x : ℕ) (u : Usage) (moment : ℕ) (s : Signers) → sound r ≡ true → asks_fit u moment s ≡ true
-    → (world_in r).known x ≡ true → outcome_of (ask_tests r x u moment s) ≡ Accepted
+    → (world_in r).known x ≡ true → outcome_of (ask_tests r x u moment s) ≡ Ok tt
 unfolding ask_tests outcome_of
 asked_passed r x u moment s e f k = rw (e, f, k)
 
 module _ (r : Register) (x : ℕ) (u : Usage) (moment : ℕ) (s : Signers) where
   -- in a sound register the gate's answer leaves test 2 and then what is asked of the actor
   sound_asked : sound r ≡ true → asked_by (gated r (one_use x u moment)).decision (asks_fit u moment s)
-      ≡ cond (asks_fit u moment s) (cond ((world_in r).known x) Accepted (Refused Absent)) (Refused Range)
+      ≡ cond (asks_fit u moment s) (cond ((world_in r).known x) (Ok tt) (Err Absent)) (Err Range)
   sound_asked e =
       let a : Action = one_use x u moment in
       cases (asks_fit u moment s)
@@ -98,12 +94,12 @@ module _ (r : Register) (x : ℕ) (u : Usage) (moment : ℕ) (s : Signers) where
       (λ e. rw (decided_unsound r (one_use x u moment) e) (sym (asked_unsound r x u moment s e)))
 
   -- so it tells what the check answers
-  pub checked_stopped : (p : Proposal) (why : Refusal) → asked_by (gated r (one_use x u moment)).decision (asks_fit u moment s) ≡ Refused why
+  pub checked_stopped : (p : Proposal) (why : Refusal) → asked_by (gated r (one_use x u moment)).decision (asks_fit u moment s) ≡ Err why
       → checked r x u moment s p ≡ StoppedBy why
   unfolding checked
   checked_stopped p why e = ap (λ o. checked_on o (passing r x u moment s p)) (sym asked_natural ∙ e)
 
-  pub checked_passed : (p : Proposal) → asked_by (gated r (one_use x u moment)).decision (asks_fit u moment s) ≡ Accepted
+  pub checked_passed : (p : Proposal) → asked_by (gated r (one_use x u moment)).decision (asks_fit u moment s) ≡ Ok tt
       → checked r x u moment s p ≡ cond (passing r x u moment s p) Passes Fails
   unfolding checked
   checked_passed p e = ap (λ o. checked_on o (passing r x u moment s p)) (sym asked_natural ∙ e)

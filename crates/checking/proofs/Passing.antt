@@ -1,9 +1,6 @@
 -- When a claim is of the form, when a grant helps, and when a proposal passes, as the code asks it. Assumes nothing.
-use mathlib.Core.Path.{◌≡◌, ap}
-use mathlib.Core.Bool.{Bool, true, false, ◌&&◌, ◌||◌, and-false, and-true, or-false}
-use Prim.Native.Nat.{ℕ, ◌<◌}
-use borrow.Author.Tests.{eq-eqb, ne_eqb, ltb-true}
-use lib.Dec.{eqb}
+use Rattle.std.proofs.Common.{Err, Ok, ◌≡◌, ap, Bool, true, false, ◌&&◌, ◌||◌, ℕ, ◌<◌, eq-eqb, ne_eqb, ltb-true, eqb}
+use mathlib.Core.Bool.{and-false, and-true}
 use Rattle.lists.specs.Lists.{any}
 use Rattle.rights.specs.Rights.{worth_of}
 use Rattle.register.specs.Limits.{claim_limit}
@@ -11,7 +8,6 @@ use Rattle.register.specs.declared.Claim.{Claim}
 use Rattle.register.specs.declared.Register.{Register}
 use Rattle.refusals.specs.Refusals.{is_accepted}
 use Rattle.refusals.specs.declared.Refusal.{Refusal}
-use Rattle.refusals.specs.declared.Outcome.TheVariants.{Accepted, Refused}
 use Rattle.change_rules.specs.Changes.{appended, granted}
 use Rattle.change_rules.proofs.Grants.{grant_out}
 use Rattle.granting.specs.Settled.{grant_outcome}
@@ -49,36 +45,25 @@ pub permits_by : (r : Register) (a : Action) (d : Decision) → d ≡ (gated r a
 unfolding permits
 permits_by r a d e = ap is_permitted e
 
-taken : (r : Register) (c : Claim) (moment : ℕ) → (grant_outcome r c moment).outcome ≡ Accepted → is_accepted (granted r c moment).outcome ≡ true
+taken : (r : Register) (c : Claim) (moment : ℕ) → (grant_outcome r c moment).outcome ≡ Ok tt → is_accepted (granted r c moment).outcome ≡ true
 unfolding granted grant_outcome
 taken r c moment e = ap is_accepted e
 
 -- an accepted grant finds room
-pub room_left : (r : Register) (c : Claim) (moment : ℕ) → (grant_outcome r c moment).outcome ≡ Accepted → r.claims.count < claim_limit
+pub room_left : (r : Register) (c : Claim) (moment : ℕ) → (grant_outcome r c moment).outcome ≡ Ok tt → r.claims.count < claim_limit
 room_left r c moment e = ltb-true r.claims.count claim_limit (grant_out r c moment (taken r c moment e)).room
 
 module _ (r : Register) (x : ℕ) (u : Usage) (moment : ℕ) (c : Claim) where
   -- a refused grant helps nothing
-  pub unhelped : (why : Refusal) → (grant_outcome r c moment).outcome ≡ Refused why → helping r x u moment c ≡ false
+  pub unhelped : (why : Refusal) → (grant_outcome r c moment).outcome ≡ Err why → helping r x u moment c ≡ false
   unfolding helping granted grant_outcome
   unhelped why e = rw e
 
   -- an accepted grant helps where the register with its claim permits the one use
-  pub helped : (grant_outcome r c moment).outcome ≡ Accepted
+  pub helped : (grant_outcome r c moment).outcome ≡ Ok tt
       → helping r x u moment c ≡ permits (appended r (grant_outcome r c moment).claim) (one_use x u moment)
   unfolding helping granted grant_outcome
   helped e = rw e
-
--- a proposal by its kind, where `already` says whether the one use alone is permitted
-pub none_passes : (kind : ℕ) (already grant : Bool) → kind ≡ no_grant_kind → (eqb kind no_grant_kind && already) || (eqb kind grant_kind && grant) ≡ already
-none_passes kind already grant e = rw e (or-false already)
-
-pub neither_passes : (kind : ℕ) (already grant : Bool) → (kind ≡ no_grant_kind → ⊥) → (kind ≡ grant_kind → ⊥)
-    → (eqb kind no_grant_kind && already) || (eqb kind grant_kind && grant) ≡ false
-neither_passes kind already grant e f = rw (ne_eqb kind no_grant_kind e, ne_eqb kind grant_kind f)
-
-pub grant_passes : (kind : ℕ) (already grant : Bool) → kind ≡ grant_kind → (eqb kind no_grant_kind && already) || (eqb kind grant_kind && grant) ≡ grant
-grant_passes kind already grant e = rw e
 
 -- and so it is that a proposal passes
 pub passing_by : (r : Register) (x : ℕ) (u : Usage) (moment : ℕ) (s : Signers) (p : Proposal) (already : Bool) → already ≡ permits r (one_use x u moment)

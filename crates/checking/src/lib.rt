@@ -3,10 +3,9 @@
 // register that the grant leaves. It knows nothing of the planner.
 #![tactic(auto)]
 
-ghost use Rattle.std.specs.Prelude.{◌≡◌, ◌&&◌, ◌||◌, cond, ◌<◌, eqb};
+ghost use Rattle.std.specs.Prelude.{◌≡◌, ◌&&◌, ◌||◌, cond, ◌<◌, eqb, Err};
 ghost use Rattle.register.specs.Limits.{claim_limit};
 ghost use Rattle.refusals.specs.declared.Refusal.TheVariants.{Range};
-ghost use Rattle.refusals.specs.declared.Outcome.TheVariants.{Refused};
 ghost use Rattle.change_rules.specs.Changes.{appended};
 ghost use Rattle.actions.specs.Actions.{is_permitted};
 ghost use Rattle.gate_rules.specs.Gate.{gated};
@@ -16,35 +15,30 @@ ghost use Rattle.proposals.specs.declared.Checked.TheVariants.{Passes, Fails};
 
 use actions::{Action, Decision, Usage};
 use proposals::{Checked, Proposal, Signers};
-use refusals::{Outcome, Refusal};
+use refusals::Refusal;
 use register::{Claim, Register};
 
 // The number of the refusal of a register that is not sound.
 const UNSOUND: u32 = 1;
 
 // 2 where the call's numbers are out of range, else what comes next.
-fn ranged(inside: bool, next: Outcome) -> Outcome
-    ensures { result ≡ cond inside next (Refused Range) }
+fn ranged(inside: bool, next: Result<(), Refusal>) -> Result<(), Refusal>
+    ensures { result ≡ cond inside next (Err Range) }
 {
-    if inside {
-        next
-    } else {
-        Outcome::Refused(Refusal::Range)
-    }
+    if inside { next } else { Err(Refusal::Range) }
 }
 
 // The outcome of the tests of the call, by what the gate decides of the one use: its 1 is theirs, then comes 2, and what it still stops is 3.
-fn asked(decided: Decision, inside: bool) -> Outcome
+fn asked(decided: Decision, inside: bool) -> Result<(), Refusal>
     ensures { result ≡ asked_by decided inside }
 {
     match decided {
-        Decision::Permitted => ranged(inside, Outcome::Accepted),
-        Decision::Refused => ranged(inside, Outcome::Accepted),
+        Decision::Permitted | Decision::Refused => ranged(inside, Ok(())),
         Decision::Stopped(why) => {
             if refusals::number(why) == UNSOUND {
-                Outcome::Refused(Refusal::Unsound)
+                Err(Refusal::Unsound)
             } else {
-                ranged(inside, Outcome::Refused(Refusal::Absent))
+                ranged(inside, Err(Refusal::Absent))
             }
         }
     }
@@ -54,11 +48,8 @@ fn asked(decided: Decision, inside: bool) -> Outcome
 fn decide(r: Register, a: Action) -> Decision
     ensures { result ≡ (gated r a).decision }
 {
-    let actors = r.actors;
-    let o = r.resources;
-    let k = r.claims;
     let mut sheet = [0u32; columns::SHEET];
-    let found = soundness::examine(&mut sheet, r.version, actors, o, k);
+    let found = soundness::examine(&mut sheet, r.version, r.actors, r.resources, r.claims);
     let verdict = gate::gate_by(r, &sheet, found, a);
     verdict.decision
 }
@@ -67,11 +58,7 @@ fn decide(r: Register, a: Action) -> Decision
 fn is_permitted(d: Decision) -> bool
     ensures { result ≡ is_permitted d }
 {
-    match d {
-        Decision::Permitted => true,
-        Decision::Refused => false,
-        Decision::Stopped(_) => false,
-    }
+    matches!(d, Decision::Permitted)
 }
 
 // Whether the gate permits an action.
@@ -102,18 +89,10 @@ fn with_claim(r: Register, c: Claim) -> Register
     requires { r.claims.count < claim_limit }
     ensures { result ≡ appended r c }
 {
-    let actors = r.actors;
-    let resources = r.resources;
     let mut claims = r.claims;
-    let at = claims.count;
-    claims.list[at] = c;
-    claims.count = at + 1;
-    Register {
-        actors,
-        resources,
-        claims,
-        version: r.version,
-    }
+    claims.list[claims.count] = c;
+    claims.count += 1;
+    Register { claims, ..r }
 }
 
 // Whether a grant would be accepted at the moment, and the one use would then be permitted.
@@ -124,8 +103,8 @@ fn helps(r: Register, x: u32, u: Usage, moment: u64, c: Claim) -> bool
     let stored = settled.claim;
     let outcome = settled.outcome;
     match outcome {
-        Outcome::Refused(_) => false,
-        Outcome::Accepted => {
+        Err(_) => false,
+        Ok(()) => {
             let after = with_claim(r, stored);
             permitted(after, actions::one_use(x, u, moment))
         }
@@ -175,8 +154,8 @@ pub fn check(r: Register, x: u32, u: Usage, moment: u64, s: Signers, p: Proposal
     let decided = decide(r, actions::one_use(x, u, moment));
     let outcome = asked(decided, proposals::asks_fit(u, moment, s));
     match outcome {
-        Outcome::Refused(why) => Checked::Stopped(why),
-        Outcome::Accepted => {
+        Err(why) => Checked::Stopped(why),
+        Ok(()) => {
             let already = is_permitted(decided);
             told(passes(r, x, u, moment, s, p, already))
         }

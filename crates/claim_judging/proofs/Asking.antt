@@ -1,10 +1,5 @@
 -- The rules of a claim by itself, as the code asks them: each from what the tests found. Assumes nothing.
-use mathlib.Core.Path.{◌≡◌}
-use mathlib.Core.Bool.{Bool, true, not, ◌&&◌, ◌||◌}
-use mathlib.Core.List.{[], ◌∷◌}
-use Prim.Native.Nat.{ℕ}
-use lib.Dec.{eqb, leb, ltb}
-use borrow.Author.Tests.{eq-eqb, ne_eqb}
+use Rattle.std.proofs.Common.{◌≡◌, Bool, true, not, ◌&&◌, ◌||◌, [], ◌∷◌, ℕ, eqb, leb, ltb, eq-eqb, ne_eqb}
 use Rattle.lists.specs.Each.{joined_ands}
 use Rattle.rights.specs.Rights.{is_rights, bars_machine}
 use Rattle.register.specs.Limits.{claim_limit, id_limit, weight_limit, left_limit, tells_left, moment_end, machine_kind, is_id}

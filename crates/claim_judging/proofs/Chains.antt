@@ -1,15 +1,7 @@
 -- What the definitions answer where a test fails and those before it pass, and where the last one decides. Assumes nothing.
-use mathlib.Core.Path.{◌≡◌, refl, sym, ap, ◌∙◌}
-use mathlib.Core.Bool.{Bool, true, false, not, ◌&&◌, ◌||◌, and-true}
-use mathlib.Core.List.{List}
-use Prim.Native.Nat.{ℕ, zero, suc, ◌-◌, ◌≤◌, ◌<◌}
-use native.Mathlib.Omega.{arith}
-use borrow.Author.Tests.{eq-eqb, ne_eqb, lt-ltb, le-ltb, ltb-true, ltb-false}
-use lib.Dec.{eqb, ltb}
-use lib.ListN.{get_or}
-use Rattle.register.specs.Limits.{left_limit}
+use Rattle.std.proofs.Common.{◌≡◌, refl, sym, ap, ◌∙◌, Bool, true, false, not, ◌&&◌, ◌||◌, List, ℕ, zero, suc, ◌-◌, ◌≤◌, ◌<◌, arith, eq-eqb, ne_eqb, eqb, ltb, get_or}
+use mathlib.Core.Bool.{and-true}
 use Rattle.register.specs.declared.Claim.{Claim}
-use Rattle.lists.specs.Tests.{cases}
 use Rattle.soundness_rules.specs.Sound.{drawn_from}
 use Rattle.claim_judging.specs.Over.{hands_at, circles_up, over_at}
 
@@ -37,24 +29,6 @@ module _ (ups grantors holders : List ℕ) (j h : ℕ) where
   unfolding circles_up
   circle_last zero none = refl
   circle_last (suc steps) none = absurd (omega arith)
-
--- 16 less one hop more is less, up to 16 hops
-less_left : (steps : ℕ) → ltb steps left_limit ≡ ltb (left_limit - suc steps) (left_limit - steps)
-less_left steps =
-    cases (ltb steps left_limit)
-    (λ e. e ∙ sym (lt-ltb (left_limit - suc steps) (left_limit - steps) (omega (arith, ltb-true steps left_limit e))))
-    (λ e. e ∙ sym (le-ltb (left_limit - suc steps) (left_limit - steps) (omega (arith, ltb-false steps left_limit e))))
-
--- how many hands are left, by the version
-module _ (version : ℕ) (untold : version ≡ 2 → ⊥) where
-  pub left_none : (hops : ℕ) (c : Claim) → left_limit ≤ hops → 0 ≡ hands_at version hops c
-  left_none hops c h = let none : left_limit - hops ≡ 0 = omega arith in rw (ne_eqb version 2 untold, none)
-
-  pub left_counted : (hops : ℕ) (c : Claim) → left_limit - hops ≡ hands_at version hops c
-  left_counted hops c = rw (ne_eqb version 2 untold)
-
-  pub fewer_counted : (steps : ℕ) (p c : Claim) → ltb steps left_limit ≡ ltb (hands_at version (suc steps) c) (hands_at version steps p)
-  fewer_counted steps p c = rw (ne_eqb version 2 untold) (less_left steps)
 
 -- what a claim is asked over its parent, test by test
 module _ (version : ℕ) (ups grantors holders : List ℕ) (j steps : ℕ) (p c : Claim) where

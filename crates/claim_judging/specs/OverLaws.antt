@@ -1,10 +1,9 @@
 -- Laws: What the judgement by columns and places is in 01's words, where the columns are those of a list of claims and the places are kept of each
 -- claim's parent. Assumes nothing.
-use Rattle.std.specs.Prelude.{◌≡◌, refl, true, false, ◌&&◌, ◌||◌, List, [], ◌∷◌, map, ltb, take}
-use Rattle.std.proofs.Math.Path.{sym, ap}
+use Rattle.std.specs.Prelude.{◌≡◌, refl, true, false, ◌&&◌, ◌||◌, List, [], ◌∷◌, map, ltb, take, None, Some, ℕ, zero, suc, ◌<◌}
 use Rattle.std.proofs.Common.{◌∙◌, arith, eq-eqb, ne_eqb, ltb-true, ltb-false}
+use Rattle.std.proofs.Math.Path.{sym, ap}
 use Rattle.std.proofs.Math.Bool.{not, or-false, or_assoc}
-use Prim.Native.Nat.{ℕ, zero, suc, ◌<◌}
 use Rattle.std.proofs.Math.Dec.{eqb}
 use Rattle.std.proofs.Math.ListN.{length, get_or, length-map, get_or-eq_default}
 use Rattle.lists.specs.Lists.{any, ands}
@@ -14,7 +13,6 @@ use Rattle.register.specs.Chain.{latest, above, circling, root_granted}
 use Rattle.register.specs.declared.Claim.{Claim}
 use Rattle.columns.specs.Columns.{claim_id, parent_of, grantor_of, holder_of, latest_place, chain_places, places_up}
 use Rattle.columns.specs.Laws.{place_cases, place_found_lem, nowhere_none, place_among, among_natural, chain_places_at, chain_places_nowhere, chain_places_zero, chain_natural, circling_natural, chain_found, chain_nowhere, get_d_inside, places_up_at, places_up_none}
-use Rattle.columns.specs.declared.Place.TheVariants.{At, Nowhere}
 use Rattle.soundness_rules.specs.Sound.{drawn_from, fewer_left, over_chain, drawn, fresh, over}
 use Rattle.claim_judging.specs.Over.{circles_up, over_at, stand_over}
 use Rattle.lists.specs.Tests.{cases}
@@ -59,7 +57,7 @@ circles_places ups grantors holders h (suc steps) j e =
 module _ (ids parents : List ℕ) where
   -- the place kept for each below n is that of its parent, where that stands before it
   abbrev pub KeptPlaces : List ℕ → ℕ → Type 0
-  KeptPlaces ups n = (j k : ℕ) → j < n → latest_place ids j (get_or parents j 0) ≡ At k → get_or ups j 0 ≡ k
+  KeptPlaces ups n = (j k : ℕ) → j < n → latest_place ids j (get_or parents j 0) ≡ Some k → get_or ups j 0 ≡ k
 
   -- the chain above place j
   abbrev pub higher : ℕ → List ℕ
@@ -105,11 +103,11 @@ module _ (version : ℕ) (cs : List Claim) (n : ℕ) (c : Claim) where
   fresh_natural = ap not (any_reverse (λ d. eqb c.id d.id) (take n cs) ∙ sym (among_natural claim_id c.id n cs))
 
   -- its id stands before it
-  pub doubled : (k : ℕ) → latest_place (map claim_id cs) n c.id ≡ At k → over version (latest (take n cs)) c ≡ false
+  pub doubled : (k : ℕ) → latest_place (map claim_id cs) n c.id ≡ Some k → over version (latest (take n cs)) c ≡ false
   unfolding over
   doubled k q = rw (fresh_natural, place_among (map claim_id cs) c.id n k q)
 
-  module _ (apart : latest_place (map claim_id cs) n c.id ≡ Nowhere) where
+  module _ (apart : latest_place (map claim_id cs) n c.id ≡ None) where
     over_drawn : over version (latest (take n cs)) c ≡ drawn version (latest (take n cs)) c
     unfolding over
     over_drawn = rw (fresh_natural, nowhere_none (map claim_id cs) c.id n apart)
@@ -123,12 +121,12 @@ module _ (version : ℕ) (cs : List Claim) (n : ℕ) (c : Claim) where
       unfolding drawn
       over_chain_lem = over_drawn ∙ rw (ne_eqb c.parent 0 o)
 
-      pub parent_nowhere : latest_place (map claim_id cs) n c.parent ≡ Nowhere → over version (latest (take n cs)) c ≡ false
+      pub parent_nowhere : latest_place (map claim_id cs) n c.parent ≡ None → over version (latest (take n cs)) c ≡ false
       unfolding over_chain
       parent_nowhere q = over_chain_lem ∙ ap (λ l. over_chain version l c) (chain_nowhere cs n c.parent q)
 
       -- its parent stands at place k
-      module _ (k : ℕ) (q : latest_place (map claim_id cs) n c.parent ≡ At k) where
+      module _ (k : ℕ) (q : latest_place (map claim_id cs) n c.parent ≡ Some k) where
         -- it has one hop more
         pub one_hop_more : length (chain_places (map claim_id cs) (map parent_of cs) n c.parent) ≡ suc (length (higher (map claim_id cs) (map parent_of cs) k))
         one_hop_more = ap length (chain_places_at (map claim_id cs) (map parent_of cs) n c.parent k o q)

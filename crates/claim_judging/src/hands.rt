@@ -23,14 +23,7 @@ pub fn stored(version: u64, hops: usize, c: Claim) -> Claim
     ensures { result ≡ with_left (hands_at version hops c) c }
 {
     Claim {
-        id: c.id,
-        parent: c.parent,
-        grantor: c.grantor,
-        holder: c.holder,
-        resource: c.resource,
-        rights: c.rights,
-        weight: c.weight,
         left: hands_left(version, hops, c),
-        expiry: c.expiry,
+        ..c
     }
 }

@@ -29,11 +29,7 @@ fn drawn_from(p: Claim, c: Claim) -> bool
 fn place_at(places: &[u16], at: usize) -> usize
     ensures { result ≡ get_or places.now at 0 }
 {
-    if at < places.len() {
-        places[at] as usize
-    } else {
-        0
-    }
+    places.get(at).map_or(0, |place| usize::from(*place))
 }
 
 // Whether `h` holds the claim at the place `from` or one of those up to `steps` higher, or is the grantor of the last of them. `ups` has
@@ -49,13 +45,11 @@ pub fn circles_up<'a>(
     ensures { result ≡ circles_up ups.now grantors.now holders.now from steps h }
 {
     let mut member = from;
-    let mut left = steps;
-    while 0 < left {
+    for _step in 0..steps {
         if columns::number_at(holders, member) == h {
             return true;
         }
         member = place_at(ups, member);
-        left -= 1;
     }
     (columns::number_at(holders, member) == h) | (columns::number_at(grantors, member) == h)
 }

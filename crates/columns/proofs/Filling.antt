@@ -1,14 +1,6 @@
 -- A loop that fills an array from the front, each place with f of the element that stands there, up to a count. Assumes nothing.
-use mathlib.Core.Path.{◌≡◌, refl, sym, ap, ◌∙◌}
-use mathlib.Core.List.{List, [], ◌∷◌, ◌++◌, map}
-use Prim.Native.Nat.{ℕ, zero, suc, ◌+◌, ◌-◌, ◌≤◌, ◌<◌, min}
+use Rattle.std.proofs.Common.{◌≡◌, refl, sym, ap, ◌∙◌, List, [], ◌∷◌, ◌++◌, map, ℕ, zero, suc, ◌+◌, ◌-◌, ◌≤◌, ◌<◌, min, add-one, arith, leb-true, leb-false, leb, length, take, get_or, set, replicate, length-take, take-suc}
 use native.Mathlib.Nat.{sub-zero}
-use native.Mathlib.Numerals.{add-one}
-use native.Mathlib.Omega.{arith}
-use borrow.Author.Tests.{leb-true, leb-false}
-use lib.Dec.{leb}
-use lib.ListN.{length, take, get_or, set, replicate, length-take}
-use lib.Seq.{take-suc}
 use Rattle.lists.specs.Tests.{cases}
 use Rattle.lists.specs.Fills.{put_first}
 use Rattle.columns.specs.Columns.{up_to}

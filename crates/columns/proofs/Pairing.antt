@@ -1,12 +1,6 @@
 -- A loop from the front over the first n of two columns, looking for x in the one beside y in the other. Assumes nothing.
-use mathlib.Core.Path.{◌≡◌, refl, sym, ap, ◌∙◌}
-use mathlib.Core.Bool.{Bool, false, ◌&&◌, ◌||◌, or_assoc, or-false}
-use mathlib.Core.List.{List, [], ◌∷◌}
-use Prim.Native.Nat.{ℕ, ◌+◌, ◌≤◌, ◌<◌, min}
-use native.Mathlib.Omega.{arith}
-use lib.Dec.{eqb, leb}
-use lib.ListN.{length, take, drop, get_or, length-take, drop_of_length-le}
-use borrow.Author.Tests.{leb-true, leb-false}
+use Rattle.std.proofs.Common.{◌≡◌, refl, sym, ap, ◌∙◌, Bool, false, ◌&&◌, ◌||◌, List, [], ◌∷◌, ℕ, ◌+◌, ◌≤◌, ◌<◌, min, arith, eqb, leb, length, take, drop, get_or, length-take, drop_of_length-le, leb-true, leb-false}
+use mathlib.Core.Bool.{or_assoc, or-false}
 use Rattle.lists.specs.Tests.{cases}
 use Rattle.lists.specs.Loops.{drop_at}
 use Rattle.columns.specs.Columns.{beside}
@@ -14,7 +8,7 @@ use Rattle.columns.specs.Columns.{beside}
 -- the loop has come to place i: x stands beside y where they were hit or do so in what is left
 pub record Pairing (column other : List ℕ) (n x y top : ℕ) (hit : Bool) (i : ℕ) : Type 0 where
   pub within : i ≤ top
-  pub long : top ≡ min n (min (length column) (length other))
+  pub long : top ≡ min (min n (length column)) (length other)
   pub ahead : beside (take n column) (take n other) x y ≡ hit || beside (drop i (take n column)) (drop i (take n other)) x y
 
 -- where one column ends, nothing stands beside
@@ -32,9 +26,6 @@ unfolding beside
 beside_cons x y a b l m = refl
 
 module _ {column other : List ℕ} {n x y top : ℕ} where
-  pub pairing_start : top ≡ min n (min (length column) (length other)) → Pairing column other n x y top false 0
-  pairing_start h = record { within = omega arith; long = h; ahead = refl }
-
   module _ {hit : Bool} {i : ℕ} (s : Pairing column other n x y top hit i) where
     pub pairing_next : i < top → Pairing column other n x y top (hit || (eqb x (get_or column i 0) && eqb y (get_or other i 0))) (i + 1)
     pairing_next h =

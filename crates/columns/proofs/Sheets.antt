@@ -1,19 +1,13 @@
 -- A sheet by the steps of the code: a column as a part of it, a claim read number by number, and claims put into it one after the other. Assumes
 -- nothing.
-use mathlib.Core.Path.{◌≡◌, sym, ap, ◌∙◌}
-use mathlib.Core.Bool.{cond, and-false}
-use mathlib.Core.List.{List, [], ◌∷◌}
-use Prim.Native.Nat.{ℕ, suc, ◌+◌, ◌*◌, ◌-◌, ◌≤◌, ◌<◌, min}
-use native.Mathlib.Omega.{arith}
-use borrow.Author.Tests.{lt-leb, le-ltb, ne_eqb}
-use lib.Dec.{eqb, leb}
-use lib.ListN.{length, take, drop, get_or, set}
-use lib.Seq.{lt-length-set, get_or-take, get_or-drop}
+use Rattle.std.proofs.Common.{◌≡◌, sym, ap, ◌∙◌, cond, List, [], ℕ, ◌+◌, ◌*◌, ◌-◌, ◌≤◌, ◌<◌, min, arith, le-ltb, ne_eqb, eqb, leb, length, take, drop, get_or, get_or-take, get_or-drop}
+use mathlib.Core.Bool.{and-false}
+use borrow.Author.Tests.{lt-leb}
 use Rattle.lists.specs.Loops.{Loop, start, turn, next, done}
 use Rattle.register.specs.Limits.{claim_limit}
 use Rattle.register.specs.Register.{no_claim}
 use Rattle.register.specs.declared.Claim.{Claim}
-use Rattle.columns.specs.Sheet.{sheet_limit, last_column, column_of, claim_of, claim_at, numbers_put, claim_put, claims_put, taken_apart, sheet_with}
+use Rattle.columns.specs.Sheet.{sheet_limit, last_column, column_of, claim_of, claim_at, claim_put, claims_put, taken_apart, sheet_with}
 use Rattle.columns.specs.SheetLaws.{column_within, claim_same, claim_put_length, claims_put_nil, claims_put_next, sheet_with_put}
 
 module _ (s : List ℕ) where
@@ -46,11 +40,6 @@ module _ (s : List ℕ) where
       (λ j there. sym (ap (λ l. get_or l i 0) (column_within s j long there)
       ∙ get_or-take claim_limit (drop (j * claim_limit) s) i 0 inside
       ∙ get_or-drop (j * claim_limit) s i 0))
-
--- a place of a list is one of it with numbers put into it
-pub inside_put : (xs s : List ℕ) (i j : ℕ) {k : ℕ} → k < length s → k < length (numbers_put s i j xs)
-inside_put [] s i j h = h
-inside_put (x ∷ xs) s i j h = inside_put xs (set s (j * claim_limit + i) x) i (suc j) (lt-length-set s (j * claim_limit + i) x h)
 
 -- a list of another length is left as it is
 pub sheet_with_kept : (s : List ℕ) (cs : List Claim) → (length s ≡ sheet_limit → ⊥) → sheet_with s cs ≡ s

@@ -1,36 +1,23 @@
 -- The walk up a chain by the places of the parents that counts its steps. Assumes nothing.
-use mathlib.Core.Path.{◌≡◌, ap, ◌∙◌}
-use mathlib.Core.Bool.{cond}
-use mathlib.Core.List.{List, ◌∷◌}
-use Prim.Native.Nat.{ℕ, suc, ◌+◌, ◌≤◌, ◌<◌}
-use native.Mathlib.Omega.{arith}
-use borrow.Author.Tests.{le-leb, lt-leb}
-use lib.Dec.{leb}
-use lib.ListN.{length, get_or}
+use Rattle.std.proofs.Common.{Option, ℕ, None, Some, ◌≡◌, ap, ◌∙◌, cond, List, ◌∷◌, suc, ◌+◌, ◌≤◌, ◌<◌, arith, le-leb, leb, length, get_or}
+use borrow.Author.Tests.{lt-leb}
 use Rattle.register.specs.Limits.{hop_limit}
-use Rattle.columns.specs.declared.Hops.{Hops}
-use Rattle.columns.specs.declared.Hops.TheVariants.{Up, Beyond}
-use Rattle.columns.specs.Columns.{steps_up, places_up}
+use Rattle.columns.specs.Columns.{places_up}
 use Rattle.columns.specs.Laws.{places_up_at, places_up_none}
 
 -- the steps up, told from those made and the chain still above
-abbrev steps_after : ℕ → List ℕ → Hops
-steps_after k l = cond (leb (k + length l) hop_limit) (Up (k + length l)) Beyond
+abbrev steps_after : ℕ → List ℕ → Option ℕ
+steps_after k l = cond (leb (k + length l) hop_limit) (Some (k + length l)) None
 
 -- k steps were made up to a place, `up` is what is kept for it, and e is the number of steps up
-pub record Climbing (ups : List ℕ) (k at up : ℕ) (e : Hops) : Type 0 where
+pub record Climbing (ups : List ℕ) (k at up : ℕ) (e : Option ℕ) : Type 0 where
   pub within : k ≤ hop_limit
   pub next : up ≡ get_or ups at at
   pub ahead : e ≡ steps_after k (places_up ups at)
 
-pub climbing_start : (ups : List ℕ) (from : ℕ) {up : ℕ} → up ≡ get_or ups from from → Climbing ups 0 from up (steps_up (places_up ups from))
-climbing_start ups from u =
-    let none : length (places_up ups from) ≡ 0 + length (places_up ups from) = omega arith in
-    record { within = omega arith; next = u; ahead = ap (λ m. cond (leb m hop_limit) (Up m) Beyond) none }
-
-module _ {ups : List ℕ} {k at up : ℕ} {e : Hops} (s : Climbing ups k at up e) where
+module _ {ups : List ℕ} {k at up : ℕ} {e : Option ℕ} (s : Climbing ups k at up e) where
   -- nothing is above
-  pub climbing_root : at ≤ up → e ≡ Up k
+  pub climbing_root : at ≤ up → e ≡ Some k
   climbing_root h =
       let none : k + 0 ≡ k = omega arith in
       s.ahead ∙ ap (steps_after k) (places_up_none ups at (rw (← s.next) h)) ∙ rw (none, le-leb k hop_limit s.within)
@@ -44,6 +31,6 @@ module _ {ups : List ℕ} {k at up : ℕ} {e : Hops} (s : Climbing ups k at up e
         let one_more : k + suc (length (places_up ups up)) ≡ k + 1 + length (places_up ups up) = omega arith in
         record { within = omega arith; next = u; ahead = s.ahead ∙ ap (steps_after k) more ∙ rw one_more }
 
-    pub climbing_beyond : hop_limit ≤ k → e ≡ Beyond
+    pub climbing_beyond : hop_limit ≤ k → e ≡ None
     climbing_beyond full =
         s.ahead ∙ ap (steps_after k) more ∙ rw (lt-leb (k + suc (length (places_up ups up))) hop_limit (omega arith))

@@ -1,6 +1,6 @@
 -- Working: The columns of a register's lists, and chains as places of columns. They are shaped for the code; what they are in 01's words is proved in
 -- Laws (`chain_natural`).
-use Rattle.std.specs.Prelude.{Bool, false, ◌&&◌, ◌||◌, cond, List, [], ◌∷◌, ◌++◌, map, ℕ, zero, suc, ◌-◌, eqb, ltb, leb, length, take, get_or, replicate}
+use Rattle.std.specs.Prelude.{Bool, false, ◌&&◌, ◌||◌, cond, List, [], ◌∷◌, ◌++◌, map, ℕ, zero, suc, ◌-◌, eqb, ltb, leb, length, take, get_or, replicate, Option, None, Some}
 use Rattle.register.specs.Limits.{hop_limit}
 use Rattle.register.specs.Register.{no_actor, no_resource}
 use Rattle.register.specs.Chain.{chain, current, weighing}
@@ -11,10 +11,6 @@ use Rattle.register.specs.declared.Resource.{Resource}
 use Rattle.register.specs.declared.Claim.{Claim}
 use Rattle.columns.specs.declared.ActorColumns.{ActorColumns}
 use Rattle.columns.specs.declared.ResourceColumns.{ResourceColumns}
-use Rattle.columns.specs.declared.Hops.{Hops}
-use Rattle.columns.specs.declared.Hops.TheVariants.{Up, Beyond}
-use Rattle.columns.specs.declared.Place.{Place}
-use Rattle.columns.specs.declared.Place.TheVariants.{At, Nowhere}
 
 abbrev pub actor_id : Actor → ℕ
 actor_id a = a.id
@@ -82,9 +78,9 @@ places zero = []
 places (suc n) = n ∷ places n
 
 -- the latest place below n at which the column holds x
-unfoldable pub latest_place : List ℕ → ℕ → ℕ → Place
-latest_place column zero x = Nowhere
-latest_place column (suc n) x = let more = latest_place column n x in cond (ltb n (length column) && eqb (get_or column n 0) x) (At n) more
+unfoldable pub latest_place : List ℕ → ℕ → ℕ → Option ℕ
+latest_place column zero x = None
+latest_place column (suc n) x = let more = latest_place column n x in cond (ltb n (length column) && eqb (get_or column n 0) x) (Some n) more
 
 -- whether a place holds x in one column and y in the other
 unfoldable pub beside : List ℕ → List ℕ → ℕ → ℕ → Bool
@@ -102,8 +98,8 @@ abbrev pub places_up : List ℕ → ℕ → List ℕ
 places_up ups at = chain (λ j. suc j) (λ j. suc (get_or ups j j)) (places at) (suc (get_or ups at at))
 
 -- the number of steps of a chain, where it is not more than the limit
-abbrev pub steps_up : {A : Type 0} → List A → Hops
-steps_up l = cond (leb (length l) hop_limit) (Up (length l)) Beyond
+abbrev pub steps_up : {A : Type 0} → List A → Option ℕ
+steps_up l = cond (leb (length l) hop_limit) (Some (length l)) None
 
 -- whether the claim at a place is current, by the columns of weights and expiries
 abbrev pub current_at : List ℕ → List ℕ → ℕ → ℕ → Bool

@@ -1,12 +1,10 @@
 -- Laws: What columns say of the lists that they are the columns of, and what the definitions over columns say place by place. Assumes nothing.
-use Rattle.std.specs.Prelude.{◌≡◌, Bool, true, false, ◌&&◌, ◌||◌, eqb, ltb, leb}
+use Rattle.std.specs.Prelude.{◌≡◌, Bool, true, false, ◌&&◌, ◌||◌, eqb, ltb, leb, Option, ℕ, None, Some, List, [], ◌∷◌, ◌++◌, map, zero, suc, ◌-◌, ◌≤◌, ◌<◌, min}
+use Rattle.std.proofs.Common.{sym, ◌∙◌, take-suc, get_or-take, append-nil, arith, lt-ltb, le-ltb, eq-eqb, ne_eqb, le-leb, ltb-true, ltb-false, eqb-true, leb-true, leb-false}
 use Rattle.std.proofs.Math.Path.{refl, ap, fun_ext}
-use Rattle.std.proofs.Common.{sym, ◌∙◌, take-suc, get_or-take}
 use Rattle.std.proofs.Math.Bool.{or-false}
-use mathlib.Core.List.{List, [], ◌∷◌, ◌++◌, map, append-nil, reverse-append}
-use Prim.Native.Nat.{ℕ, zero, suc, ◌-◌, ◌≤◌, ◌<◌, min}
-use native.Mathlib.Omega.{arith}
-use borrow.Author.Tests.{lt-ltb, le-ltb, eq-eqb, ne_eqb, le-leb, ltb-true, ltb-false, eqb-true, eqb-false, leb-true, leb-false}
+use mathlib.Core.List.{reverse-append}
+use borrow.Author.Tests.{eqb-false}
 use Rattle.std.proofs.Math.ListN.{length, take, get_or, replicate, length-append, length-take, length-replicate, get_or-map, get_or-eq_default}
 use Rattle.std.proofs.lemmas.List.{length-map}
 use Rattle.std.proofs.Math.Seq.{take_all, take-append_seam}
@@ -18,9 +16,6 @@ use Rattle.register.specs.Register.{no_claim}
 use Rattle.register.specs.Chain.{latest, chain, numbered, circling, current, hops_of}
 use Rattle.register.specs.Laws.{chain_nil, chain_hit, chain_miss, chain_zero, chain_map, circling_map, numbered_own, numbered_other}
 use Rattle.register.specs.declared.Claim.{Claim}
-use Rattle.columns.specs.declared.Hops.TheVariants.{Up}
-use Rattle.columns.specs.declared.Place.{Place}
-use Rattle.columns.specs.declared.Place.TheVariants.{At, Nowhere}
 use Rattle.columns.specs.Columns.{claim_id, parent_of, grantor_of, holder_of, weight_of, expiry_of, up_to, places, latest_place, beside, chain_places, steps_up, current_at, places_up}
 
 and_none : (a b : Bool) → b ≡ false → a && b ≡ false
@@ -62,11 +57,11 @@ holds_at column n x = ltb n (length column) && eqb (get_or column n 0) x
 
 module _ (column : List ℕ) (x : ℕ) where
   -- below place 0 there is none
-  pub place_none : latest_place column 0 x ≡ Nowhere
+  pub place_none : latest_place column 0 x ≡ None
   unfolding latest_place
   place_none = refl
 
-  place_holds : (n : ℕ) → holds_at column n x ≡ true → latest_place column (suc n) x ≡ At n
+  place_holds : (n : ℕ) → holds_at column n x ≡ true → latest_place column (suc n) x ≡ Some n
   unfolding latest_place
   place_holds n e = rw e
 
@@ -74,7 +69,7 @@ module _ (column : List ℕ) (x : ℕ) where
   unfolding latest_place
   place_before n e = rw e
 
-  pub place_hit : (n : ℕ) → n < length column → get_or column n 0 ≡ x → latest_place column (suc n) x ≡ At n
+  pub place_hit : (n : ℕ) → n < length column → get_or column n 0 ≡ x → latest_place column (suc n) x ≡ Some n
   place_hit n h e = place_holds n (rw (lt-ltb n (length column) h, eq-eqb (get_or column n 0) x e))
 
   pub place_miss : (n : ℕ) → n < length column → (get_or column n 0 ≡ x → ⊥) → latest_place column (suc n) x ≡ latest_place column n x
@@ -94,7 +89,7 @@ module _ (column : List ℕ) (x : ℕ) where
       rw same (place_past n past ∙ place_within n))
 
   -- what is found stands below n, in the column, and is x
-  pub place_found_lem : (n k : ℕ) → latest_place column n x ≡ At k → (k < n) × (k < length column) × (get_or column k 0 ≡ x)
+  pub place_found_lem : (n k : ℕ) → latest_place column n x ≡ Some k → (k < n) × (k < length column) × (get_or column k 0 ≡ x)
   place_found_lem zero k q = let never : ◌≡◌ {A = ℕ} 0 1 = cc place_none in absurd (omega arith)
   place_found_lem (suc n) k q =
       cases (holds_at column n x)
@@ -107,9 +102,9 @@ module _ (column : List ℕ) (x : ℕ) where
       (λ e. let found = place_found_lem n k (sym (place_before n e) ∙ q) in (omega (arith, found.0), found.1, found.2))
 
 -- a place taken apart, with its equation
-pub place_cases : {A : Type 0} (p : Place) → ((j : ℕ) → p ≡ At j → A) → (p ≡ Nowhere → A) → A
-place_cases (At j) f g = f j refl
-place_cases Nowhere f g = g refl
+pub place_cases : {A : Type 0} (p : Option ℕ) → ((j : ℕ) → p ≡ Some j → A) → (p ≡ None → A) → A
+place_cases (Some j) f g = f j refl
+place_cases None f g = g refl
 
 -- a number stands nowhere exactly where it is not among the first n
 module _ (column : List ℕ) (x : ℕ) where
@@ -120,7 +115,7 @@ module _ (column : List ℕ) (x : ℕ) where
   any_past : (n : ℕ) → length column ≤ n → any (eqb x) (take (suc n) column) ≡ any (eqb x) (take n column)
   any_past n h = ap (any (eqb x)) (take_all (suc n) column (omega arith) ∙ sym (take_all n column h))
 
-  pub nowhere_none : (n : ℕ) → latest_place column n x ≡ Nowhere → any (eqb x) (take n column) ≡ false
+  pub nowhere_none : (n : ℕ) → latest_place column n x ≡ None → any (eqb x) (take n column) ≡ false
   nowhere_none zero q = refl
   nowhere_none (suc n) q =
       cases (ltb n (length column))
@@ -133,7 +128,7 @@ module _ (column : List ℕ) (x : ℕ) where
       (λ t. let past : length column ≤ n = ltb-false n (length column) t in
       any_past n past ∙ nowhere_none n (sym (place_past column x n past) ∙ q))
 
-  pub none_nowhere : (n : ℕ) → any (eqb x) (take n column) ≡ false → latest_place column n x ≡ Nowhere
+  pub none_nowhere : (n : ℕ) → any (eqb x) (take n column) ≡ false → latest_place column n x ≡ None
   none_nowhere zero q = place_none column x
   none_nowhere (suc n) q =
       cases (ltb n (length column))
@@ -146,7 +141,7 @@ module _ (column : List ℕ) (x : ℕ) where
       (λ t. let past : length column ≤ n = ltb-false n (length column) t in
       place_past column x n past ∙ none_nowhere n (sym (any_past n past) ∙ q))
 
-  pub place_among : (n k : ℕ) → latest_place column n x ≡ At k → any (eqb x) (take n column) ≡ true
+  pub place_among : (n k : ℕ) → latest_place column n x ≡ Some k → any (eqb x) (take n column) ≡ true
   place_among n k q =
       cases (any (eqb x) (take n column)) (λ t. t)
       (λ t. let never : ◌≡◌ {A = ℕ} 0 1 = cc (none_nowhere n t) in absurd (omega arith))
@@ -179,7 +174,7 @@ module _ (ids parents : List ℕ) where
   chain_places_zero n = chain_zero (λ j. get_or ids j 0) (λ j. get_or parents j 0) (places n)
 
   -- the chain from x up begins where x stands latest
-  pub chain_places_at : (n x k : ℕ) → (x ≡ 0 → ⊥) → latest_place ids n x ≡ At k
+  pub chain_places_at : (n x k : ℕ) → (x ≡ 0 → ⊥) → latest_place ids n x ≡ Some k
       → chain_places ids parents n x ≡ k ∷ chain_places ids parents k (get_or parents k 0)
   chain_places_at zero x k h q = let never : ◌≡◌ {A = ℕ} 0 1 = cc (place_none ids x) in absurd (omega arith)
   chain_places_at (suc n) x k h q =
@@ -194,7 +189,7 @@ module _ (ids parents : List ℕ) where
       chain_places_past n x past ∙ chain_places_at n x k h (sym (place_past ids x n past) ∙ q))
 
   -- no place holds x, so there is no chain
-  pub chain_places_nowhere : (n x : ℕ) → latest_place ids n x ≡ Nowhere → chain_places ids parents n x ≡ []
+  pub chain_places_nowhere : (n x : ℕ) → latest_place ids n x ≡ None → chain_places ids parents n x ≡ []
   chain_places_nowhere zero x q = chain_places_nil x
   chain_places_nowhere (suc n) x q =
       cases (ltb n (length ids))
@@ -236,7 +231,7 @@ module _ (ups : List ℕ) (at : ℕ) where
 
 -- the limit of the steps: a chain within it, and one beyond it
 module _ {A : Type 0} (l : List A) where
-  pub steps_within : (k : ℕ) → length l ≡ k → k ≤ hop_limit → steps_up l ≡ Up k
+  pub steps_within : (k : ℕ) → length l ≡ k → k ≤ hop_limit → steps_up l ≡ Some k
   steps_within k e h = rw (e, le-leb k hop_limit h)
 
 -- the columns of any list
@@ -313,7 +308,7 @@ module _ (cs : List Claim) where
       ∙ sym (every_map (λ j. get_or cs j no_claim) (current moment) (chain_places (map claim_id cs) (map parent_of cs) n p))
       ∙ ap (every (current moment)) (chain_natural n p)
 
-  pub chain_found : (n x k : ℕ) → (x ≡ 0 → ⊥) → latest_place (map claim_id cs) n x ≡ At k
+  pub chain_found : (n x k : ℕ) → (x ≡ 0 → ⊥) → latest_place (map claim_id cs) n x ≡ Some k
       → chain claim_id parent_of (latest (take n cs)) x
       ≡ get_or cs k no_claim ∷ chain claim_id parent_of (latest (take k cs)) (parent_of (get_or cs k no_claim))
   chain_found n x k h q =
@@ -323,6 +318,6 @@ module _ (cs : List Claim) where
       ∙ ap (λ p. get_or cs k no_claim ∷ chain claim_id parent_of (latest (take k cs)) p) (get_or-map parent_of cs k no_claim)
 
   -- what is nowhere has no chain
-  pub chain_nowhere : (n x : ℕ) → latest_place (map claim_id cs) n x ≡ Nowhere → chain claim_id parent_of (latest (take n cs)) x ≡ []
+  pub chain_nowhere : (n x : ℕ) → latest_place (map claim_id cs) n x ≡ None → chain claim_id parent_of (latest (take n cs)) x ≡ []
   chain_nowhere n x q =
       sym (chain_natural n x) ∙ ap (map (λ j. get_or cs j no_claim)) (chain_places_nowhere (map claim_id cs) (map parent_of cs) n x q)

@@ -1,12 +1,10 @@
 -- Laws: What the columns of a sheet are of the claims in it, and what claims stand in the sheet of a list of them. Assumes nothing.
-use Rattle.std.specs.Prelude.{◌≡◌, Bool, ◌&&◌, ℕ, zero, suc, ◌+◌, ◌*◌, ◌-◌, ◌≤◌, ◌<◌, eqb, ltb, drop, replicate}
+use Rattle.std.specs.Prelude.{◌≡◌, Bool, ◌&&◌, ℕ, zero, suc, ◌+◌, ◌*◌, ◌-◌, ◌≤◌, ◌<◌, eqb, ltb, drop, replicate, List, [], ◌∷◌, ◌++◌, map}
+use Rattle.std.proofs.Common.{◌∙◌, add-one, length-drop, length-set, take_all, take-suc, get_or-take, ext_get_or, arith, le-leb, leb-true, eq-eqb, lt-ltb, ltb-true, ltb-false}
 use Rattle.std.proofs.Math.Path.{refl, sym, ap, fun_ext}
-use Rattle.std.proofs.Common.{◌∙◌, add-one, length-drop, length-set, take_all, take-suc, get_or-take, ext_get_or}
 use Rattle.std.proofs.Math.Bool.{true, false, cond}
-use mathlib.Core.List.{List, [], ◌∷◌, ◌++◌, map, map-map}
+use mathlib.Core.List.{map-map}
 use Rattle.std.proofs.Math.Nat.{mod-add-div}
-use native.Mathlib.Omega.{arith}
-use borrow.Author.Tests.{le-leb, leb-true, eq-eqb, lt-ltb, ltb-true, ltb-false}
 use Rattle.std.proofs.Math.Dec.{leb}
 use Rattle.std.proofs.Math.ListN.{length, take, get_or, set, length-take, get_or-map, get_or-append, get_or-eq_default}
 use Rattle.std.proofs.lemmas.List.{length-map, length-replicate}

@@ -37,20 +37,6 @@ pub const LATE: usize = 8;
 
 pub const LEFT: usize = 9;
 
-// Where a number stands in a column.
-#[derive(Clone, Copy)]
-pub enum Place {
-    At(usize),
-    Nowhere,
-}
-
-// The number of steps up to the root, or that there is no root within the limit.
-#[derive(Clone, Copy)]
-pub enum Hops {
-    Up(usize),
-    Beyond,
-}
-
 // The columns of the actors: their ids are the names that claims and actions know them by.
 #[derive(Clone, Copy)]
 pub struct ActorColumns {
@@ -71,18 +57,16 @@ pub struct ResourceColumns {
 pub fn actor_columns(k: Actors) -> ActorColumns
     ensures { result ≡ actor_columns (actors_to k).list }
 {
-    let top = lists::least(k.count, Register::ACTORS);
+    let top = k.count.min(Register::ACTORS);
     let mut columns = ActorColumns {
         names: [0; Register::ACTORS],
         kinds: [0; Register::ACTORS],
         owners: [0; Register::ACTORS],
     };
-    let mut i: usize = 0;
-    while i < top {
+    for i in 0..top {
         columns.names[i] = k.list[i].id;
         columns.kinds[i] = k.list[i].kind;
         columns.owners[i] = k.list[i].owner;
-        i += 1;
     }
     columns
 }
@@ -91,18 +75,16 @@ pub fn actor_columns(k: Actors) -> ActorColumns
 pub fn resource_columns(k: Resources) -> ResourceColumns
     ensures { result ≡ resource_columns (resources_to k).list }
 {
-    let top = lists::least(k.count, Register::RESOURCES);
+    let top = k.count.min(Register::RESOURCES);
     let mut columns = ResourceColumns {
         reports: [0; Register::RESOURCES],
         keepers: [0; Register::RESOURCES],
         publics: [0; Register::RESOURCES],
     };
-    let mut i: usize = 0;
-    while i < top {
+    for i in 0..top {
         columns.reports[i] = k.list[i].id;
         columns.keepers[i] = k.list[i].keeper;
         columns.publics[i] = k.list[i].public;
-        i += 1;
     }
     columns
 }
@@ -140,12 +122,9 @@ pub fn put_claims(sheet: &mut [u32], k: Claims)
     ensures { sheet.new ≡ sheet_with sheet.old (claims_of k) }
 {
     if sheet.len() == SHEET {
-        let top = lists::least(k.count, Register::CLAIMS);
-        let mut i: usize = 0;
-        while i < top {
-            let c = k.list[i];
-            put_claim(sheet, i, c);
-            i += 1;
+        let top = k.count.min(Register::CLAIMS);
+        for i in 0..top {
+            put_claim(sheet, i, k.list[i]);
         }
     }
 }
@@ -194,19 +173,17 @@ pub fn claim_at(sheet: &[u32], i: usize) -> Claim
 pub fn number_at(column: &[u32], at: usize) -> u32
     ensures { result ≡ get_or column.now at 0 }
 {
-    if at < column.len() { column[at] } else { 0 }
+    column.get(at).copied().unwrap_or(0)
 }
 
 // Whether `x` stands among the first `n` of a column.
 pub fn is_among(column: &[u32], n: usize, x: u32) -> bool
     ensures { result ≡ any (eqb x) (take n column.now) }
 {
-    let top = lists::least(n, column.len());
+    let top = n.min(column.len());
     let mut hit = false;
-    let mut i: usize = 0;
-    while i < top {
-        hit = hit | (x == column[i]);
-        i += 1;
+    for y in &column[..top] {
+        hit |= x == *y;
     }
     hit
 }
@@ -215,55 +192,49 @@ pub fn is_among(column: &[u32], n: usize, x: u32) -> bool
 pub fn is_beside<'a>(column: &'a [u32], other: &'a [u32], n: usize, x: u32, y: u32) -> bool
     ensures { result ≡ beside (take n column.now) (take n other.now) x y }
 {
-    let top = lists::least(n, lists::least(column.len(), other.len()));
+    let top = n.min(column.len()).min(other.len());
     let mut hit = false;
-    let mut i: usize = 0;
-    while i < top {
-        hit = hit | ((x == column[i]) & (y == other[i]));
-        i += 1;
+    for i in 0..top {
+        hit |= (x == column[i]) & (y == other[i]);
     }
     hit
 }
 
 // The latest place below `n` at which a column holds `x`.
-pub fn latest_place(column: &[u32], n: usize, x: u32) -> Place
+pub fn latest_place(column: &[u32], n: usize, x: u32) -> Option<usize>
     ensures { result ≡ latest_place column.now n x }
 {
-    let mut i = lists::least(n, column.len());
-    while 0 < i {
-        i -= 1;
+    for i in (0..n.min(column.len())).rev() {
         if column[i] == x {
-            return Place::At(i);
+            return Some(i);
         }
     }
-    Place::Nowhere
+    None
 }
 
 // The place that is kept for a place, the place itself past the end.
 pub fn place_above(ups: &[u16], at: usize) -> usize
     ensures { result ≡ get_or ups.now at at }
 {
-    if at < ups.len() { ups[at] as usize } else { at }
+    ups.get(at).map_or(at, |up| usize::from(*up))
 }
 
-// The walk up the chain of the claim at the place `from`, by the places of the parents: at most 16 steps. A parent's place is an earlier one;
-// any other number says that there is none.
-pub fn hop_count(ups: &[u16], from: usize) -> Hops
+// The number of steps up to the root of the chain of the claim at the place `from`, by the places of the parents; none where the root is not
+// within 16 steps. A parent's place is an earlier one; any other number says that there is none.
+pub fn hop_count(ups: &[u16], from: usize) -> Option<usize>
     ensures { result ≡ steps_up (places_up ups.now from) }
 {
     let mut at = from;
     let mut up = place_above(ups, from);
-    let mut steps: usize = 0;
-    while steps < Register::HOPS {
+    for steps in 0..Register::HOPS {
         if at <= up {
-            return Hops::Up(steps);
+            return Some(steps);
         }
         at = up;
         up = place_above(ups, at);
-        steps += 1;
     }
     if at <= up {
-        return Hops::Up(steps);
+        return Some(Register::HOPS);
     }
-    Hops::Beyond
+    None
 }

@@ -1,13 +1,6 @@
 -- A loop that finds the ends of claims one after the other. Assumes nothing.
-use mathlib.Core.Path.{◌≡◌, ap, ◌∙◌}
-use mathlib.Core.Bool.{cond}
-use mathlib.Core.List.{List, ◌++◌}
-use Prim.Native.Nat.{ℕ, ◌+◌, ◌-◌, ◌≤◌, ◌<◌}
-use native.Mathlib.Numerals.{add-one}
-use native.Mathlib.Omega.{arith}
-use borrow.Author.Tests.{lt-ltb, le-ltb}
-use lib.Dec.{ltb}
-use lib.ListN.{length, get_or, set, replicate, get_or-append}
+use Rattle.std.proofs.Common.{◌≡◌, ap, ◌∙◌, cond, List, ◌++◌, ℕ, ◌+◌, ◌-◌, ◌≤◌, ◌<◌, add-one, arith, lt-ltb, le-ltb, ltb, get_or, set, replicate}
+use lib.ListN.{get_or-append}
 use Rattle.lists.specs.Fills.{put_first}
 use Rattle.register.specs.Limits.{claim_limit, moment_end}
 use Rattle.coverage.specs.Gathering.{end_under, end_behind, ends_to, ending_of, ends_of}
@@ -25,18 +18,9 @@ module _ {weights expiries ups : List ℕ} {n top : ℕ} where
 
   module _ {i : ℕ} {found : List ℕ} (s : Ending weights expiries ups n top i found) where
     module _ (h : i < top) where
-      -- the place is there in the array and in each column
-      pub ending_room : i < claim_limit
+      -- the place is there in the array
+      ending_room : i < claim_limit
       ending_room = omega (arith, s.whole)
-
-      pub ending_weighed : i < length weights
-      ending_weighed = omega (arith, s.whole)
-
-      pub ending_expiring : i < length expiries
-      ending_expiring = omega (arith, s.whole)
-
-      pub ending_up : i < length ups
-      ending_up = omega (arith, s.whole)
 
       ending_next : {e most : ℕ} → most ≡ cond (ltb (get_or ups i 0) i) (get_or (ends_to weights expiries ups i) (get_or ups i 0) 0) moment_end
           → e ≡ end_under (get_or weights i 0) (get_or expiries i 0) most → Ending weights expiries ups n top (i + 1) (set found i e)
@@ -71,7 +55,3 @@ module _ {weights expiries ups : List ℕ} {n top : ℕ} where
     ending_done h =
         let end : i ≡ ending_of weights expiries ups n = omega (arith, s.within, s.whole) in
         s.put ∙ ap (λ m. ends_to weights expiries ups m ++ replicate (claim_limit - m) 0) end
-
--- one claim more is passed, so fewer are left
-pub less : (top i : ℕ) → i < top → top - (i + 1) < top - i
-less top i h = omega arith

@@ -1,5 +1,4 @@
 pub mod Collecting
-pub mod Copying
 pub mod Ending
 pub mod Pasting
 pub mod Owned

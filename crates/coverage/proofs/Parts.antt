@@ -1,16 +1,9 @@
 -- The path at a place by the tests that the code makes: whether the lengths and the bytes hold the place, and where it ends; and
 -- what is judged of two of them. Assumes nothing.
-use mathlib.Core.Path.{◌≡◌, sym}
-use mathlib.Core.List.{List, []}
-use Prim.Native.Nat.{ℕ, ◌+◌, ◌*◌, ◌-◌, ◌/◌, ◌≤◌, ◌<◌, min}
-use native.Mathlib.Omega.{arith}
-use borrow.Author.Tests.{lt-ltb, leb-true, leb-false}
-use lib.Dec.{ltb, leb}
-use lib.ListN.{length, take, drop, get_or, length-take, get_or-eq_default}
-use lib.Seq.{take-take, take_all}
+use Rattle.std.proofs.Common.{Option, ℕ, ◌≡◌, sym, List, [], ◌+◌, ◌*◌, ◌-◌, ◌/◌, ◌≤◌, ◌<◌, min, arith, lt-ltb, leb-true, leb-false, ltb, leb, length, take, drop, get_or, length-take, take-take, take_all}
+use lib.ListN.{get_or-eq_default}
 use Rattle.lists.specs.Tests.{cases}
 use Rattle.paths.specs.Containment.{reach_between}
-use Rattle.paths.specs.declared.Reach.{Reach}
 use Rattle.register.specs.Limits.{path_limit}
 use Rattle.coverage.specs.Laid.{part_at}
 
@@ -39,5 +32,5 @@ module _ (bytes lens : List ℕ) (x : ℕ) where
       rw (lt-ltb x (length bytes / path_limit) inside, long, least) (sym (take_least (get_or lens x 0) path_limit (drop (x * path_limit) bytes)))
 
 -- what is judged of two parts is judged of the paths that they are
-pub judged : {outer inner p q : List ℕ} {r : Reach} → outer ≡ p → inner ≡ q → r ≡ reach_between outer inner → r ≡ reach_between p q
+pub judged : {outer inner p q : List ℕ} {r : Option ℕ} → outer ≡ p → inner ≡ q → r ≡ reach_between outer inner → r ≡ reach_between p q
 judged e f h = rw (← e, ← f) h

@@ -1,14 +1,9 @@
 -- A loop that lays paths of 64 bytes one after the other over a buffer, and their lengths beside them. Assumes nothing.
-use mathlib.Core.Path.{◌≡◌, refl, sym, ap, ◌∙◌}
-use mathlib.Core.Bool.{cond}
-use mathlib.Core.List.{List, [], ◌∷◌, ◌++◌, map, map-append}
-use Prim.Native.Nat.{ℕ, ◌+◌, ◌*◌, ◌-◌, ◌≤◌, ◌<◌, min}
-use native.Mathlib.Numerals.{add-one}
-use native.Mathlib.Omega.{arith}
-use borrow.Author.Tests.{eqb-true, eqb-false, ne_eqb}
-use lib.Dec.{eqb}
-use lib.ListN.{length, take, drop, get_or, set, replicate, length-map, length-append, length-take, length-drop}
-use lib.Seq.{paste, take-suc, take-take, take_all}
+use Rattle.std.proofs.Common.{◌≡◌, refl, sym, ap, ◌∙◌, cond, List, [], ◌∷◌, ◌++◌, map, ℕ, ◌+◌, ◌*◌, ◌-◌, ◌≤◌, ◌<◌, min, add-one, arith, eqb-true, ne_eqb, eqb, length, take, drop, get_or, set, replicate, length-append, length-take, length-drop, take-suc, take-take, take_all}
+use mathlib.Core.List.{map-append}
+use borrow.Author.Tests.{eqb-false}
+use lib.ListN.{length-map}
+use lib.Seq.{paste}
 use Rattle.lists.specs.Tests.{cases}
 use Rattle.lists.specs.Lists.{All}
 use Rattle.lists.specs.Each.{all_map, all_take}
@@ -77,10 +72,6 @@ module _ {k : Resources} {old : List ℕ} {top : ℕ} where
       }
 
   module _ {bytes lens : List ℕ} {i : ℕ} (s : Laying k old top bytes lens i) where
-    -- there is room for the path at place i
-    pub laying_room : i < top → i * path_limit + path_limit ≤ bytes_limit
-    laying_room here = omega (arith, s.few)
-
     abbrev passed : List Resource
     passed = take i k.list
 
@@ -93,7 +84,7 @@ module _ {k : Resources} {old : List ℕ} {top : ℕ} where
     laid_sized : Sized (map (λ o. o.path) passed)
     laid_sized = all_map (λ (o : Resource). o.path) (λ p. length p ≡ path_limit) passed (all_take (λ (o : Resource). length o.path ≡ path_limit) i k.list s.sized)
 
-    pub laying_length : length bytes ≡ length old
+    laying_length : length bytes ≡ length old
     laying_length =
         ap length s.paths
         ∙ laid_length old (map (λ o. o.path) passed) laid_sized (omega (arith, counted (List ℕ) (λ o. o.path), s.within, s.few))

@@ -1,6 +1,6 @@
 -- Working: The ends of claims, and the claims that can cover, gathered by their places. What they are in 01's words is proved in GatheringLaws and, of the
 -- ends, in Ends. What they are in 01's words is `gathered-natural` and `spot_natural`.
-use Rattle.std.specs.Prelude.{Bool, ◌&&◌, cond, not, List, ◌++◌, [], ◌∷◌, ℕ, ◌-◌, min, zero, suc, eqb, ltb, length, get_or, replicate}
+use Rattle.std.specs.Prelude.{Bool, ◌&&◌, cond, not, List, ◌++◌, [], ◌∷◌, ℕ, ◌-◌, min, zero, suc, eqb, ltb, length, get_or, replicate, Option}
 use Rattle.lists.specs.Lists.{counted, filter}
 use Rattle.register.specs.Limits.{resource_limit, claim_limit, moment_end}
 use Rattle.register.specs.Register.{claims_of, no_claim}
@@ -8,12 +8,11 @@ use Rattle.register.specs.Chain.{live, latest}
 use Rattle.register.specs.declared.Claim.{Claim}
 use Rattle.register.specs.declared.Claims.{Claims}
 use Rattle.columns.specs.Columns.{latest_place}
-use Rattle.columns.specs.declared.Place.{Place}
 use Rattle.lookup.specs.Finding.{place_number}
 use Rattle.coverage.specs.declared.Gathered.{Gathered}
 
 -- a place as a number: 64 for none
-abbrev pub spot_of : Place → ℕ
+abbrev pub spot_of : Option ℕ → ℕ
 spot_of p = place_number resource_limit p
 
 -- the place of the resource numbered x among the first m

@@ -1,7 +1,6 @@
 -- Laws: What is gathered, and what a spot is, in the words of the register's lists. Assumes nothing.
 use Rattle.std.specs.Prelude.{◌≡◌, not, List, [], map, ℕ, ◌+◌, ◌-◌, ◌≤◌, ◌<◌, min, ltb, take, replicate, get_or}
-use Rattle.std.proofs.Common.{sym, ap, ◌∙◌, zero-add, length-take}
-use native.Mathlib.Omega.{arith}
+use Rattle.std.proofs.Common.{sym, ap, ◌∙◌, zero-add, length-take, arith}
 use Rattle.std.proofs.Math.ListN.{length, get_or-map}
 use Rattle.std.proofs.lemmas.List.{length-map}
 use Rattle.std.proofs.Math.Seq.{take-append_seam}

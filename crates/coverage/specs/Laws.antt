@@ -1,8 +1,7 @@
 -- Laws: What covering by columns says of the claims and the resources that they are the columns of, and which place is the nearest. Assumes nothing.
-use Rattle.std.specs.Prelude.{◌≡◌, Bool, true, false, ◌&&◌, cond, ℕ, suc, ◌+◌, ltb, eqb, length, get_or}
+use Rattle.std.specs.Prelude.{◌≡◌, Bool, true, false, ◌&&◌, cond, ℕ, suc, ◌+◌, ltb, eqb, length, get_or, Option, None, Some, List, [], ◌∷◌, map}
+use Rattle.std.proofs.Common.{add-one, arith, eq-eqb, ne_eqb}
 use Rattle.std.proofs.Math.Path.{refl}
-use Rattle.std.proofs.Common.{sym, ap, ◌∙◌, add-one, arith, eq-eqb, ne_eqb}
-use mathlib.Core.List.{List, [], ◌∷◌, ◌++◌, map}
 use Rattle.std.proofs.Math.Dec.{leb}
 use Rattle.std.proofs.Math.ListN.{get_or-map}
 use Rattle.lists.specs.Tests.{cases}
@@ -15,8 +14,6 @@ use Rattle.register.specs.Register.{resources_of, path_of, no_resource, no_claim
 use Rattle.register.specs.declared.Claim.{Claim}
 use Rattle.register.specs.declared.Resources.{Resources}
 use Rattle.columns.specs.Columns.{rights_of}
-use Rattle.columns.specs.declared.Place.{Place}
-use Rattle.columns.specs.declared.Place.TheVariants.{At, Nowhere}
 use Rattle.coverage.specs.Laid.{laid}
 use Rattle.coverage.specs.LaidLaws.{part_laid}
 use Rattle.coverage.specs.Coverage.{reaching, nearest_from}
@@ -35,11 +32,11 @@ module _ (cs : List Claim) (spots : List ℕ) (k : Resources) (sized : All (λ o
 
 -- ---- the nearest place
 module _ (p : ℕ → Bool) (f : ℕ → ℕ) (best bar : ℕ) where
-  pub nearest_nowhere : bar ≡ 0 → nearest_from p f best bar [] ≡ Nowhere
+  pub nearest_nowhere : bar ≡ 0 → nearest_from p f best bar [] ≡ None
   unfolding nearest_from
   nearest_nowhere none = rw (eq-eqb bar 0 none)
 
-  pub nearest_best : (bar ≡ 0 → ⊥) → nearest_from p f best bar [] ≡ At best
+  pub nearest_best : (bar ≡ 0 → ⊥) → nearest_from p f best bar [] ≡ Some best
   unfolding nearest_from
   nearest_best some = rw (ne_eqb bar 0 some)
 
@@ -73,7 +70,7 @@ module _ (f : ℕ → ℕ) where
       (λ e. rw (h.0.0, e) (nearest_same p q g best bar l h.1))
 
   -- what holds of the place taken so far, or of none, and of each place of a list, holds of the nearest
-  pub nearest_any : (M : Place → Type 0) (p : ℕ → Bool) (best bar : ℕ) (l : List ℕ) → M (cond (eqb bar 0) Nowhere (At best)) → All (λ j. M (At j)) l
+  pub nearest_any : (M : Option ℕ → Type 0) (p : ℕ → Bool) (best bar : ℕ) (l : List ℕ) → M (cond (eqb bar 0) None (Some best)) → All (λ j. M (Some j)) l
       → M (nearest_from p f best bar l)
   unfolding nearest_from
   nearest_any M p best bar [] so_far each = so_far

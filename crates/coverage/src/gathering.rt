@@ -10,12 +10,11 @@ use register::Register;
 pub fn spot(reports: &[u32], m: usize, x: u32) -> usize
     ensures { result ≡ spot_in reports.now m x }
 {
-    let top = lists::least(m, reports.len());
     let mut at = Register::RESOURCES;
-    let mut i: usize = 0;
-    while i < top {
-        at = if reports[i] == x { i } else { at };
-        i += 1;
+    for i in 0..m.min(reports.len()) {
+        if reports[i] == x {
+            at = i;
+        }
     }
     at
 }
@@ -30,7 +29,7 @@ fn end_under(weight: u32, expiry: u64, most: u64) -> u64
     if expiry == 0 {
         return most;
     }
-    if expiry < most { expiry } else { most }
+    expiry.min(most)
 }
 
 // The end of each of the first `n` claims, by their columns and the places of their parents: the first moment at which it is not live. A claim
@@ -43,19 +42,16 @@ pub fn ends<'a>(
 ) -> [u64; Register::CLAIMS]
     ensures { result ≡ ends_of weights.now expiries.now ups.now n }
 {
-    let long = lists::least(weights.len(), lists::least(expiries.len(), ups.len()));
-    let top = lists::least(n, lists::least(Register::CLAIMS, long));
+    let long = weights.len().min(expiries.len()).min(ups.len());
     let mut found = [0u64; Register::CLAIMS];
-    let mut i: usize = 0;
-    while i < top {
+    for i in 0..n.min(Register::CLAIMS).min(long) {
         let up = ups[i] as usize;
-        if up < i {
-            found[i] = end_under(weights[i], expiries[i] as u64, found[up]);
-            i += 1;
+        let most = if up < i {
+            found[up]
         } else {
-            found[i] = end_under(weights[i], expiries[i] as u64, register::MOMENT_END);
-            i += 1;
-        }
+            register::MOMENT_END
+        };
+        found[i] = end_under(weights[i], expiries[i] as u64, most);
     }
     found
 }
@@ -64,8 +60,7 @@ pub fn ends<'a>(
 fn looked_at<'a>(holders: &'a [u32], ends: &'a [u64], n: usize) -> usize
     ensures { result ≡ looked_at holders.now ends.now n }
 {
-    let long = lists::least(holders.len(), ends.len());
-    lists::least(n, lists::least(Register::CLAIMS, long))
+    n.min(Register::CLAIMS).min(holders.len()).min(ends.len())
 }
 
 // Of the first `n` claims, by their columns, those that `x` holds and that have not ended at the moment.
@@ -74,15 +69,10 @@ pub fn gather<'a>(holders: &'a [u32], ends: &'a [u64], n: usize, x: u32, moment:
 {
     let mut places = [0u16; Register::CLAIMS];
     let mut count: usize = 0;
-    let top = looked_at(holders, ends, n);
-    let mut i: usize = 0;
-    while i < top {
+    for i in 0..looked_at(holders, ends, n) {
         if (holders[i] == x) & (moment < ends[i]) {
             places[count] = i as u16;
             count += 1;
-            i += 1;
-        } else {
-            i += 1;
         }
     }
     Gathered { places, count }

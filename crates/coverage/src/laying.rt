@@ -8,7 +8,6 @@ ghost use Rattle.paths.specs.Containment.{reach_between};
 ghost use Rattle.coverage.specs.Laid.{bytes_limit, laid_in, lens_of, part_at};
 
 use crate::BYTES;
-use paths::Reach;
 use register::{Register, Resource, Resources};
 
 // Writes a path's 64 bytes at `at`, into a buffer of the length that all paths take.
@@ -19,11 +18,7 @@ fn put_path(bytes: &mut [u8], at: usize, o: Resource)
     if bytes.len() != BYTES {
         return;
     }
-    let mut i: usize = 0;
-    while i < Register::PATH {
-        bytes[at + i] = o.path[i];
-        i += 1;
-    }
+    bytes[at..at + Register::PATH].copy_from_slice(&o.path);
 }
 
 // Lays the paths of the resources up to the count into the buffer, which stays as it is where it has not the length that all paths take, and
@@ -34,19 +29,16 @@ pub fn lay(bytes: &mut [u8], k: Resources) -> [usize; Register::RESOURCES]
     ensures sized { All (λ o. length o.path ≡ path_limit) k.list }
 {
     let mut lens = [0usize; Register::RESOURCES];
-    let top = lists::least(k.count, Register::RESOURCES);
-    let mut i: usize = 0;
-    while i < top {
+    for i in 0..k.count.min(Register::RESOURCES) {
         let o = k.list[i];
         put_path(bytes, i * Register::PATH, o);
         lens[i] = o.len as usize;
-        i += 1;
     }
     lens
 }
 
 // Whether the path at place `x` contains the path at place `y`, and how far it reaches. Past the places there is the empty path.
-pub(crate) fn is_inside<'a>(bytes: &'a [u8], lens: &'a [usize], x: usize, y: usize) -> Reach
+pub(crate) fn is_inside<'a>(bytes: &'a [u8], lens: &'a [usize], x: usize, y: usize) -> Option<usize>
     ensures { result ≡ reach_between (part_at bytes.now lens.now x) (part_at bytes.now lens.now y) }
 {
     let outer = part_at(bytes, lens, x);
@@ -65,7 +57,7 @@ fn part_at<'a>(bytes: &'a [u8], lens: &'a [usize], x: usize) -> &'a [u8]
         return &bytes[..0];
     }
     let start = x * Register::PATH;
-    let len = lists::least(lens[x], Register::PATH);
+    let len = lens[x].min(Register::PATH);
     let end = start + len;
     &bytes[start..end]
 }

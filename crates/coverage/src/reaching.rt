@@ -3,8 +3,6 @@ ghost use Rattle.std.specs.Prelude.{◌≡◌, take};
 ghost use Rattle.coverage.specs.Coverage.{reach_to, short_at, reach_from, nearest_covering};
 
 use crate::laying::is_inside;
-use columns::Place;
-use paths::Reach;
 use register::Register;
 
 // Whether the claim at place `j` has the right, on a resource whose path contains the one at `spot`, and how far it reaches.
@@ -16,20 +14,20 @@ fn reach<'a>(
     j: usize,
     right: u32,
     spot: usize,
-) -> Reach
+) -> Option<usize>
     ensures { result ≡ reach_to rights.now spots.now bytes.now lens.now right spot j }
 {
     if !rights::has(columns::number_at(rights, j), right) {
-        return Reach::Outside;
+        return None;
     }
     if spots.len() <= j {
-        return Reach::Outside;
+        return None;
     }
     if Register::RESOURCES <= spots[j] as usize {
-        return Reach::Outside;
+        return None;
     }
     if Register::RESOURCES <= spot {
-        return Reach::Outside;
+        return None;
     }
     is_inside(bytes, lens, spots[j] as usize, spot)
 }
@@ -59,25 +57,19 @@ fn reach_from<'a>(
     right: u32,
     spot: usize,
     bar: usize,
-) -> Reach
+) -> Option<usize>
     ensures { result ≡ reach_from rights.now spots.now bytes.now lens.now right spot bar j }
 {
     let held = columns::number_at(rights, j);
     if !rights::has(held, right) {
-        return Reach::Outside;
+        return None;
     }
     if is_short(spots, lens, j, bar) {
-        return Reach::Outside;
+        return None;
     }
     match reach(rights, spots, bytes, lens, j, right, spot) {
-        Reach::Outside => Reach::Outside,
-        Reach::Inside(length) => {
-            if length < bar {
-                Reach::Outside
-            } else {
-                Reach::Inside(length)
-            }
-        }
+        None => None,
+        Some(length) => { if length < bar { None } else { Some(length) } }
     }
 }
 
@@ -92,28 +84,17 @@ pub fn nearest_covering<'a>(
     lens: &'a [usize],
     right: u32,
     spot: usize,
-) -> Place
+) -> Option<usize>
     ensures { result ≡ nearest_covering (take count places.now) rights.now spots.now bytes.now lens.now right spot }
 {
-    let top = lists::least(count, places.len());
-    let mut best: usize = 0;
+    let mut best = None;
     let mut bar: usize = 0;
-    let mut i: usize = 0;
-    while i < top {
-        let j = places[i] as usize;
-        match reach_from(rights, spots, bytes, lens, j, right, spot, bar) {
-            Reach::Outside => {
-                i += 1;
-            }
-            Reach::Inside(length) => {
-                best = j;
-                bar = length + 1;
-                i += 1;
-            }
+    for place in &places[..count.min(places.len())] {
+        let j = *place as usize;
+        if let Some(length) = reach_from(rights, spots, bytes, lens, j, right, spot, bar) {
+            best = Some(j);
+            bar = length + 1;
         }
     }
-    if bar == 0 {
-        return Place::Nowhere;
-    }
-    Place::At(best)
+    best
 }

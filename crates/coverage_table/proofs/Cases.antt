@@ -1,12 +1,9 @@
 -- The paper of a small register, by computing: folders in folders, a tie, a public resource, a machine with its owner, a dead source. Assumes nothing.
-use mathlib.Core.Path.{◌≡◌, refl}
-use mathlib.Core.Bool.{true, false}
-use mathlib.Core.List.{[], ◌∷◌, map}
-use Prim.Native.Nat.{ℕ}
+use Rattle.std.proofs.Common.{◌≡◌, refl, true, false, [], ◌∷◌, map, ℕ}
 use Rattle.lists.specs.Lists.{distinct, same}
 use Rattle.paths.specs.Containment.{components, climbing, trimmed, starting, contained, reached}
 use Rattle.rights.specs.Rights.{has_right, has_rights, bars_machine}
-use Rattle.register.specs.Chain.{weighing, chain, root_granted, circling}
+use Rattle.register.specs.Chain.{chain, root_granted, circling}
 use Rattle.register.specs.declared.Claim.{Claim}
 use Rattle.register.specs.declared.Register.{Register}
 use Rattle.soundness_rules.specs.Sound.{actor_fits, resource_fits, claim_fits, names_stand, root_kept, drawn_from, machine_may, over_chain, drawn, fresh, alone, over, acceptable, sound_claims, sound_actors, sound_resources, within_limits, sound}

@@ -1,8 +1,7 @@
 -- Laws: The table of the walk, cell by cell: each cell is a walk of its own over the remarks, and what is looked up is what stands there. Assumes nothing.
-use Rattle.std.specs.Prelude.{◌≡◌, refl, Bool, true, false, ℕ, suc, zero, ◌≤◌, ◌<◌, ◌+◌}
+use Rattle.std.proofs.Common.{◌≡◌, refl, Bool, true, false, ℕ, suc, zero, ◌≤◌, ◌<◌, ◌+◌, sym, ◌∙◌, arith, eqb-true, ne_eqb, ltb-true, ltb-false, List, [], ◌∷◌, ◌++◌, map, append_assoc, append-nil}
 use Rattle.std.proofs.Math.Path.{ap}
-use Rattle.std.proofs.Common.{sym, ◌∙◌, arith, eqb-true, ne_eqb, ltb-true, ltb-false}
-use mathlib.Core.List.{List, [], ◌∷◌, ◌++◌, map, reverse-cons, append_assoc, append-nil}
+use mathlib.Core.List.{reverse-cons}
 use Rattle.std.proofs.lemmas.Bool.{eqb-false}
 use Rattle.std.proofs.Math.Dec.{eqb}
 use Rattle.lists.specs.Tests.{cases}

@@ -2,7 +2,7 @@
 use Rattle.std.specs.Prelude.{◌≡◌, refl, true, ◌&&◌, List, [], ◌∷◌, ◌++◌, map, ℕ, suc, length}
 use Rattle.std.proofs.Common.{ap, sym, ◌∙◌, append_assoc}
 use Rattle.lists.specs.Lists.{every}
-use Rattle.register.specs.Chain.{numbered, chain, hops_of, live, current}
+use Rattle.register.specs.Chain.{numbered, chain, hops_of, current}
 use Rattle.register.specs.Laws.{chain_ind}
 use Rattle.register.specs.Register.{actors_of, resources_of}
 use Rattle.register.specs.declared.Claim.{Claim}

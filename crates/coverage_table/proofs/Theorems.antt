@@ -1,14 +1,7 @@
 -- What is proved of the plain gate (02, T-06). Assumes nothing.
-use mathlib.Core.Path.{◌≡◌}
-use mathlib.Core.Bool.{true, not}
-use mathlib.Core.List.{List, [], ◌∷◌, map}
-use Prim.Native.Nat.{ℕ, ◌<◌}
-use lib.Dec.{eqb}
-use lib.ListN.{length}
-use Rattle.register.specs.Limits.{claim_limit}
+use Rattle.std.proofs.Common.{◌≡◌, true, not, map, ℕ}
 use Rattle.register.specs.Register.{claims_of}
 use Rattle.register.specs.Chain.{latest, hops_of, live}
-use Rattle.register.specs.declared.Claim.{Claim}
 use Rattle.register.specs.declared.Register.{Register}
 use Rattle.soundness_rules.specs.Sound.{sound}
 use Rattle.actions.specs.declared.Usage.{Usage}
@@ -16,8 +9,7 @@ use Rattle.actions.specs.declared.Action.{Action}
 use Rattle.actions.specs.declared.Plan.{Plan}
 use Rattle.gate_rules.specs.Gate.{covers, relied, hops_for, gated}
 use Rattle.gate_rules.specs.Plans.{planned}
-use Rattle.gate_rules.specs.Authority.{IsIn}
-use Rattle.coverage_table.specs.Table.{Remark, remark_on, paper_of, cover_table, looked_up, is_nothing, entry_claim, entry_hops, plainly_gated, plainly_planned}
+use Rattle.coverage_table.specs.Table.{paper_of, cover_table, looked_up, is_nothing, entry_claim, entry_hops, plainly_gated, plainly_planned}
 use Rattle.coverage_table.proofs.Filling as filling
 use Rattle.coverage_table.proofs.Uses as uses
 use Rattle.coverage_table.proofs.Sameness as sameness

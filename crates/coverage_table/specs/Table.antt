@@ -1,6 +1,7 @@
 -- Believed: The gate that a technician follows on paper (02, T-06). One walk through the claims from first to last remarks on each its hop count
 -- and whether it lives, and fills a table of what an actor covers, for each resource and right, at one moment. Uses are looked up in the table.
-use Rattle.std.specs.Prelude.{Bool, true, false, not, ◌&&◌, ◌||◌, cond, List, [], ◌∷◌, ◌++◌, map, ℕ, suc, eqb, leb}
+use Rattle.refusals.specs.declared.Refusal.{Refusal}
+use Rattle.std.specs.Prelude.{Bool, true, false, not, ◌&&◌, ◌||◌, cond, List, [], ◌∷◌, ◌++◌, map, ℕ, suc, eqb, leb, Result, Err, Ok}
 use Rattle.lists.specs.Lists.{any, ands}
 use Rattle.rights.specs.Rights.{the_rights, reading, has_right}
 use Rattle.register.specs.Limits.{machine_kind}
@@ -11,8 +12,6 @@ use Rattle.register.specs.declared.Claim.{Claim}
 use Rattle.register.specs.declared.Register.{Register}
 use Rattle.soundness_rules.specs.Sound.{is_machine}
 use Rattle.refusals.specs.Refusals.{outcome_of}
-use Rattle.refusals.specs.declared.Outcome.{Outcome}
-use Rattle.refusals.specs.declared.Outcome.TheVariants.{Accepted, Refused as RefusedFor}
 use Rattle.actions.specs.Actions.{uses_of, governs_of}
 use Rattle.actions.specs.declared.Usage.{Usage}
 use Rattle.actions.specs.declared.Action.{Action}
@@ -203,10 +202,10 @@ plain_violations r a =
 unfoldable pub plain_hops : Register → Action → List ℕ
 plain_hops r a = map (λ u. entry_hops (looked_up (tables_of r a).own u)) (uses_of a)
 
-abbrev pub plain_verdict : Outcome → Register → Action → Verdict
-plain_verdict Accepted r a =
+abbrev pub plain_verdict : Result Unit Refusal → Register → Action → Verdict
+plain_verdict (Ok tt) r a =
     record { decision = decided (plain_violations r a); violations = listed (plain_violations r a); hops = padded (plain_hops r a) }
-plain_verdict (RefusedFor why) r a = record { decision = Stopped why; violations = listed []; hops = padded [] }
+plain_verdict (Err why) r a = record { decision = Stopped why; violations = listed []; hops = padded [] }
 
 -- the answer of the plain gate
 unfoldable pub plainly_gated : Register → Action → Verdict

@@ -1,9 +1,9 @@
 -- Laws: The definitions of decimals at a position of a list: what one byte more of the walk makes of them. Assumes nothing.
 use Rattle.std.specs.Prelude.{ℕ, zero, suc, ◌+◌, ◌-◌, ◌*◌, ◌/◌, ◌^◌, ◌≤◌, ◌<◌, ◌≡◌, refl, List, [], ◌∷◌, false, length, get_or, drop}
-use Rattle.std.proofs.Common.{ap, ◌∙◌, arith, pow-suc, add-one, drop_of_length-le, length-append, drop-cons}
+use Rattle.std.proofs.Common.{ap, ◌∙◌, arith, pow-suc, add-one, drop_of_length-le, length-append, drop-cons, le-leb, eq-eqb, ne_eqb}
 use Rattle.std.proofs.Math.Bool.{true}
 use Rattle.std.proofs.Math.Decide.{dec_lt}
-use borrow.Author.Tests.{le-leb, lt-leb, eq-eqb, ne_eqb}
+use borrow.Author.Tests.{lt-leb}
 use Rattle.decimals.specs.Decimals.{is_digit, digits, digit_run, after, value, canonical, judge, bad, parse}
 use Rattle.decimals.specs.Laws.{digits_small, digits_step}
 use Rattle.decimals.specs.declared.Number.TheVariants.{Value, Large}

@@ -17,10 +17,7 @@ pub enum Number {
 fn is_digit(b: u8) -> bool
     ensures { result ≡ is_digit b }
 {
-    if b < 48 {
-        return false;
-    }
-    b < 58
+    48 <= b && b < 58
 }
 
 fn digit(b: u8) -> u32
@@ -35,14 +32,12 @@ fn digits_end(s: &[u8], at: usize) -> usize
     requires { at ≤ length s.now }
     ensures { (after (drop at s.now) ≡ drop result s.now) × (result ≤ length s.now) }
 {
-    let mut i = at;
-    while i < s.len() {
+    for i in at..s.len() {
         if !is_digit(s[i]) {
             return i;
         }
-        i += 1;
     }
-    i
+    s.len()
 }
 
 // The worth of the digits that begin at `at`, leading zeros or not.
@@ -50,24 +45,19 @@ fn scan(s: &[u8], at: usize, greatest: u32) -> Number
     requires { at ≤ length s.now }
     ensures { Says s.now result (judge greatest (value 0 (digit_run (drop at s.now))) (after (drop at s.now))) }
 {
-    let mut i = at;
     let mut n: u32 = 0;
-    while i < s.len() {
+    for i in at..s.len() {
         let b = s[i];
         if !is_digit(b) {
             return Number::Value(n, i);
         }
         let d = digit(b);
-        if greatest / 10 < n {
-            return Number::Large(digits_end(s, i));
-        }
-        if greatest - n * 10 < d {
+        if greatest / 10 < n || greatest - n * 10 < d {
             return Number::Large(digits_end(s, i));
         }
         n = n * 10 + d;
-        i += 1;
     }
-    Number::Value(n, i)
+    Number::Value(n, s.len())
 }
 
 // The decimal at `at`: no leading zero, and no limit on its length.
@@ -81,13 +71,8 @@ pub fn read_number(s: &[u8], at: usize, greatest: u32) -> Number
     if !is_digit(b) {
         return Number::Bad;
     }
-    if b == 48 {
-        let k = at + 1;
-        if k < s.len() {
-            if is_digit(s[k]) {
-                return Number::Bad;
-            }
-        }
+    if b == 48 && at + 1 < s.len() && is_digit(s[at + 1]) {
+        return Number::Bad;
     }
     scan(s, at, greatest)
 }

@@ -1,8 +1,5 @@
 -- The fixed examples hold, by computing the definitions that the contracts cite. Assumes nothing.
-use mathlib.Core.Path.{◌≡◌, refl}
-use mathlib.Core.Bool.{Bool, true}
-use mathlib.Core.List.{[]}
-use Prim.Native.Nat.{ℕ}
+use Rattle.std.proofs.Common.{◌≡◌, refl, Bool, true, [], ℕ}
 use Prim.Native.String.{String}
 use Rattle.lists.specs.Tests.{beq_same}
 use Rattle.lists.specs.Lists.{every, same}

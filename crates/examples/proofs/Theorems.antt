@@ -1,8 +1,5 @@
 -- What is proved of the fixed examples of 01, which stand in specs/Table. Assumes nothing.
-use mathlib.Core.Path.{◌≡◌}
-use mathlib.Core.Bool.{Bool, true}
-use mathlib.Core.List.{[]}
-use Prim.Native.Nat.{ℕ}
+use Rattle.std.proofs.Common.{◌≡◌, Bool, true, [], ℕ}
 use Prim.Native.String.{String}
 use Rattle.lists.specs.Lists.{every}
 use Rattle.lists.specs.Bytes.{bytes}

@@ -1,12 +1,7 @@
 -- The tests of the claim behind the first n of a sheet, by what the sheet and the found columns are asked. Assumes nothing.
-use mathlib.Core.Path.{◌≡◌, refl, sym, ap, ◌∙◌}
-use mathlib.Core.Bool.{Bool, true, false, cond}
-use mathlib.Core.List.{[], ◌∷◌, List, ◌++◌, map}
-use Prim.Native.Nat.{ℕ, suc, ◌<◌, ◌≤◌}
-use native.Mathlib.Omega.{arith}
-use borrow.Author.Tests.{eq-eqb, ne_eqb}
-use lib.Dec.{eqb, ltb}
-use lib.ListN.{length, take, get_or, length-map}
+use Rattle.std.proofs.Common.{Option, ℕ, None, Some, Result, Err, Ok, ◌≡◌, refl, sym, ap, ◌∙◌, Bool, true, false, cond, [], ◌∷◌, List, ◌++◌, map, suc, ◌<◌, ◌≤◌, arith, eq-eqb, ne_eqb, eqb, ltb, length, take, get_or}
+use Rattle.refusals.specs.declared.Refusal.{Refusal}
+use lib.ListN.{length-map}
 use Rattle.lists.specs.Lists.{any}
 use Rattle.lists.specs.Each.{any_reverse}
 use Rattle.register.specs.Limits.{claim_limit}
@@ -20,8 +15,6 @@ use Rattle.columns.specs.Columns.{claim_id, latest_place, places_up}
 use Rattle.columns.specs.Laws.{among_natural}
 use Rattle.columns.specs.Sheet.{sheet_limit, column_of, claim_at, claims_in, id_column, parent_column, grantor_column, holder_column}
 use Rattle.columns.specs.SheetLaws.{claims_in_length, claims_in_at, column_natural}
-use Rattle.columns.specs.declared.Place.{Place}
-use Rattle.columns.specs.declared.Place.TheVariants.{At, Nowhere}
 use Rattle.lookup.specs.Finding.{earlier_places}
 use Rattle.lookup.specs.Walks.{up_from_natural}
 use Rattle.soundness_rules.specs.Sound.{World, world_of, sound, claim_fits, fewer_left}
@@ -31,8 +24,6 @@ use Rattle.soundness.specs.Judged.{register_by}
 use Rattle.claim_judging.specs.Over.{hands_at}
 use Rattle.refusals.specs.Refusals.{Test, outcome_of}
 use Rattle.refusals.proofs.Laws.{outcome_nil, outcome_pass, outcome_fail}
-use Rattle.refusals.specs.declared.Outcome.{Outcome}
-use Rattle.refusals.specs.declared.Outcome.TheVariants.{Accepted, Refused}
 use Rattle.refusals.specs.declared.Refusal.TheVariants.{Range, NoParent}
 use Rattle.granting.specs.Drawn.{told_tests, drawn_tests, chain_tests, world_tests_lem}
 use Rattle.faults.specs.Faults.{higher_tests, claim_tests}
@@ -53,7 +44,7 @@ unfolding chain_tests
 chain_asked fewer f l h = rw (circling_map f (λ d. d.grantor) (λ d. d.holder) l h)
 
 -- and of columns that are the same
-pub chain_columns : (fewer : Bool) (l : List ℕ) (x : ℕ) {g h grantors holders : List ℕ} {y : Outcome} → g ≡ grantors → h ≡ holders
+pub chain_columns : (fewer : Bool) (l : List ℕ) (x : ℕ) {g h grantors holders : List ℕ} {y : Result Unit Refusal} → g ≡ grantors → h ≡ holders
     → y ≡ outcome_of (chain_tests (λ j. get_or g j 0) (λ j. get_or h j 0) fewer l x)
     → y ≡ outcome_of (chain_tests (λ j. get_or grantors j 0) (λ j. get_or holders j 0) fewer l x)
 chain_columns fewer l x {g} {h} {grantors} {holders} granted held e =
@@ -62,15 +53,15 @@ chain_columns fewer l x {g} {h} {grantors} {holders} granted held e =
     ∙ ap (λ c. outcome_of (chain_tests (λ j. get_or grantors j 0) (λ j. get_or c j 0) fewer l x)) held
 
 -- over the chain above a claim c by the places
-module _ (version : ℕ) (s ups : List ℕ) (place : Place) (c : Claim) where
-  pub root_passes : c.parent ≡ 0 → outcome_of (higher_asked version s ups place c) ≡ Accepted
+module _ (version : ℕ) (s ups : List ℕ) (place : Option ℕ) (c : Claim) where
+  pub root_passes : c.parent ≡ 0 → outcome_of (higher_asked version s ups place c) ≡ Ok tt
   root_passes z = rw (eq-eqb c.parent 0 z) outcome_nil
 
   module _ (o : c.parent ≡ 0 → ⊥) where
-    pub parent_nowhere : place ≡ Nowhere → outcome_of (higher_asked version s ups place c) ≡ Refused NoParent
+    pub parent_nowhere : place ≡ None → outcome_of (higher_asked version s ups place c) ≡ Err NoParent
     parent_nowhere q = rw (ne_eqb c.parent 0 o, q, higher_nil version c) (outcome_fail _ _ refl)
 
-    pub parent_at : {at : ℕ} → place ≡ At at → {p : Claim} → p ≡ claim_at s at
+    pub parent_at : {at : ℕ} → place ≡ Some at → {p : Claim} → p ≡ claim_at s at
         → outcome_of (higher_asked version s ups place c) ≡ outcome_of (drawn_tests true p c ++ chain_tests (λ j. get_or (column_of grantor_column s) j 0) (λ j. get_or (column_of holder_column s) j 0)
         (ltb (hands_at version (suc (length (places_up ups at))) c) (hands_at version (length (places_up ups at)) p)) (at ∷ places_up ups at) c.holder)
     parent_at {at} q {p} read =
@@ -88,7 +79,7 @@ module _ (version : ℕ) (s ups : List ℕ) (place : Place) (c : Claim) where
 
 -- in a world, behind the earlier claims
 module _ (w : World) (earlier : List Claim) (c : Claim) where
-  pub claim_unfit : claim_fits w.version c ≡ false → outcome_of (claim_tests w earlier c) ≡ Refused Range
+  pub claim_unfit : claim_fits w.version c ≡ false → outcome_of (claim_tests w earlier c) ≡ Err Range
   unfolding claim_tests
   claim_unfit e = outcome_fail _ _ e
 

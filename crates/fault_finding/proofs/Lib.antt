@@ -1,5 +1,4 @@
 pub mod Walking
-pub mod Limiting
 pub mod Parts
 pub mod Claims
 pub mod Turns

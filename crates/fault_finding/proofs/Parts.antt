@@ -1,13 +1,7 @@
 -- The first fault of a register in the parts that the code decides one after the other: the version and the counts, the actors, the resources, the
 -- claims. Assumes nothing.
-use mathlib.Core.Path.{◌≡◌, refl, ap, sym, ◌∙◌}
-use mathlib.Core.Bool.{Bool, true, false, ◌&&◌, and-true}
-use mathlib.Core.List.{List, [], ◌∷◌}
-use Prim.Native.Nat.{ℕ, zero, suc, ◌≤◌, ◌<◌}
-use native.Mathlib.Omega.{arith}
-use borrow.Author.Tests.{le-leb, leb-true}
-use lib.Dec.{eqb, leb}
-use lib.ListN.{length, take}
+use Rattle.std.proofs.Common.{Result, ◌≡◌, refl, ap, sym, ◌∙◌, Bool, true, false, ◌&&◌, List, [], ◌∷◌, ℕ, zero, suc, ◌≤◌, ◌<◌, arith, le-leb, leb-true, eqb, leb, length, take}
+use mathlib.Core.Bool.{and-true}
 use Rattle.lists.specs.Tests.{cases, clash}
 use Rattle.lists.specs.Lists.{every, any}
 use Rattle.register.specs.Limits.{actor_limit, resource_limit, claim_limit, id_limit, path_limit, version_one, version_two, human_kind, path_byte_least, path_byte_greatest, ranged, is_id}
@@ -30,7 +24,6 @@ use Rattle.soundness.specs.Judged.{register_by}
 use Rattle.soundness.specs.Laws.{register_same}
 use Rattle.refusals.specs.Refusals.{outcome_of, number_of}
 use Rattle.refusals.specs.declared.Refusal.{Refusal}
-use Rattle.refusals.specs.declared.Outcome.{Outcome}
 use Rattle.lines.specs.Reading.{going, failed}
 use Rattle.text_rules.specs.Registers.{register_from}
 use Rattle.change_rules.specs.Changes.{world_in}
@@ -62,7 +55,7 @@ resource_asked_lem people earlier o =
 module _ (a : Actors) (i : ℕ) {people : ActorColumns} (columns : people ≡ actor_columns (actors_to a).list) where
   pub actor_walked : (x : Actor) → i ≤ a.count → {owned taken : Bool}
       → owned ≡ beside (take a.count people.names) (take a.count people.kinds) x.owner human_kind
-      → taken ≡ any (eqb x.id) (take i people.names) → {y : Outcome} → y ≡ outcome_of (actor_asked owned taken x)
+      → taken ≡ any (eqb x.id) (take i people.names) → {y : Result Unit Refusal} → y ≡ outcome_of (actor_asked owned taken x)
       → outcome_of (actor_tests (human (actors_of a)) (latest (take i (actors_of a))) x) ≡ y
   actor_walked x below {owned} {taken} ownedly takenly told =
       sym
@@ -74,7 +67,7 @@ module _ (a : Actors) (i : ℕ) {people : ActorColumns} (columns : people ≡ ac
 
   pub resource_walked : (o : Resources) {things : ResourceColumns} → things ≡ resource_columns (resources_to o).list → (x : Resource) → i ≤ o.count → {kept taken : Bool}
       → kept ≡ beside (take a.count people.names) (take a.count people.kinds) x.keeper human_kind
-      → taken ≡ any (eqb x.id) (take i things.reports) → {y : Outcome} → y ≡ outcome_of (resource_asked kept taken x)
+      → taken ≡ any (eqb x.id) (take i things.reports) → {y : Result Unit Refusal} → y ≡ outcome_of (resource_asked kept taken x)
       → outcome_of (resource_tests (human (actors_of a)) (latest (take i (resources_of o))) x) ≡ y
   resource_walked o listed x below {kept} {taken} keptly takenly told =
       sym

@@ -1,51 +1,26 @@
 -- The halving of how many claims are judged, and the fault of the claim that it finds. Assumes nothing.
-use mathlib.Core.Path.{◌≡◌, sym, ap, ◌∙◌}
-use mathlib.Core.Bool.{Bool, true, false}
-use mathlib.Core.List.{List}
-use Prim.Native.Nat.{ℕ, suc, ◌≤◌, ◌<◌}
-use native.Mathlib.Omega.{arith}
-use borrow.Author.Tests.{eq-eqb}
-use lib.ListN.{length, take}
+use Rattle.std.proofs.Common.{Err, Ok, ◌≡◌, sym, ap, ◌∙◌, List, ℕ, suc, ◌≤◌, ◌<◌, arith, take}
 use Rattle.register.specs.Limits.{claim_limit}
 use Rattle.register.specs.Register.{actors_of, resources_of}
 use Rattle.register.specs.Chain.{latest}
 use Rattle.register.specs.declared.Actors.{Actors}
 use Rattle.register.specs.declared.Resources.{Resources}
-use Rattle.columns.specs.Sheet.{sheet_limit, claim_at, claims_in}
+use Rattle.columns.specs.Sheet.{claim_at, claims_in}
 use Rattle.columns.specs.SheetLaws.{claims_in_length, claims_in_at}
-use Rattle.soundness_rules.specs.Sound.{sound, world_of}
-use Rattle.soundness.specs.Judged.{register_by, findings_by}
+use Rattle.soundness_rules.specs.Sound.{world_of}
+use Rattle.soundness.specs.Judged.{register_by}
 use Rattle.refusals.specs.Refusals.{outcome_of}
 use Rattle.refusals.proofs.Laws.{outcome_clash}
 use Rattle.refusals.specs.declared.Refusal.{Refusal}
-use Rattle.refusals.specs.declared.Outcome.TheVariants.{Accepted, Refused}
 use Rattle.faults.specs.Faults.{claim_tests, told_fault, fault_numbers, first_fault, fault_of, of_claim}
 use Rattle.faults.proofs.Halving.{between_found}
 use Rattle.fault_finding.specs.Asked.{Turning}
 
 module _ (version : ℕ) (a : Actors) (o : Resources) (s : List ℕ) where
-  -- of a sheet, what is found sound is sound
-  judged : (n : ℕ) {b : Bool} → length s ≡ sheet_limit → b ≡ (findings_by version a o s n).sound → sound (register_by version a o s n) ≡ b
-  judged n long e = sym (e ∙ rw (eq-eqb (length s) sheet_limit long))
-
-  pub turning_up : (low high mid : ℕ) {b : Bool} → Turning version a o s low high → mid < high → b ≡ (findings_by version a o s mid).sound → b ≡ true
-      → Turning version a o s mid high
-  turning_up low high mid t below e held = record { long = t.long; holds = judged mid t.long e ∙ held; fails = t.fails; apart = below }
-
-  pub turning_down : (low high mid : ℕ) {b : Bool} → Turning version a o s low high → low < mid → b ≡ (findings_by version a o s mid).sound → b ≡ false
-      → Turning version a o s low mid
-  turning_down low high mid t above e broken = record { long = t.long; holds = t.holds; fails = judged mid t.long e ∙ broken; apart = above }
-
-  -- one apart, there is nothing left to halve
-  pub turning_done : (low high : ℕ) → Turning version a o s low high → high ≤ suc low → Turning version a o s low (suc low)
-  turning_done low high t near =
-      let next : high ≡ suc low = omega (arith, near, t.apart) in
-      record { long = t.long; holds = t.holds; fails = rw (← next) t.fails; apart = omega arith }
-
   -- the claim between them is told
   module _ (at n : ℕ) (t : Turning version a o s at (suc at)) (inside : at < n) (few : n ≤ claim_limit) where
     abbrev behind : Refusal → Type 0
-    behind why = outcome_of (claim_tests (world_of version (actors_of a) (resources_of o)) (latest (take at (claims_in s))) (claim_at s at)) ≡ Refused why
+    behind why = outcome_of (claim_tests (world_of version (actors_of a) (resources_of o)) (latest (take at (claims_in s))) (claim_at s at)) ≡ Err why
 
     between : (why : Refusal) × behind why × (first_fault (register_by version a o s n) ≡ of_claim record { why = why; place = at; what = claim_at s at })
     between =
@@ -58,5 +33,5 @@ module _ (version : ℕ) (a : Actors) (o : Resources) (s : List ℕ) where
         let same : why ≡ found.0 = cc (sym e ∙ found.1) in
         ap (λ w. told_fault w 3 at (claim_at s at).id) same ∙ ap fault_numbers (sym found.2)
 
-    pub claim_clash : {B : Type 0} → outcome_of (claim_tests (world_of version (actors_of a) (resources_of o)) (latest (take at (claims_in s))) (claim_at s at)) ≡ Accepted → B
+    pub claim_clash : {B : Type 0} → outcome_of (claim_tests (world_of version (actors_of a) (resources_of o)) (latest (take at (claims_in s))) (claim_at s at)) ≡ Ok tt → B
     claim_clash e = outcome_clash (sym between.1 ∙ e)

@@ -1,16 +1,9 @@
 -- A walk along a list for its first broken record; what the columns tell of an actor's owner, a keeper and an id. Assumes nothing.
-use mathlib.Core.Path.{◌≡◌, refl, sym, ap, ◌∙◌}
-use mathlib.Core.Bool.{Bool, true, false, not}
-use mathlib.Core.List.{List, [], ◌∷◌, map, reverse-append}
-use Prim.Native.Nat.{ℕ, suc, ◌+◌, ◌≤◌, ◌<◌, min}
-use native.Mathlib.Numerals.{add-one}
-use native.Mathlib.Omega.{arith}
-use lib.Dec.{eqb}
-use lib.ListN.{length, take, drop, get_or, length-take}
-use lib.Seq.{take-suc, take-take, get_or-take}
+use Rattle.std.proofs.Common.{Result, Err, Ok, ◌≡◌, refl, sym, ap, ◌∙◌, Bool, true, false, not, List, [], ◌∷◌, map, ℕ, suc, ◌+◌, ◌≤◌, ◌<◌, add-one, arith, eqb, length, take, drop, get_or, length-take, take-suc, take-take, get_or-take}
+use mathlib.Core.List.{reverse-append}
 use Rattle.lists.specs.Lists.{any}
 use Rattle.lists.specs.Each.{any_reverse}
-use Rattle.lists.specs.Loops.{Loop, start, turn, next, done}
+use Rattle.lists.specs.Loops.{Loop, turn, next, done}
 use Rattle.register.specs.Limits.{human_kind}
 use Rattle.register.specs.Register.{actors_of, no_actor}
 use Rattle.register.specs.Chain.{latest}
@@ -23,25 +16,24 @@ use Rattle.refusals.specs.Refusals.{Test, outcome_of}
 use Rattle.refusals.proofs.Laws.{outcome_nil, outcome_pass, outcome_fail}
 use Rattle.refusals.specs.declared.Refusal.{Refusal}
 use Rattle.refusals.specs.declared.Refusal.TheVariants.{Range, Doubled}
-use Rattle.refusals.specs.declared.Outcome.TheVariants.{Accepted, Refused}
 use Rattle.faults.specs.Faults.{broken_in, id_taken}
 use Rattle.faults.proofs.Faulting.{in_nil, in_pass, in_fail}
 use Rattle.fault_finding.specs.Asked.{three_tests}
 
 -- the three tests of a record, by what was found of those before
 module _ (fit named : Bool) (other : Refusal) (taken : Bool) where
-  pub unfit : fit ≡ false → outcome_of (three_tests fit named other taken) ≡ Refused Range
+  pub unfit : fit ≡ false → outcome_of (three_tests fit named other taken) ≡ Err Range
   unfit e = outcome_fail _ _ e
 
   module _ (fits : fit ≡ true) where
-    pub unnamed : named ≡ false → outcome_of (three_tests fit named other taken) ≡ Refused other
+    pub unnamed : named ≡ false → outcome_of (three_tests fit named other taken) ≡ Err other
     unnamed e = outcome_pass _ _ fits ∙ outcome_fail _ _ e
 
     module _ (names : named ≡ true) where
-      pub doubled : taken ≡ true → outcome_of (three_tests fit named other taken) ≡ Refused Doubled
+      pub doubled : taken ≡ true → outcome_of (three_tests fit named other taken) ≡ Err Doubled
       doubled e = outcome_pass _ _ fits ∙ outcome_pass _ _ names ∙ outcome_fail _ _ (ap not e)
 
-      pub whole : taken ≡ false → outcome_of (three_tests fit named other taken) ≡ Accepted
+      pub whole : taken ≡ false → outcome_of (three_tests fit named other taken) ≡ Ok tt
       whole e = outcome_pass _ _ fits ∙ outcome_pass _ _ names ∙ outcome_pass _ _ (ap not e) ∙ outcome_nil
 
 -- a walk along the first k of a list has come to place i: what is left is asked behind those that were passed
@@ -49,11 +41,8 @@ module _ {A : Type 0} (tests : List A → A → List Test) (k : ℕ) (l : List A
   abbrev pub Walk : ℕ → ℕ → Type 0
   Walk n i = Loop (λ at rest. broken_in tests at (latest (take at (take k l))) rest) k l n i (broken_in tests 0 [] (take k l))
 
-  pub walk_start : {n : ℕ} → n ≡ min k (length l) → Walk n 0
-  walk_start h = start h refl
-
   module _ {n i : ℕ} (s : Walk n i) (d : A) (inside : i < n) where
-    pub walk_fails : (why : Refusal) → outcome_of (tests (latest (take i (take k l))) (get_or l i d)) ≡ Refused why
+    pub walk_fails : (why : Refusal) → outcome_of (tests (latest (take i (take k l))) (get_or l i d)) ≡ Err why
         → broken_in tests 0 [] (take k l) ≡ record { why = why; place = i; what = get_or l i d } ∷ []
     walk_fails why e = turn s d inside ∙ in_fail tests i (latest (take i (take k l))) (get_or l i d) (drop (i + 1) (take k l)) why e
 
@@ -65,7 +54,7 @@ module _ {A : Type 0} (tests : List A → A → List Test) (k : ℕ) (l : List A
         ∙ reverse-append (take i (take k l)) (get_or (take k l) i d ∷ [])
         ∙ ap (λ c. c ∷ latest (take i (take k l))) (get_or-take k l i d below)
 
-    pub walk_next : outcome_of (tests (latest (take i (take k l))) (get_or l i d)) ≡ Accepted → Walk n (i + 1)
+    pub walk_next : outcome_of (tests (latest (take i (take k l))) (get_or l i d)) ≡ Ok tt → Walk n (i + 1)
     walk_next e =
         next s inside
         (turn s d inside
@@ -93,3 +82,8 @@ human_told a x e =
     rw e
     (beside_natural actor_id actor_kind x human_kind a.count (actors_to a).list
     ∙ ap (λ l. human l x) (up_to_first no_actor a.count a.list))
+
+-- an outcome that is no refusal
+pub not_refused : (o : Result Unit Refusal) → ((why : Refusal) → o ≡ Err why → ⊥) → o ≡ Ok tt
+not_refused (Ok _) h = refl
+not_refused (Err why) h = absurd (h why refl)

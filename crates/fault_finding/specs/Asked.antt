@@ -1,7 +1,7 @@
 -- Working: The tests of a record in the parts that the code decides, where it is told who is named and whether the id is taken; the fault of the
 -- version and the counts by itself. They are shaped for the code; that they are those of `faults` is proved in proofs/Parts and proofs/Claims
 -- (`actor_asked_lem`, `resource_asked_lem`, `limits_told`, `higher_told`).
-use Rattle.std.specs.Prelude.{◌≡◌, Bool, true, false, not, ◌&&◌, ◌||◌, cond, List, [], ◌∷◌, map, ℕ, ◌<◌, eqb, leb, length}
+use Rattle.std.specs.Prelude.{◌≡◌, Bool, true, false, not, ◌&&◌, ◌||◌, cond, List, [], ◌∷◌, map, ℕ, ◌<◌, eqb, leb, length, Option}
 use Rattle.lists.specs.Lists.{every}
 use Rattle.register.specs.Limits.{actor_limit, resource_limit, claim_limit, id_limit, path_limit, version_one, version_two, path_byte_least, path_byte_greatest, human_kind, machine_kind, ranged, is_id}
 use Rattle.register.specs.Register.{path_of}
@@ -11,7 +11,6 @@ use Rattle.register.specs.declared.Resource.{Resource}
 use Rattle.register.specs.declared.Resources.{Resources}
 use Rattle.register.specs.declared.Claim.{Claim}
 use Rattle.columns.specs.Sheet.{sheet_limit, claim_at}
-use Rattle.columns.specs.declared.Place.{Place}
 use Rattle.lookup.specs.Walks.{up_from}
 use Rattle.soundness_rules.specs.Sound.{sound}
 use Rattle.soundness.specs.Judged.{register_by}
@@ -38,7 +37,7 @@ resource_asked kept taken o =
     kept BadKeeper taken
 
 -- of a claim with a parent, over the chain above it as the claims of a sheet and the places of the parents have it; of a root there are none
-abbrev pub higher_asked : ℕ → List ℕ → List ℕ → Place → Claim → List Test
+abbrev pub higher_asked : ℕ → List ℕ → List ℕ → Option ℕ → Claim → List Test
 higher_asked version s ups place c = cond (eqb c.parent 0) [] (higher_tests version (map (claim_at s) (up_from ups place)) c)
 
 -- the fault of the version and of the counts of actors, resources and claims

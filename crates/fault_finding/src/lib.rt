@@ -16,9 +16,8 @@ ghost use Rattle.faults.specs.Faults.{told_fault, fault_numbers, no_fault, fault
 ghost use Rattle.faults.specs.Unread.{why_unread};
 ghost use Rattle.fault_finding.specs.Asked.{three_tests, actor_asked, resource_asked, higher_asked, limits_fault, Turning};
 
-use columns::Place;
 use faults::Fault;
-use refusals::{Outcome, Refusal};
+use refusals::Refusal;
 use register::{Actor, Actors, Claim, Register, Resource, Resources};
 
 // Nothing is broken.
@@ -53,10 +52,7 @@ fn told(why: Refusal, list: u32, place: usize, id: u32) -> Fault
 fn limits_fault(version: u64, h: usize, m: usize, n: usize) -> Fault
     ensures { result ≡ fault_numbers (limits_fault version h m n) }
 {
-    if version < Register::VERSION_ONE {
-        return told(Refusal::Range, 0, 0, 0);
-    }
-    if Register::VERSION_TWO < version {
+    if version < Register::VERSION_ONE || Register::VERSION_TWO < version {
         return told(Refusal::Range, 0, 0, 0);
     }
     if Register::ACTORS < h {
@@ -72,23 +68,23 @@ fn limits_fault(version: u64, h: usize, m: usize, n: usize) -> Fault
 }
 
 // The outcome of a record's tests, which are three: its fields, who it names, and its id.
-fn record_outcome(fit: bool, named: bool, other: Refusal, taken: bool) -> Outcome
+fn record_outcome(fit: bool, named: bool, other: Refusal, taken: bool) -> Result<(), Refusal>
     ensures { result ≡ outcome_of (three_tests fit named other taken) }
 {
     if !fit {
-        return Outcome::Refused(Refusal::Range);
+        return Err(Refusal::Range);
     }
     if !named {
-        return Outcome::Refused(other);
+        return Err(other);
     }
     if taken {
-        return Outcome::Refused(Refusal::Doubled);
+        return Err(Refusal::Doubled);
     }
-    Outcome::Accepted
+    Ok(())
 }
 
 // The outcome of an actor's tests: `owned` says whether its owner is a human of the register, `taken` whether an earlier actor has its id.
-fn actor_outcome(owned: bool, taken: bool, a: Actor) -> Outcome
+fn actor_outcome(owned: bool, taken: bool, a: Actor) -> Result<(), Refusal>
     ensures { result ≡ outcome_of (actor_asked owned taken a) }
 {
     let machine = a.kind == Actor::MACHINE;
@@ -103,7 +99,7 @@ fn actor_outcome(owned: bool, taken: bool, a: Actor) -> Outcome
 }
 
 // The outcome of a resource's tests: `kept` says whether its keeper is a human of the register, `taken` whether an earlier resource has its id.
-fn resource_outcome(kept: bool, taken: bool, o: Resource) -> Outcome
+fn resource_outcome(kept: bool, taken: bool, o: Resource) -> Result<(), Refusal>
     ensures { result ≡ outcome_of (resource_asked kept taken o) }
 {
     let room = (o.public <= 1) & (register::is_id(o.keeper) & (o.len as usize <= Register::PATH));
@@ -116,9 +112,8 @@ fn actors_fault(a: Actors) -> Fault
     ensures { result ≡ fault_numbers (fault_from of_actor (broken_in (actor_tests (human (actors_of a))) 0 [] (actors_of a)) no_fault) }
 {
     let columns = columns::actor_columns(a);
-    let top = lists::least(a.count, Register::ACTORS);
-    let mut i: usize = 0;
-    while i < top {
+    let top = a.count.min(Register::ACTORS);
+    for i in 0..top {
         let x = a.list[i];
         let owned = columns::is_beside(
             &columns.names,
@@ -128,13 +123,8 @@ fn actors_fault(a: Actors) -> Fault
             Actor::HUMAN,
         );
         let taken = columns::is_among(&columns.names, i, x.id);
-        match actor_outcome(owned, taken, x) {
-            Outcome::Refused(why) => {
-                return told(why, Fault::ACTORS, i, x.id);
-            }
-            Outcome::Accepted => {
-                i += 1;
-            }
+        if let Err(why) = actor_outcome(owned, taken, x) {
+            return told(why, Fault::ACTORS, i, x.id);
         }
     }
     no_fault()
@@ -146,9 +136,8 @@ fn resources_fault(a: Actors, o: Resources) -> Fault
 {
     let people = columns::actor_columns(a);
     let columns = columns::resource_columns(o);
-    let top = lists::least(o.count, Register::RESOURCES);
-    let mut i: usize = 0;
-    while i < top {
+    let top = o.count.min(Register::RESOURCES);
+    for i in 0..top {
         let x = o.list[i];
         let kept = columns::is_beside(
             &people.names,
@@ -158,13 +147,8 @@ fn resources_fault(a: Actors, o: Resources) -> Fault
             Actor::HUMAN,
         );
         let taken = columns::is_among(&columns.reports, i, x.id);
-        match resource_outcome(kept, taken, x) {
-            Outcome::Refused(why) => {
-                return told(why, Fault::RESOURCES, i, x.id);
-            }
-            Outcome::Accepted => {
-                i += 1;
-            }
+        if let Err(why) = resource_outcome(kept, taken, x) {
+            return told(why, Fault::RESOURCES, i, x.id);
         }
     }
     no_fault()
@@ -176,17 +160,17 @@ fn higher_outcome<'a>(
     version: u64,
     sheet: &'a [u32],
     ups: &'a [u16],
-    place: Place,
+    place: Option<usize>,
     c: Claim,
-) -> Outcome
+) -> Result<(), Refusal>
     ensures { result ≡ outcome_of (higher_asked version sheet.now ups.now place c) }
 {
     if c.parent == 0 {
-        return Outcome::Accepted;
+        return Ok(());
     }
     match place {
-        Place::Nowhere => Outcome::Refused(Refusal::NoParent),
-        Place::At(at) => {
+        None => Err(Refusal::NoParent),
+        Some(at) => {
             let p = columns::claim_at(sheet, at);
             let drawn = granting::drawn_outcome(p, c, true);
             let grantors = columns::column(sheet, columns::GRANTORS);
@@ -198,21 +182,33 @@ fn higher_outcome<'a>(
 }
 
 // The outcome of the tests of the claim behind the first `n` of a sheet, with which the register is sound.
-fn claim_outcome(version: u64, a: Actors, o: Resources, sheet: &[u32], n: usize) -> Outcome
+fn claim_outcome(
+    version: u64,
+    a: Actors,
+    o: Resources,
+    sheet: &[u32],
+    n: usize,
+) -> Result<(), Refusal>
     requires { (length sheet.now ≡ sheet_limit) × (sound (register_by version a o sheet.now n) ≡ true) }
     ensures { result ≡ outcome_of (claim_tests (world_of version (actors_of a) (resources_of o)) (latest (take n (claims_in sheet.now))) (claim_at sheet.now n)) }
 {
     let c = columns::claim_at(sheet, n);
     if !claim_judging::claim_fits(version, c) {
-        return Outcome::Refused(Refusal::Range);
+        return Err(Refusal::Range);
     }
     let found = soundness::examine_sheet(version, a, o, sheet, n);
     let ids = columns::column(sheet, columns::IDS);
     let stands = columns::is_among(ids, n, c.id);
     let place = columns::latest_place(ids, n, c.parent);
-    let actors = found.actors;
-    let resources = found.resources;
-    let world = granting::world_outcome(actors, a.count, resources, o.count, stands, 0, c);
+    let world = granting::world_outcome(
+        &found.actors,
+        a.count,
+        &found.resources,
+        o.count,
+        stands,
+        0,
+        c,
+    );
     let higher = higher_outcome(version, sheet, &found.ups, place, c);
     granting::then(world, higher)
 }
@@ -244,9 +240,9 @@ fn claims_fault(version: u64, a: Actors, o: Resources, sheet: &[u32], n: usize) 
     let at = sound_before(version, a, o, sheet, n);
     let c = columns::claim_at(sheet, at);
     match claim_outcome(version, a, o, sheet, at) {
-        Outcome::Refused(why) => told(why, Fault::CLAIMS, at, c.id),
+        Err(why) => told(why, Fault::CLAIMS, at, c.id),
         // Never: with the claim at this place the register is not sound.
-        Outcome::Accepted => no_fault(),
+        Ok(()) => no_fault(),
     }
 }
 
@@ -281,10 +277,8 @@ fn failed(why: Refusal, line: usize) -> Fault
     Fault {
         sound: 0,
         why: refusals::number(why),
-        list: 0,
-        id: 0,
-        place: 0,
         line,
+        ..no_fault()
     }
 }
 
@@ -293,11 +287,8 @@ pub fn why_unread(text: &[u8]) -> Fault
     ensures { result ≡ why_unread text.now }
 {
     let form = register_reading::read_form(text);
-    let register = form.register;
-    let cursor = form.cursor;
-    if !lines::goes_on(text, cursor) {
-        let why = cursor.refusal;
-        return failed(why, cursor.line);
+    if !lines::goes_on(text, form.cursor) {
+        return failed(form.cursor.refusal, form.cursor.line);
     }
-    why_unsound(register)
+    why_unsound(form.register)
 }

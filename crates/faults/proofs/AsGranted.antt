@@ -1,9 +1,6 @@
 -- What a broken claim is told is what a grant of it behind the earlier ones would be refused with, were they all live. Assumes nothing.
-use mathlib.Core.Path.{◌≡◌, ◌∙◌, sym}
-use mathlib.Core.Bool.{true, ◌&&◌, cond, and-true}
-use mathlib.Core.List.{List, [], ◌∷◌, ◌++◌}
-use Prim.Native.Nat.{ℕ}
-use lib.Dec.{eqb, ltb}
+use Rattle.std.proofs.Common.{◌≡◌, ◌∙◌, sym, true, ◌&&◌, cond, List, [], ◌∷◌, ◌++◌, ℕ, eqb, ltb}
+use mathlib.Core.Bool.{and-true}
 use Rattle.lists.specs.Tests.{cases}
 use Rattle.lists.specs.Lists.{every}
 use Rattle.register.specs.Limits.{claim_limit, moment_end}

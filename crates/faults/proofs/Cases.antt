@@ -1,8 +1,5 @@
 -- Case R of 01, as it is and with one thing wrong at a time: what is told of each number, and of a text. All by computing. Assumes nothing.
-use mathlib.Core.Path.{◌≡◌, refl}
-use mathlib.Core.List.{List, [], ◌∷◌, ◌++◌, map}
-use Prim.Native.Nat.{ℕ, ◌-◌}
-use lib.ListN.{replicate, length}
+use Rattle.std.proofs.Common.{◌≡◌, refl, List, [], ◌∷◌, ◌++◌, map, ℕ, ◌-◌, replicate, length}
 use Rattle.lists.specs.Lists.{counted, dropping}
 use Rattle.rights.specs.Rights.{has_right, has_rights, bars_machine}
 use Rattle.register.specs.Register.{no_actor, no_resource, no_claim}

@@ -1,11 +1,7 @@
 -- Small texts that are to be registers: what is told of a failing line, and of the register that the lines say. All by computing. Assumes nothing.
-use mathlib.Core.Path.{◌≡◌, refl}
-use mathlib.Core.Bool.{cond}
-use mathlib.Core.List.{List, [], ◌∷◌}
-use Prim.Native.Nat.{ℕ}
+use Rattle.std.proofs.Common.{◌≡◌, refl, cond, List, [], ◌∷◌, ℕ, eqb}
 use Prim.Native.Char.{code}
 use Prim.Native.String.{String, [] as end, ◌∷◌ as ◌then◌}
-use lib.Dec.{eqb}
 use Rattle.lists.specs.Lists.{dropping}
 use Rattle.decimals.specs.Decimals.{after, value, canonical, parse, digit_run}
 use Rattle.lines.specs.Lines.{begins, ended, parse_limited, at_least, parse_word, path_on, parse_scope}

@@ -1,9 +1,8 @@
 -- Laws: Claims: each passes its tests exactly where the claims are sound, and the test that fails breaks the rule that it names. Assumes nothing.
-use Rattle.std.specs.Prelude.{◌≡◌, Bool, false, not, ◌&&◌, ◌||◌, cond, ℕ, eqb, leb, ltb}
+use Rattle.std.proofs.Common.{◌≡◌, Bool, false, not, ◌&&◌, ◌||◌, cond, ℕ, eqb, leb, ltb, sym, ◌∙◌, List, [], ◌∷◌, ◌++◌, append_assoc}
 use Rattle.std.proofs.Math.Path.{refl, ap}
-use Rattle.std.proofs.Common.{sym, ◌∙◌}
 use Rattle.std.proofs.Math.Bool.{true, and-false}
-use mathlib.Core.List.{List, [], ◌∷◌, ◌++◌, reverse-cons, append_assoc}
+use mathlib.Core.List.{reverse-cons}
 use Rattle.lists.specs.Tests.{cases, clash}
 use Rattle.lists.specs.Lists.{every, All, dropping}
 use Rattle.lists.specs.Each.{all_append, all_imp}

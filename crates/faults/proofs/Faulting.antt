@@ -1,8 +1,7 @@
 -- Laws: The first broken record of a list: where none is, and what it is told of. Assumes nothing.
-use Rattle.std.specs.Prelude.{◌≡◌, true, false, ℕ, suc, ◌+◌, length}
+use Rattle.std.proofs.Common.{◌≡◌, true, false, ℕ, suc, ◌+◌, length, Err, Ok, ap, sym, ◌∙◌, add-zero, arith, List, [], ◌∷◌, ◌++◌, append_assoc}
 use Rattle.std.proofs.Math.Path.{refl}
-use Rattle.std.proofs.Common.{ap, sym, ◌∙◌, add-zero, arith}
-use mathlib.Core.List.{List, [], ◌∷◌, ◌++◌, reverse-cons, append_assoc}
+use mathlib.Core.List.{reverse-cons}
 use Rattle.lists.specs.Tests.{cases, clash}
 use Rattle.lists.specs.Lists.{every, All}
 use Rattle.lists.specs.Each.{every_all, all_every}
@@ -10,18 +9,17 @@ use Rattle.register.specs.Chain.{latest}
 use Rattle.refusals.specs.Refusals.{Test, outcome_of}
 use Rattle.refusals.proofs.Laws.{outcome_cases, outcome_clash, outcome_nil, outcome_pass, outcome_fail, accepted_in, accepted_out}
 use Rattle.refusals.specs.declared.Refusal.{Refusal}
-use Rattle.refusals.specs.declared.Outcome.TheVariants.{Accepted, Refused}
 use Rattle.faults.specs.Faults.{Broken, broken_in, each_passes}
 
 -- acceptance is that every test is passed
-pub accepted_every : (tests : List Test) → outcome_of tests ≡ Accepted → every (λ t. t.passed) tests ≡ true
+pub accepted_every : (tests : List Test) → outcome_of tests ≡ Ok tt → every (λ t. t.passed) tests ≡ true
 accepted_every tests h = all_every (λ t. t.passed) tests (accepted_out tests h)
 
-pub every_accepted : (tests : List Test) → every (λ t. t.passed) tests ≡ true → outcome_of tests ≡ Accepted
+pub every_accepted : (tests : List Test) → every (λ t. t.passed) tests ≡ true → outcome_of tests ≡ Ok tt
 every_accepted tests h = accepted_in tests (every_all (λ t. t.passed) tests h)
 
 -- a property of each test that is not passed is one of what is told
-pub refused_of : (Q : Refusal → Type 0) (tests : List Test) → All (λ t. t.passed ≡ false → Q t.refusal) tests → (why : Refusal) → outcome_of tests ≡ Refused why → Q why
+pub refused_of : (Q : Refusal → Type 0) (tests : List Test) → All (λ t. t.passed ≡ false → Q t.refusal) tests → (why : Refusal) → outcome_of tests ≡ Err why → Q why
 refused_of Q [] h why e = outcome_clash (sym e ∙ outcome_nil)
 refused_of Q (t ∷ tests) h why e =
     cases t.passed (λ k. refused_of Q tests h.1 why (sym (outcome_pass t tests k) ∙ e))
@@ -32,12 +30,12 @@ module _ {A : Type 0} (tests : List A → A → List Test) where
   unfolding broken_in
   in_nil n earlier = refl
 
-  pub in_pass : (n : ℕ) (earlier : List A) (c : A) (rest : List A) → outcome_of (tests earlier c) ≡ Accepted
+  pub in_pass : (n : ℕ) (earlier : List A) (c : A) (rest : List A) → outcome_of (tests earlier c) ≡ Ok tt
       → broken_in tests n earlier (c ∷ rest) ≡ broken_in tests (suc n) (c ∷ earlier) rest
   unfolding broken_in
   in_pass n earlier c rest e = rw e
 
-  pub in_fail : (n : ℕ) (earlier : List A) (c : A) (rest : List A) (why : Refusal) → outcome_of (tests earlier c) ≡ Refused why
+  pub in_fail : (n : ℕ) (earlier : List A) (c : A) (rest : List A) (why : Refusal) → outcome_of (tests earlier c) ≡ Err why
       → broken_in tests n earlier (c ∷ rest) ≡ record { why = why; place = n; what = c } ∷ []
   unfolding broken_in
   in_fail n earlier c rest why e = rw e
@@ -49,7 +47,7 @@ module _ {A : Type 0} (tests : List A → A → List Test) where
     pub split : cs ≡ before ++ b.what ∷ after
     pub place : b.place ≡ n + length before
     pub passed : each_passes tests earlier before ≡ true
-    pub fails : outcome_of (tests (latest before ++ earlier) b.what) ≡ Refused b.why
+    pub fails : outcome_of (tests (latest before ++ earlier) b.what) ≡ Err b.why
 
   -- either each passes, and none is told, or the first that does not is told
   pub in_cases : {B : Type 0} (n : ℕ) (earlier cs : List A) → (broken_in tests n earlier cs ≡ [] → each_passes tests earlier cs ≡ true → B)
@@ -92,7 +90,7 @@ module _ {A : Type 0} (tests : List A → A → List Test) where
 
   -- where those before pass and one does not, that one is told
   pub in_found : (n : ℕ) (earlier before : List A) (c : A) (after : List A) (why : Refusal) → each_passes tests earlier before ≡ true
-      → outcome_of (tests (latest before ++ earlier) c) ≡ Refused why
+      → outcome_of (tests (latest before ++ earlier) c) ≡ Err why
       → broken_in tests n earlier (before ++ c ∷ after) ≡ record { why = why; place = n + length before; what = c } ∷ []
   in_found n earlier [] c after why h e = rw (add-zero n) (in_fail n earlier c after why e)
   in_found n earlier (d ∷ before) c after why h e =

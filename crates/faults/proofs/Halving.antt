@@ -1,7 +1,5 @@
 -- Laws: The first broken claim stands behind the greatest number of claims with which the register is sound. Assumes nothing.
-use Rattle.std.specs.Prelude.{◌≡◌, true, false, [], ◌∷◌, List, ◌++◌, ℕ, suc, ◌≤◌, ◌<◌, length, take, get_or, drop}
-use Rattle.std.proofs.Common.{ap, sym, ◌∙◌, append-nil, zero-add, arith, length-take, take-append-drop, take-suc, take-take, drop-cons, get_or-take, length-take-le}
-use borrow.Author.Tests.{le-leb}
+use Rattle.std.proofs.Common.{◌≡◌, true, false, [], ◌∷◌, List, ◌++◌, ℕ, suc, ◌≤◌, ◌<◌, length, take, get_or, drop, Err, ap, sym, ◌∙◌, append-nil, zero-add, arith, length-take, take-append-drop, take-suc, take-take, drop-cons, get_or-take, length-take-le, le-leb}
 use Rattle.lists.specs.Tests.{clash}
 use Rattle.register.specs.Limits.{claim_limit, actor_limit, resource_limit, version_one, version_two, ranged}
 use Rattle.register.specs.Register.{no_claim, actors_of, resources_of, claims_of}
@@ -14,7 +12,6 @@ use Rattle.soundness_rules.proofs.Places.{append_sound}
 use Rattle.refusals.specs.Refusals.{outcome_of}
 use Rattle.refusals.proofs.Laws.{outcome_cases}
 use Rattle.refusals.specs.declared.Refusal.{Refusal}
-use Rattle.refusals.specs.declared.Outcome.TheVariants.{Refused}
 use Rattle.change_rules.specs.Changes.{world_in}
 use Rattle.faults.specs.Faults.{Broken, claim_tests, of_claim, first_fault, first_claims, broken_in, actor_tests, resource_tests, broken_actors, broken_resources, broken_claims, record_fault}
 use Rattle.faults.proofs.Telling.{people, actors_out, resources_out, claims_out, first_claims_in}
@@ -39,7 +36,7 @@ module _ (r : Register) where
   -- where the first n claims are sound and the first n + 1 are not, the fault is that of the claim between
   pub between_found : (n : ℕ) → r.claims.count ≤ claim_limit → n < r.claims.count → n < length r.claims.list
       → sound (first_claims r n) ≡ true → sound (first_claims r (suc n)) ≡ false
-      → (why : Refusal) × (outcome_of (claim_tests (world_in r) (latest (take n r.claims.list)) (get_or r.claims.list n no_claim)) ≡ Refused why)
+      → (why : Refusal) × (outcome_of (claim_tests (world_in r) (latest (take n r.claims.list)) (get_or r.claims.list n no_claim)) ≡ Err why)
       × (first_fault r ≡ of_claim record { why = why; place = n; what = get_or r.claims.list n no_claim })
   between_found n few inside listed low high =
       let cs : List Claim = claims_of r.claims in

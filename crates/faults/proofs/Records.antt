@@ -1,7 +1,6 @@
 -- Laws: Actors and resources: each passes its tests exactly where the list is sound, and the test that fails breaks the rule that it names. Assumes nothing.
-use Rattle.std.specs.Prelude.{◌≡◌, refl, Bool, true, false, not, ◌&&◌, ◌||◌, ℕ, eqb, leb}
-use Rattle.std.proofs.Common.{sym, ◌∙◌}
-use mathlib.Core.List.{List, [], ◌∷◌, ◌++◌, map, map-append, reverse-cons, append_assoc, append-nil}
+use Rattle.std.proofs.Common.{◌≡◌, refl, Bool, true, false, not, ◌&&◌, ◌||◌, ℕ, eqb, leb, sym, ◌∙◌, List, [], ◌∷◌, ◌++◌, map, append_assoc, append-nil}
+use mathlib.Core.List.{map-append, reverse-cons}
 use Rattle.std.proofs.lemmas.Bool.{not-true}
 use Rattle.lists.specs.Tests.{cases, clash, and_left, and_right, and_both}
 use Rattle.lists.specs.Distinct.{distinct_last, distinct_again}

@@ -1,8 +1,5 @@
 -- Laws: Every fault with what it comes from; each list is sound where each of its records passes, and the register with fewer claims. Assumes nothing.
-use Rattle.std.specs.Prelude.{◌≡◌, Bool, true, false, ℕ, ◌≤◌, ◌<◌, leb, take}
-use Rattle.std.proofs.Common.{sym, ◌∙◌}
-use mathlib.Core.List.{List, [], ◌∷◌, append-nil}
-use borrow.Author.Tests.{leb-true, leb-false}
+use Rattle.std.proofs.Common.{◌≡◌, Bool, true, false, ℕ, ◌≤◌, ◌<◌, leb, take, sym, ◌∙◌, List, [], ◌∷◌, append-nil, leb-true, leb-false}
 use Rattle.lists.specs.Tests.{cases}
 use Rattle.lists.specs.Distinct.{distinct_nil}
 use Rattle.lists.specs.Each.{cons_clash}

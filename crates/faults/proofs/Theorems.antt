@@ -1,10 +1,5 @@
 -- What is proved of the first fault of a register and of a text. Assumes nothing.
-use mathlib.Core.Path.{◌≡◌}
-use mathlib.Core.Bool.{true, false}
-use mathlib.Core.List.{List}
-use Prim.Native.Nat.{ℕ, suc, ◌≤◌, ◌<◌}
-use lib.Dec.{eqb, ltb}
-use lib.ListN.{length, take, get_or}
+use Rattle.std.proofs.Common.{Err, ◌≡◌, true, false, List, ℕ, suc, ◌≤◌, ◌<◌, eqb, ltb, length, take, get_or}
 use Rattle.lists.specs.Lists.{every}
 use Rattle.register.specs.Limits.{claim_limit, moment_end}
 use Rattle.register.specs.Register.{no_claim}
@@ -14,7 +9,6 @@ use Rattle.register.specs.declared.Register.{Register}
 use Rattle.soundness_rules.specs.Sound.{sound}
 use Rattle.refusals.specs.Refusals.{number_of, is_accepted, outcome_of}
 use Rattle.refusals.specs.declared.Refusal.{Refusal}
-use Rattle.refusals.specs.declared.Outcome.TheVariants.{Refused}
 use Rattle.lines.specs.Reading.{going, failed}
 use Rattle.text_rules.specs.Registers.{register_from, register_read}
 use Rattle.change_rules.specs.Changes.{world_in, standing, granted}
@@ -50,7 +44,7 @@ sound_fewer = unsound.sound_fewer
 -- 3c. So any n of its claims with which it is sound, and not with one more, end before the claim that is told: it may be looked for by halving.
 pub between_found : (r : Register) (n : ℕ) → r.claims.count ≤ claim_limit → n < r.claims.count → n < length r.claims.list
     → sound (first_claims r n) ≡ true → sound (first_claims r (suc n)) ≡ false
-    → (why : Refusal) × (outcome_of (claim_tests (world_in r) (latest (take n r.claims.list)) (get_or r.claims.list n no_claim)) ≡ Refused why)
+    → (why : Refusal) × (outcome_of (claim_tests (world_in r) (latest (take n r.claims.list)) (get_or r.claims.list n no_claim)) ≡ Err why)
     × (first_fault r ≡ of_claim record { why = why; place = n; what = get_or r.claims.list n no_claim })
 between_found = halving.between_found
 
@@ -64,7 +58,7 @@ unread_line = unreading.unread_line
 
 -- 4c. Where a line fails, the number is the reading's 19 or 20.
 pub unread_failed : (t : List ℕ) (why : Refusal) (l : ℕ) → (register_from t).state ≡ failed why l
-    → ((register_read t).outcome ≡ Refused why) × ((why_unread t).why ≡ number_of why)
+    → ((register_read t).outcome ≡ Err why) × ((why_unread t).why ≡ number_of why)
 unread_failed = unreading.unread_failed
 
 -- 4d. Where none fails, the fault is that of the register that the lines say.

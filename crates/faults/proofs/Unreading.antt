@@ -1,14 +1,10 @@
 -- Why a text is not read: nothing is told exactly where it is read; and 19, 20 and the line are those of the reading. Assumes nothing.
-use mathlib.Core.Path.{◌≡◌, refl, ◌∙◌}
-use mathlib.Core.List.{List}
-use Prim.Native.Nat.{ℕ}
-use lib.Dec.{eqb}
+use Rattle.std.proofs.Common.{Err, ◌≡◌, refl, ◌∙◌, List, ℕ, eqb}
 use Rattle.lists.specs.Tests.{cases}
 use Rattle.register.specs.declared.Register.{Register}
 use Rattle.soundness_rules.specs.Sound.{sound}
 use Rattle.refusals.specs.Refusals.{number_of, is_accepted}
 use Rattle.refusals.specs.declared.Refusal.{Refusal}
-use Rattle.refusals.specs.declared.Outcome.TheVariants.{Refused}
 use Rattle.lines.specs.Reading.{State, going, failed}
 use Rattle.text_rules.specs.Registers.{register_from, register_ending, register_read}
 use Rattle.faults.specs.Faults.{fault_numbers, first_fault, FirstFault, no_fault, bad_version, many_actors, many_resources, many_claims, of_actor, of_resource, of_claim, fault_of}
@@ -45,7 +41,7 @@ unread_line t = ending_line (register_from t).value (register_from t).state
 
 -- where a line fails, the number is that of the reading; where none does, the fault is that of the register that the lines say
 pub unread_failed : (t : List ℕ) (why : Refusal) (l : ℕ) → (register_from t).state ≡ failed why l
-    → ((register_read t).outcome ≡ Refused why) × ((why_unread t).why ≡ number_of why)
+    → ((register_read t).outcome ≡ Err why) × ((why_unread t).why ≡ number_of why)
 unfolding why_unread register_read
 unread_failed t why l e = (rw e, rw e)
 

@@ -1,14 +1,7 @@
 -- The first fault of a register: there is none exactly where the register is sound; what it names is broken, and what comes before it is not. Assumes
 -- nothing.
-use mathlib.Core.Path.{◌≡◌, refl, ap, sym, ◌∙◌}
-use mathlib.Core.Bool.{Bool, true, false}
-use mathlib.Core.List.{List, [], ◌∷◌, ◌++◌, append-nil}
-use Prim.Native.Nat.{ℕ, suc, ◌+◌, ◌≤◌, ◌<◌}
-use native.Mathlib.Omega.{arith}
-use borrow.Author.Tests.{ne_eqb}
-use lib.Dec.{eqb}
-use lib.ListN.{length, take, length-append, length-take}
-use lib.Seq.{take-append_seam, take-append-add, take-take}
+use Rattle.std.proofs.Common.{Err, ◌≡◌, refl, ap, sym, ◌∙◌, Bool, true, false, List, [], ◌∷◌, ◌++◌, append-nil, ℕ, suc, ◌+◌, ◌≤◌, ◌<◌, arith, ne_eqb, eqb, length, take, length-append, length-take, take-take}
+use lib.Seq.{take-append_seam, take-append-add}
 use Rattle.lists.specs.Tests.{cases, clash, and_left}
 use Rattle.lists.specs.Lists.{All}
 use Rattle.lists.specs.Each.{cons_clash}
@@ -23,7 +16,6 @@ use Rattle.soundness_rules.proofs.Places.{append_sound, take_sound}
 use Rattle.refusals.specs.Refusals.{Test, outcome_of, number_of}
 use Rattle.refusals.proofs.Laws.{number_bounds, outcome_clash}
 use Rattle.refusals.specs.declared.Refusal.{Refusal}
-use Rattle.refusals.specs.declared.Outcome.TheVariants.{Refused}
 use Rattle.change_rules.specs.Changes.{world_in}
 use Rattle.faults.specs.Faults.{Broken, broken_in, each_passes, actor_tests, resource_tests, claim_tests, FirstFault, no_fault, bad_version, many_actors, many_resources, many_claims, of_actor, of_resource, of_claim, broken_actors, broken_resources, broken_claims, first_fault, fault_numbers, fault_of, actor_rule, resource_rule, claim_rule, first_claims, BrokenThere, Breaks, WholeBefore}
 use Rattle.faults.proofs.Faulting.{every_accepted, refused_of, BrokenFound, in_cases, in_none}
@@ -53,7 +45,7 @@ broken_there {A} tests rule breaks cs b told =
     there d found =
         let place : d.place ≡ length found.before = omega (arith, found.place) in
         let first : take d.place cs ≡ found.before = rw (place, found.split) (take-append_seam found.before (d.what ∷ found.after)) in
-        let fails : outcome_of (tests (latest found.before) d.what) ≡ Refused d.why = rw (append-nil (latest found.before)) at found.fails in
+        let fails : outcome_of (tests (latest found.before) d.what) ≡ Err d.why = rw (append-nil (latest found.before)) at found.fails in
         record {
           after = found.after;
           split = rw first found.split;
@@ -103,7 +95,7 @@ module _ (r : Register) where
       (λ b versioned within a o told. broken_there (claim_tests (world_in r)) (claim_rule (world_in r)) (claim_breaks (world_in r)) (claims_of r.claims) b told)
 
   -- a claim behind sound ones that fails a test is not sound with them
-  failing_unsound : (cs : List Claim) (c : Claim) (why : Refusal) → outcome_of (claim_tests (world_in r) (latest cs) c) ≡ Refused why
+  failing_unsound : (cs : List Claim) (c : Claim) (why : Refusal) → outcome_of (claim_tests (world_in r) (latest cs) c) ≡ Err why
       → sound_claims (world_in r) (latest (cs ++ (c ∷ []))) ≡ true → ⊥
   failing_unsound cs c why fails h =
       let fine : acceptable (world_in r) (latest cs) c ≡ true =

@@ -1,6 +1,6 @@
 -- Believed: The first fault of a register: the version, the counts, then actors, resources and claims by place. Of a claim it is what a grant of it behind
 -- the earlier ones would be refused with, were all of them live.
-use Rattle.std.specs.Prelude.{◌≡◌, Bool, true, false, not, ◌&&◌, ◌||◌, cond, List, [], ◌∷◌, ◌++◌, ℕ, suc, ◌≤◌, ◌<◌, eqb, leb, length, take}
+use Rattle.std.specs.Prelude.{◌≡◌, Bool, true, false, not, ◌&&◌, ◌||◌, cond, List, [], ◌∷◌, ◌++◌, ℕ, suc, ◌≤◌, ◌<◌, eqb, leb, length, take, Result, Err, Ok}
 use Rattle.lists.specs.Lists.{any, every, ands, filter}
 use Rattle.register.specs.Limits.{actor_limit, resource_limit, claim_limit, id_limit, path_limit, version_one, version_two, path_byte_least, path_byte_greatest, human_kind, machine_kind, ranged, is_id}
 use Rattle.register.specs.Register.{actors_of, resources_of, claims_of, path_of, with_claims}
@@ -13,8 +13,6 @@ use Rattle.soundness_rules.specs.Sound.{World, claim_fits, names_stand, root_kep
 use Rattle.refusals.specs.Refusals.{Test, outcome_of, number_of}
 use Rattle.refusals.specs.declared.Refusal.{Refusal}
 use Rattle.refusals.specs.declared.Refusal.TheVariants.{Range, NotLive, Doubled, BadOwner, BadKeeper}
-use Rattle.refusals.specs.declared.Outcome.{Outcome}
-use Rattle.refusals.specs.declared.Outcome.TheVariants.{Accepted, Refused}
 use Rattle.change_rules.specs.Changes.{world_in, world_tests, parent_tests}
 use Rattle.faults.specs.declared.Fault.{Fault}
 
@@ -25,9 +23,9 @@ pub record Broken (A : Type 0) : Type 0 where
   pub what : A
 
 -- the first record, from place n on and behind the earlier ones, latest first, that fails one of its tests
-abbrev pub broken_at : {A : Type 0} → Outcome → ℕ → A → List (Broken A) → List (Broken A)
-broken_at Accepted n c more = more
-broken_at (Refused why) n c more = record { why = why; place = n; what = c } ∷ []
+abbrev pub broken_at : {A : Type 0} → Result Unit Refusal → ℕ → A → List (Broken A) → List (Broken A)
+broken_at (Ok _) n c more = more
+broken_at (Err why) n c more = record { why = why; place = n; what = c } ∷ []
 
 unfoldable pub broken_in : {A : Type 0} → (List A → A → List Test) → ℕ → List A → List A → List (Broken A)
 broken_in tests n earlier [] = []
@@ -151,7 +149,7 @@ pub record BrokenThere {A : Type 0} (tests : List A → A → List Test) (rule :
   pub after : List A
   pub split : cs ≡ take b.place cs ++ b.what ∷ after
   pub inside : length (take b.place cs) ≡ b.place
-  pub fails : outcome_of (tests (latest (take b.place cs)) b.what) ≡ Refused b.why
+  pub fails : outcome_of (tests (latest (take b.place cs)) b.what) ≡ Err b.why
   pub breaks : rule b.why (latest (take b.place cs)) b.what ≡ false
   pub passed : each_passes tests [] (take b.place cs) ≡ true
 

@@ -1,12 +1,6 @@
 -- A book with an entry put: it fits where there was room, its own entry is the new one, every other as it was, none is lost. Assumes nothing.
-use mathlib.Core.Path.{◌≡◌, refl, ap, sym, ◌∙◌}
-use mathlib.Core.Bool.{true, false, ◌||◌}
-use mathlib.Core.List.{List, [], ◌∷◌, ◌++◌, map, map-append}
-use Prim.Native.Nat.{ℕ, suc, ◌<◌, ◌≤◌}
-use native.Mathlib.Omega.{arith}
-use lib.Dec.{eqb, leb, ltb}
-use lib.ListN.{length, take, set, length-set}
-use borrow.Author.Tests.{eq-eqb, ne_eqb, eqb-true, ltb-true, ltb-false, leb-true, le-leb}
+use Rattle.std.proofs.Common.{◌≡◌, refl, ap, sym, ◌∙◌, true, false, ◌||◌, List, [], ◌∷◌, ◌++◌, map, ℕ, suc, ◌<◌, ◌≤◌, arith, eqb, leb, ltb, length, take, set, length-set, eq-eqb, ne_eqb, eqb-true, ltb-true, ltb-false, leb-true, le-leb}
+use mathlib.Core.List.{map-append}
 use Rattle.lists.specs.Tests.{cases, and_left, and_right, and_both, or_other}
 use Rattle.lists.specs.Lists.{any, distinct}
 use Rattle.lists.specs.Each.{any_map, any_append}

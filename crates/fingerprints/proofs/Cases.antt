@@ -1,8 +1,6 @@
 -- The book by computing: attach, fetch, attach anew, fetch; who is refused and with what; full and broken books. Assumes nothing.
-use mathlib.Core.Path.{◌≡◌, refl}
-use mathlib.Core.List.{List, [], ◌∷◌, ◌++◌, map}
-use Prim.Native.Nat.{ℕ}
-use lib.ListN.{replicate}
+use Rattle.std.proofs.Common.{Result, Err, Ok, ◌≡◌, refl, List, [], ◌∷◌, ◌++◌, map, ℕ, replicate}
+use Rattle.refusals.specs.declared.Refusal.{Refusal}
 use Rattle.lists.specs.Bytes.{bytes}
 use Rattle.lists.specs.Lists.{dropping, counted, distinct, same}
 use Rattle.rights.specs.Rights.{has_right, has_rights, bars_machine}
@@ -13,8 +11,6 @@ use Rattle.register.specs.declared.Register.{Register}
 use Rattle.soundness_rules.specs.Sound.{actor_fits, resource_fits, claim_fits, names_stand, root_kept, drawn_from, machine_may, over_chain, drawn, fresh, alone, over, acceptable, sound_claims, sound_actors, sound_resources, within_limits, sound}
 use Rattle.refusals.specs.Refusals.{number_of, outcome_of}
 use Rattle.refusals.specs.declared.Refusal.TheVariants.{NotPermitted, NoEntry}
-use Rattle.refusals.specs.declared.Outcome.{Outcome}
-use Rattle.refusals.specs.declared.Outcome.TheVariants.{Accepted, Refused}
 use Rattle.actions.specs.Actions.{action_fits}
 use Rattle.gate_rules.specs.Gate.{public_read, contains, covering, covers, is_ownerless, owner_lacks, first_of, flags_set, governed, use_violation, use_violations, violations_of, action_tests, gate_tests, gated}
 use Rattle.fingerprints.specs.Fingerprints.{zeros, empty_book, entry_place, book_fits, book_tests, entry, attached, fetched, Deed, attaches, fetches, book_after, noted}
@@ -68,11 +64,11 @@ done = attaches case_r 1 10 1999 (sheet 7) ∷ attaches case_r 3 10 1999 (sheet 
 abbrev done_anew : List Deed
 done_anew = done ++ (attaches case_r 1 10 1999 (sheet 8) ∷ fetches case_r 2 10 1999 ∷ [])
 
-fetch_first : fetched (book_after empty_book done) case_r 2 10 1999 ≡ record { fingerprint = sheet 7; outcome = Accepted }
+fetch_first : fetched (book_after empty_book done) case_r 2 10 1999 ≡ record { fingerprint = sheet 7; outcome = (Ok tt) }
 unfolding case_r unsound_r attached fetched book_tests outcome_of book_fits entry_place first_of gated gate_tests action_tests action_fits violations_of flags_set dropping is_ownerless governed use_violations use_violation covers covering public_read contains owner_lacks contained climbing components same trimmed starting sound within_limits sound_actors sound_resources sound_claims acceptable alone over fresh drawn over_chain machine_may drawn_from root_kept names_stand claim_fits resource_fits actor_fits distinct chain circling root_granted has_right has_rights bars_machine
 fetch_first = refl
 
-fetch_anew : fetched (book_after empty_book done_anew) case_r 2 10 1999 ≡ record { fingerprint = sheet 8; outcome = Accepted }
+fetch_anew : fetched (book_after empty_book done_anew) case_r 2 10 1999 ≡ record { fingerprint = sheet 8; outcome = (Ok tt) }
 unfolding case_r unsound_r attached fetched book_tests outcome_of book_fits entry_place first_of gated gate_tests action_tests action_fits violations_of flags_set dropping is_ownerless governed use_violations use_violation covers covering public_read contains owner_lacks contained climbing components same trimmed starting sound within_limits sound_actors sound_resources sound_claims acceptable alone over fresh drawn over_chain machine_may drawn_from root_kept names_stand claim_fits resource_fits actor_fits distinct chain circling root_granted has_right has_rights bars_machine
 fetch_anew = refl
 
@@ -85,19 +81,19 @@ unfolding case_r unsound_r attached fetched book_tests outcome_of book_fits entr
 book_anew = refl
 
 -- nothing is attached: 28 with zeros
-fetch_none : fetched empty_book case_r 1 10 1999 ≡ record { fingerprint = zeros; outcome = Refused NoEntry }
+fetch_none : fetched empty_book case_r 1 10 1999 ≡ record { fingerprint = zeros; outcome = Err NoEntry }
 unfolding case_r unsound_r attached fetched book_tests outcome_of book_fits entry_place first_of gated gate_tests action_tests action_fits violations_of flags_set dropping is_ownerless governed use_violations use_violation covers covering public_read contains owner_lacks contained climbing components same trimmed starting sound within_limits sound_actors sound_resources sound_claims acceptable alone over fresh drawn over_chain machine_may drawn_from root_kept names_stand claim_fits resource_fits actor_fits distinct chain circling root_granted has_right has_rights bars_machine
 fetch_none = refl
 
 -- an entry stands, and who may not read is told zeros with 27
-fetch_not_permitted : fetched full_with_ten case_r 4 10 1999 ≡ record { fingerprint = zeros; outcome = Refused NotPermitted }
+fetch_not_permitted : fetched full_with_ten case_r 4 10 1999 ≡ record { fingerprint = zeros; outcome = Err NotPermitted }
 unfolding case_r unsound_r attached fetched book_tests outcome_of book_fits entry_place first_of gated gate_tests action_tests action_fits violations_of flags_set dropping is_ownerless governed use_violations use_violation covers covering public_read contains owner_lacks contained climbing components same trimmed starting sound within_limits sound_actors sound_resources sound_claims acceptable alone over fresh drawn over_chain machine_may drawn_from root_kept names_stand claim_fits resource_fits actor_fits distinct chain circling root_granted has_right has_rights bars_machine
 fetch_not_permitted = refl
 
 -- 0 for acceptance, else the refusal's number
-abbrev number_told : Outcome → ℕ
-number_told Accepted = 0
-number_told (Refused why) = number_of why
+abbrev number_told : Result Unit Refusal → ℕ
+number_told (Ok _) = 0
+number_told (Err why) = number_of why
 
 abbrev fetch_told : Book → Register → ℕ → ℕ → ℕ → ℕ
 fetch_told b r x n moment = number_told (fetched b r x n moment).outcome
@@ -137,7 +133,7 @@ unfolding case_r unsound_r attached fetched book_tests outcome_of book_fits entr
 ignored_told = refl
 
 -- 32 zeros may be attached: the refusal alone tells them from none
-zeros_attached : fetched (book_after empty_book (attaches case_r 1 10 1999 zeros ∷ [])) case_r 1 10 1999 ≡ record { fingerprint = zeros; outcome = Accepted }
+zeros_attached : fetched (book_after empty_book (attaches case_r 1 10 1999 zeros ∷ [])) case_r 1 10 1999 ≡ record { fingerprint = zeros; outcome = (Ok tt) }
 unfolding case_r unsound_r attached fetched book_tests outcome_of book_fits entry_place first_of gated gate_tests action_tests action_fits violations_of flags_set dropping is_ownerless governed use_violations use_violation covers covering public_read contains owner_lacks contained climbing components same trimmed starting sound within_limits sound_actors sound_resources sound_claims acceptable alone over fresh drawn over_chain machine_may drawn_from root_kept names_stand claim_fits resource_fits actor_fits distinct chain circling root_granted has_right has_rights bars_machine
 zeros_attached = refl
 
@@ -153,6 +149,6 @@ other_r = record {
   version = 1;
 }
 
-other_register : fetched (book_after empty_book done) other_r 4 10 1999 ≡ record { fingerprint = sheet 7; outcome = Accepted }
+other_register : fetched (book_after empty_book done) other_r 4 10 1999 ≡ record { fingerprint = sheet 7; outcome = (Ok tt) }
 unfolding case_r unsound_r other_r attached fetched book_tests outcome_of book_fits entry_place first_of gated gate_tests action_tests action_fits violations_of flags_set dropping is_ownerless governed use_violations use_violation covers covering public_read contains owner_lacks contained climbing components same trimmed starting sound within_limits sound_actors sound_resources sound_claims acceptable alone over fresh drawn over_chain machine_may drawn_from root_kept names_stand claim_fits resource_fits actor_fits distinct chain circling root_granted has_right has_rights bars_machine
 other_register = refl

@@ -1,20 +1,13 @@
 -- Attaches and fetches one by one and in a row: what holds of the book that they leave, and that the entry of a number is that of the latest
 -- accepted attach to it. Assumes nothing.
-use mathlib.Core.Path.{◌≡◌, refl, ap, sym, ◌∙◌}
-use mathlib.Core.Bool.{Bool, true, false, ◌||◌, cond}
-use mathlib.Core.List.{List, [], ◌∷◌, ◌++◌, append_assoc, append-nil}
-use Prim.Native.Nat.{ℕ, ◌≤◌}
-use native.Mathlib.Omega.{arith}
-use lib.Dec.{eqb, ltb}
-use borrow.Author.Tests.{eq-eqb, eqb-true}
+use Rattle.std.proofs.Common.{Result, Err, Ok, ◌≡◌, refl, ap, sym, ◌∙◌, Bool, true, false, ◌||◌, cond, List, [], ◌∷◌, ◌++◌, append_assoc, append-nil, ℕ, ◌≤◌, arith, eqb, ltb, eq-eqb, eqb-true}
+use Rattle.refusals.specs.declared.Refusal.{Refusal}
 use Rattle.lists.specs.Tests.{cases, clash, or_left, or_right}
 use Rattle.lists.specs.Lists.{any, distinct}
 use Rattle.register.specs.declared.Register.{Register}
 use Rattle.refusals.specs.Refusals.{outcome_of, is_accepted}
 use Rattle.refusals.proofs.Laws.{outcome_cases}
 use Rattle.refusals.specs.declared.Refusal.TheVariants.{NoEntry}
-use Rattle.refusals.specs.declared.Outcome.{Outcome}
-use Rattle.refusals.specs.declared.Outcome.TheVariants.{Accepted, Refused}
 use Rattle.actions.specs.declared.Decision.TheVariants.{Permitted}
 use Rattle.gate_rules.specs.Gate.{gated, first_of}
 use Rattle.gate_rules.specs.Places.{first_hit, first_miss}
@@ -85,9 +78,9 @@ attach_entry : (b : Book) (r : Register) (x n moment : ℕ) (f : List ℕ) (m : 
     → entry_for m (attached b r x n moment f).book ≡ first_of (is_for m) (noted_of (attached b r x n moment f) n f ++ entries_of b)
 attach_entry b r x n moment f m kept =
     outcome_cases (outcome_of (attach_tests b r x n moment))
-    (λ h. answered (attached b r x n moment f) (record { book = with_entry b n f; outcome = Accepted }) (attached_accepted b r x n moment f h)
+    (λ h. answered (attached b r x n moment f) (record { book = with_entry b n f; outcome = (Ok tt) }) (attached_accepted b r x n moment f h)
     (entry_next b n m f kept (accepted_all (book_fits b) r (attaching x n moment) (room_test b n) h).owned))
-    (λ why h. answered (attached b r x n moment f) (record { book = b; outcome = Refused why }) (attached_refused b r x n moment f why h) refl)
+    (λ why h. answered (attached b r x n moment f) (record { book = b; outcome = Err why }) (attached_refused b r x n moment f why h) refl)
   where
     answered : (a c : Attached) → a ≡ c → entry_for m c.book ≡ first_of (is_for m) (noted_of c n f ++ entries_of b)
         → entry_for m a.book ≡ first_of (is_for m) (noted_of a n f ++ entries_of b)
@@ -123,7 +116,7 @@ fetch_permitted b r x n moment permitted fits =
 
 -- a fetch that the gate does not permit, of a book that fits
 pub fetch_stopped : (b : Book) (r : Register) (x n moment : ℕ) → ((gated r (fetching x n moment)).decision ≡ Permitted → ⊥) → book_fits b ≡ true
-    → fetched b r x n moment ≡ record { fingerprint = zeros; outcome = Refused (stop_for r (fetching x n moment)) }
+    → fetched b r x n moment ≡ record { fingerprint = zeros; outcome = Err (stop_for r (fetching x n moment)) }
 fetch_stopped b r x n moment never fits =
     fetched_refused b r x n moment (stop_for r (fetching x n moment)) (stopped_alike (book_fits b) r (fetching x n moment) (entry_test b n) never fits)
 
@@ -152,22 +145,22 @@ attached_outcome b r x n moment f =
     (λ h. ap (λ (a : Attached). a.outcome) (attached_accepted b r x n moment f h) ∙ sym h)
     (λ why h. ap (λ (a : Attached). a.outcome) (attached_refused b r x n moment f why h) ∙ sym h)
 
-on_outcome : (o : Outcome) (l : List Entry) → (fetched_on o l).outcome ≡ o
-on_outcome Accepted l = refl
-on_outcome (Refused why) l = refl
+on_outcome : (o : Result Unit Refusal) (l : List Entry) → (fetched_on o l).outcome ≡ o
+on_outcome (Ok _) l = refl
+on_outcome (Err why) l = refl
 
 pub fetched_outcome : (b : Book) (r : Register) (x n moment : ℕ) → (fetched b r x n moment).outcome ≡ outcome_of (fetch_tests b r x n moment)
 unfolding fetched
 fetched_outcome b r x n moment = on_outcome (outcome_of (fetch_tests b r x n moment)) (entry_for n b)
 
 -- an accepted attach is noted
-pub noted_accepted : (b : Book) (r : Register) (x n moment : ℕ) (f : List ℕ) → (attached b r x n moment f).outcome ≡ Accepted
+pub noted_accepted : (b : Book) (r : Register) (x n moment : ℕ) (f : List ℕ) → (attached b r x n moment f).outcome ≡ Ok tt
     → noted_by b (attaches r x n moment f) ≡ entry n f ∷ []
 noted_accepted b r x n moment f h = ap (λ o. cond (is_accepted o) (entry n f ∷ []) []) h
 
 -- where an attach to n was accepted and none to n after it, it is the first that is noted of n
 pub noted_latest : (b : Book) (before : List Deed) (s : Register) (y n at : ℕ) (f : List ℕ) (after : List Deed)
-    → (attached (book_after b before) s y n at f).outcome ≡ Accepted
+    → (attached (book_after b before) s y n at f).outcome ≡ Ok tt
     → any (is_for n) (noted (book_after b (before ++ (attaches s y n at f ∷ []))) after) ≡ false
     → first_of (is_for n) (noted b (before ++ (attaches s y n at f ∷ after))) ≡ entry n f ∷ []
 noted_latest b before s y n at f after accepted none =

@@ -1,12 +1,6 @@
 -- The entries after one is put at its place, over any list and count: as many numbers as before or one more behind them, the number's own entry new, the
 -- entry of any other as it was. Assumes nothing.
-use mathlib.Core.Path.{◌≡◌, refl, ap, sym, ◌∙◌}
-use mathlib.Core.Bool.{Bool, true, false}
-use mathlib.Core.List.{List, [], ◌∷◌, ◌++◌, map}
-use Prim.Native.Nat.{ℕ, zero, suc, ◌<◌, ◌≤◌}
-use native.Mathlib.Omega.{arith}
-use lib.ListN.{length, take, set}
-use borrow.Author.Tests.{eqb-true}
+use Rattle.std.proofs.Common.{◌≡◌, refl, ap, sym, ◌∙◌, Bool, true, false, List, [], ◌∷◌, ◌++◌, map, ℕ, zero, suc, ◌<◌, ◌≤◌, arith, length, take, set, eqb-true}
 use Rattle.lists.specs.Tests.{cases, clash, or_left, or_right, or_other}
 use Rattle.lists.specs.Lists.{any}
 use Rattle.gate_rules.specs.Gate.{first_of}

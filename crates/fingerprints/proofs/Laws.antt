@@ -1,12 +1,11 @@
 -- Laws: Where a number's entry stands tells whether it has one, and which; what an attach and a fetch hand back by their outcome. Assumes nothing.
-use Rattle.std.specs.Prelude.{◌≡◌, refl, true, false, List, [], ◌∷◌, ℕ, suc, ◌<◌, length, get_or}
+use Rattle.std.specs.Prelude.{◌≡◌, refl, true, false, List, [], ◌∷◌, ℕ, suc, ◌<◌, length, get_or, Err, Ok}
 use Rattle.std.proofs.Common.{ap, ◌∙◌, arith}
 use Rattle.lists.specs.Tests.{cases, clash, or_left, or_right, or_other}
 use Rattle.lists.specs.Lists.{any}
 use Rattle.register.specs.declared.Register.{Register}
 use Rattle.refusals.specs.Refusals.{outcome_of}
 use Rattle.refusals.specs.declared.Refusal.{Refusal}
-use Rattle.refusals.specs.declared.Outcome.TheVariants.{Accepted, Refused}
 use Rattle.actions.specs.Actions.{is_permitted}
 use Rattle.actions.specs.declared.Decision.{Decision}
 use Rattle.actions.specs.declared.Decision.TheVariants.{Permitted, Refused as Denied, Stopped}
@@ -57,22 +56,22 @@ is_permitted_lem Denied h = let never : ◌≡◌ {A = ℕ} 0 1 = cc in absurd (
 is_permitted_lem (Stopped why) h = let never : ◌≡◌ {A = ℕ} 0 1 = cc in absurd (omega arith)
 
 -- what an attach, a fetch hands back by the outcome of its tests
-pub attached_accepted : (b : Book) (r : Register) (x n moment : ℕ) (f : List ℕ) → outcome_of (attach_tests b r x n moment) ≡ Accepted
-    → attached b r x n moment f ≡ record { book = with_entry b n f; outcome = Accepted }
+pub attached_accepted : (b : Book) (r : Register) (x n moment : ℕ) (f : List ℕ) → outcome_of (attach_tests b r x n moment) ≡ Ok tt
+    → attached b r x n moment f ≡ record { book = with_entry b n f; outcome = (Ok tt) }
 unfolding attached
 attached_accepted b r x n moment f h = ap (λ o. attached_on o b (with_entry b n f)) h
 
-pub attached_refused : (b : Book) (r : Register) (x n moment : ℕ) (f : List ℕ) (why : Refusal) → outcome_of (attach_tests b r x n moment) ≡ Refused why
-    → attached b r x n moment f ≡ record { book = b; outcome = Refused why }
+pub attached_refused : (b : Book) (r : Register) (x n moment : ℕ) (f : List ℕ) (why : Refusal) → outcome_of (attach_tests b r x n moment) ≡ Err why
+    → attached b r x n moment f ≡ record { book = b; outcome = Err why }
 unfolding attached
 attached_refused b r x n moment f why h = ap (λ o. attached_on o b (with_entry b n f)) h
 
-pub fetched_accepted : (b : Book) (r : Register) (x n moment : ℕ) → outcome_of (fetch_tests b r x n moment) ≡ Accepted
-    → fetched b r x n moment ≡ record { fingerprint = first_print (entry_for n b); outcome = Accepted }
+pub fetched_accepted : (b : Book) (r : Register) (x n moment : ℕ) → outcome_of (fetch_tests b r x n moment) ≡ Ok tt
+    → fetched b r x n moment ≡ record { fingerprint = first_print (entry_for n b); outcome = (Ok tt) }
 unfolding fetched
 fetched_accepted b r x n moment h = ap (λ o. fetched_on o (entry_for n b)) h
 
-pub fetched_refused : (b : Book) (r : Register) (x n moment : ℕ) (why : Refusal) → outcome_of (fetch_tests b r x n moment) ≡ Refused why
-    → fetched b r x n moment ≡ record { fingerprint = zeros; outcome = Refused why }
+pub fetched_refused : (b : Book) (r : Register) (x n moment : ℕ) (why : Refusal) → outcome_of (fetch_tests b r x n moment) ≡ Err why
+    → fetched b r x n moment ≡ record { fingerprint = zeros; outcome = Err why }
 unfolding fetched
 fetched_refused b r x n moment why h = ap (λ o. fetched_on o (entry_for n b)) h

@@ -1,11 +1,6 @@
 -- What the tests of both calls come to: the call's own test where the gate permits and the book fits; 1, 2, 3 or 27 where it does not permit.
 -- Assumes nothing.
-use mathlib.Core.Path.{◌≡◌, refl, ap, sym, ◌∙◌}
-use mathlib.Core.Bool.{Bool, true, false, cond}
-use mathlib.Core.List.{List, [], ◌∷◌, ◌++◌}
-use Prim.Native.Nat.{ℕ}
-use native.Mathlib.Omega.{arith}
-use lib.Dec.{eqb}
+use Rattle.std.proofs.Common.{Result, Err, Ok, ◌≡◌, refl, ap, sym, ◌∙◌, Bool, true, false, cond, List, [], ◌∷◌, ◌++◌, ℕ, arith, eqb}
 use Rattle.lists.specs.Tests.{cases}
 use Rattle.lists.specs.Lists.{any}
 use Rattle.register.specs.Register.{actors_of}
@@ -15,8 +10,6 @@ use Rattle.refusals.specs.Refusals.{number_of, Test, outcome_of}
 use Rattle.refusals.proofs.Laws.{accepted_out}
 use Rattle.refusals.specs.declared.Refusal.{Refusal}
 use Rattle.refusals.specs.declared.Refusal.TheVariants.{Unsound, Range, Absent, NotPermitted, BadBook}
-use Rattle.refusals.specs.declared.Outcome.{Outcome}
-use Rattle.refusals.specs.declared.Outcome.TheVariants.{Accepted, Refused}
 use Rattle.actions.specs.Actions.{action_fits, is_permitted}
 use Rattle.actions.specs.declared.Action.{Action}
 use Rattle.actions.specs.declared.Decision.TheVariants.{Permitted}
@@ -62,7 +55,7 @@ pub record Passing (fits : Bool) (r : Register) (a : Action) (own : Test) : Type
   pub permitted : (gated r a).decision ≡ Permitted
   pub owned : own.passed ≡ true
 
-pub accepted_all : (fits : Bool) (r : Register) (a : Action) (own : Test) → outcome_of (tests_with fits r a own) ≡ Accepted → Passing fits r a own
+pub accepted_all : (fits : Bool) (r : Register) (a : Action) (own : Test) → outcome_of (tests_with fits r a own) ≡ Ok tt → Passing fits r a own
 accepted_all fits r a own h =
     let told = accepted_out (spelled (sound r) fits (action_fits a) (stands r a) (is_permitted (gated r a).decision) own)
     (sym (ap outcome_of (book_tests_lem fits r a own)) ∙ h) in
@@ -89,36 +82,36 @@ stop_number_lem r a = numbers (sound r) (action_fits a) (stands r a)
 
 -- where the gate does not permit and the book fits, both calls are refused with that
 pub stopped_alike : (fits : Bool) (r : Register) (a : Action) (own : Test) → ((gated r a).decision ≡ Permitted → ⊥) → fits ≡ true
-    → outcome_of (tests_with fits r a own) ≡ Refused (stop_for r a)
+    → outcome_of (tests_with fits r a own) ≡ Err (stop_for r a)
 unfolding outcome_of
 stopped_alike fits r a own never fitting =
     let no : is_permitted (gated r a).decision ≡ false =
     cases (is_permitted (gated r a).decision) (λ e. absurd (never (is_permitted_lem (gated r a).decision e))) (λ e. e) in
     ap outcome_of (book_tests_lem fits r a own) ∙ rw (fitting, no) (same (sound r) (action_fits a) (stands r a))
   where
-    same : (s f k : Bool) → outcome_of (spelled s true f k false own) ≡ Refused (cond s (cond f (cond k NotPermitted Absent) Range) Unsound)
+    same : (s f k : Bool) → outcome_of (spelled s true f k false own) ≡ Err (cond s (cond f (cond k NotPermitted Absent) Range) Unsound)
     same false f k = refl
     same true false k = refl
     same true true false = refl
     same true true true = refl
 
 -- a register that is not sound is refused first; then a book that does not fit
-pub unsound_refused : (fits : Bool) (r : Register) (a : Action) (own : Test) → sound r ≡ false → outcome_of (tests_with fits r a own) ≡ Refused Unsound
+pub unsound_refused : (fits : Bool) (r : Register) (a : Action) (own : Test) → sound r ≡ false → outcome_of (tests_with fits r a own) ≡ Err Unsound
 unfolding outcome_of
 unsound_refused fits r a own e = ap outcome_of (book_tests_lem fits r a own) ∙ rw e
 
 pub misfit_refused : (fits : Bool) (r : Register) (a : Action) (own : Test) → sound r ≡ true → fits ≡ false
-    → outcome_of (tests_with fits r a own) ≡ Refused BadBook
+    → outcome_of (tests_with fits r a own) ≡ Err BadBook
 unfolding outcome_of
 misfit_refused fits r a own s e = ap outcome_of (book_tests_lem fits r a own) ∙ rw (s, e)
 
 -- where the book fits, 30 is told by the call's own test at most
-abbrev number_in : Outcome → ℕ
-number_in Accepted = 0
-number_in (Refused why) = number_of why
+abbrev number_in : Result Unit Refusal → ℕ
+number_in (Ok _) = 0
+number_in (Err why) = number_of why
 
 pub fits_no_thirty : (fits : Bool) (r : Register) (a : Action) (own : Test) → fits ≡ true → (number_of own.refusal ≡ 30 → ⊥)
-    → outcome_of (tests_with fits r a own) ≡ Refused BadBook → ⊥
+    → outcome_of (tests_with fits r a own) ≡ Err BadBook → ⊥
 unfolding outcome_of
 fits_no_thirty fits r a own fitting other h =
     told (sound r) (action_fits a) (stands r a) (is_permitted (gated r a).decision) own.passed own.refusal other

@@ -1,15 +1,9 @@
 -- The refusals of an attach and a fetch, and the books that attaches lead to. Assumes nothing.
-use mathlib.Core.Path.{◌≡◌, sym, ◌∙◌}
-use mathlib.Core.Bool.{true, false, ◌||◌}
-use mathlib.Core.List.{List, []}
-use Prim.Native.Nat.{ℕ}
-use native.Mathlib.Omega.{arith}
-use lib.Dec.{ltb}
+use Rattle.std.proofs.Common.{Err, Ok, ◌≡◌, sym, ◌∙◌, true, false, ◌||◌, List, [], ℕ, arith, ltb}
 use Rattle.register.specs.declared.Register.{Register}
 use Rattle.soundness_rules.specs.Sound.{sound}
 use Rattle.refusals.proofs.Laws.{outcome_pass, outcome_nil}
 use Rattle.refusals.specs.declared.Refusal.TheVariants.{Unsound, BadBook}
-use Rattle.refusals.specs.declared.Outcome.TheVariants.{Accepted, Refused}
 use Rattle.actions.specs.declared.Decision.TheVariants.{Permitted}
 use Rattle.gate_rules.specs.Gate.{gated}
 use Rattle.fingerprints.specs.Fingerprints.{place_limit, zeros, empty_book, has_entry, book_fits, attaching, fetching, room_test, entry_test, with_entry, attached, fetched, Deed, book_after}
@@ -32,42 +26,42 @@ pub book_fits_lem : (ds : List Deed) → book_fits (book_after empty_book ds) �
 book_fits_lem ds = (deeds.deeds_kept empty_book ds deeds.empty_kept).fits
 
 -- So no fetch is told 30 from there.
-pub fetch_never_thirty : (ds : List Deed) (r : Register) (x n moment : ℕ) → (fetched (book_after empty_book ds) r x n moment).outcome ≡ Refused BadBook → ⊥
+pub fetch_never_thirty : (ds : List Deed) (r : Register) (x n moment : ℕ) → (fetched (book_after empty_book ds) r x n moment).outcome ≡ Err BadBook → ⊥
 fetch_never_thirty ds r x n moment h =
     let b = book_after empty_book ds in
     fits_no_thirty (book_fits b) r (fetching x n moment) (entry_test b n) (book_fits_lem ds) (λ e. omega (arith, e)) (sym (deeds.fetched_outcome b r x n moment) ∙ h)
 
 -- Nor is an attach.
 pub attach_never_thirty : (ds : List Deed) (r : Register) (x n moment : ℕ) (f : List ℕ)
-    → (attached (book_after empty_book ds) r x n moment f).outcome ≡ Refused BadBook → ⊥
+    → (attached (book_after empty_book ds) r x n moment f).outcome ≡ Err BadBook → ⊥
 attach_never_thirty ds r x n moment f h =
     let b = book_after empty_book ds in
     fits_no_thirty (book_fits b) r (attaching x n moment) (room_test b n) (book_fits_lem ds) (λ e. omega (arith, e)) (sym (deeds.attached_outcome b r x n moment f) ∙ h)
 
 -- An attach with a register that is not sound is refused with 1, whatever the book: such a register accepts nothing.
 pub attach_unsound : (b : Book) (r : Register) (x n moment : ℕ) (f : List ℕ) → sound r ≡ false
-    → attached b r x n moment f ≡ record { book = b; outcome = Refused Unsound }
+    → attached b r x n moment f ≡ record { book = b; outcome = Err Unsound }
 attach_unsound b r x n moment f h =
     attached_refused b r x n moment f Unsound (unsound_refused (book_fits b) r (attaching x n moment) (room_test b n) h)
 
 -- So is a fetch.
 pub fetch_unsound : (b : Book) (r : Register) (x n moment : ℕ) → sound r ≡ false
-    → fetched b r x n moment ≡ record { fingerprint = zeros; outcome = Refused Unsound }
+    → fetched b r x n moment ≡ record { fingerprint = zeros; outcome = Err Unsound }
 fetch_unsound b r x n moment h = fetched_refused b r x n moment Unsound (unsound_refused (book_fits b) r (fetching x n moment) (entry_test b n) h)
 
 -- With a sound register an attach to a book that does not fit is refused with 30, told to anyone.
 pub attach_misfit : (b : Book) (r : Register) (x n moment : ℕ) (f : List ℕ) → sound r ≡ true → book_fits b ≡ false
-    → attached b r x n moment f ≡ record { book = b; outcome = Refused BadBook }
+    → attached b r x n moment f ≡ record { book = b; outcome = Err BadBook }
 attach_misfit b r x n moment f s h =
     attached_refused b r x n moment f BadBook (misfit_refused (book_fits b) r (attaching x n moment) (room_test b n) s h)
 
 -- So is a fetch.
 pub fetch_misfit : (b : Book) (r : Register) (x n moment : ℕ) → sound r ≡ true → book_fits b ≡ false
-    → fetched b r x n moment ≡ record { fingerprint = zeros; outcome = Refused BadBook }
+    → fetched b r x n moment ≡ record { fingerprint = zeros; outcome = Err BadBook }
 fetch_misfit b r x n moment s h = fetched_refused b r x n moment BadBook (misfit_refused (book_fits b) r (fetching x n moment) (entry_test b n) s h)
 
 -- Where an attach is accepted the register is sound, the book fits, the gate permits, and there is an entry or room for one.
-pub attach_accepted_out : (b : Book) (r : Register) (x n moment : ℕ) (f : List ℕ) → (attached b r x n moment f).outcome ≡ Accepted
+pub attach_accepted_out : (b : Book) (r : Register) (x n moment : ℕ) (f : List ℕ) → (attached b r x n moment f).outcome ≡ Ok tt
     → (sound r ≡ true) × (book_fits b ≡ true) × ((gated r (attaching x n moment)).decision ≡ Permitted) × (has_entry n b || ltb b.count place_limit ≡ true)
 attach_accepted_out b r x n moment f h =
     let told = accepted_all (book_fits b) r (attaching x n moment) (room_test b n) (sym (deeds.attached_outcome b r x n moment f) ∙ h) in
@@ -75,7 +69,7 @@ attach_accepted_out b r x n moment f h =
 
 -- And where these hold it is accepted: so an attach over an entry is taken in a full book.
 pub attach_accepted_in : (b : Book) (r : Register) (x n moment : ℕ) (f : List ℕ) → (gated r (attaching x n moment)).decision ≡ Permitted
-    → book_fits b ≡ true → has_entry n b || ltb b.count place_limit ≡ true → attached b r x n moment f ≡ record { book = with_entry b n f; outcome = Accepted }
+    → book_fits b ≡ true → has_entry n b || ltb b.count place_limit ≡ true → attached b r x n moment f ≡ record { book = with_entry b n f; outcome = (Ok tt) }
 attach_accepted_in b r x n moment f permitted fits room =
     attached_accepted b r x n moment f
     (own_decides (book_fits b) r (attaching x n moment) (room_test b n) permitted fits ∙ outcome_pass (room_test b n) [] room ∙ outcome_nil)

@@ -1,16 +1,10 @@
 -- What is proved of the fingerprint book. No theorem asks that a register is sound: the gate permits only where it is, and one that is not
 -- accepts nothing (`attach_unsound` of TheoremsRefusals). Assumes nothing.
-use mathlib.Core.Path.{◌≡◌}
-use mathlib.Core.Bool.{true, false}
-use mathlib.Core.List.{List, [], ◌∷◌, ◌++◌}
-use Prim.Native.Nat.{ℕ, ◌≤◌}
-use lib.Dec.{eqb}
-use lib.ListN.{get_or}
+use Rattle.std.proofs.Common.{Err, Ok, ◌≡◌, true, false, List, [], ◌∷◌, ◌++◌, ℕ, ◌≤◌, eqb, get_or}
 use Rattle.lists.specs.Lists.{any}
 use Rattle.register.specs.declared.Register.{Register}
 use Rattle.refusals.specs.Refusals.{number_of}
 use Rattle.refusals.specs.declared.Refusal.{Refusal}
-use Rattle.refusals.specs.declared.Outcome.TheVariants.{Accepted, Refused}
 use Rattle.actions.specs.declared.Decision.TheVariants.{Permitted}
 use Rattle.gate_rules.specs.Gate.{gated, first_of}
 use Rattle.fingerprints.specs.Fingerprints.{zeros, empty_book, entries_of, is_for, entry_for, has_entry, entry_place, book_fits, fetching, attached, fetched, Deed, attaches, book_after, noted, answered_by}
@@ -26,10 +20,10 @@ sheet_latest = sheets.sheet_latest
 
 -- The same said of the calls: where an attach to n was accepted and none to n was accepted after it, its fingerprint is what a permitted fetch gives.
 pub sheet_plain : (before : List Deed) (s : Register) (y n at : ℕ) (f : List ℕ) (after : List Deed) (r : Register) (x moment : ℕ)
-    → (attached (book_after empty_book before) s y n at f).outcome ≡ Accepted
+    → (attached (book_after empty_book before) s y n at f).outcome ≡ Ok tt
     → any (is_for n) (noted (book_after empty_book (before ++ (attaches s y n at f ∷ []))) after) ≡ false
     → (gated r (fetching x n moment)).decision ≡ Permitted
-    → fetched (book_after empty_book (before ++ (attaches s y n at f ∷ after))) r x n moment ≡ record { fingerprint = f; outcome = Accepted }
+    → fetched (book_after empty_book (before ++ (attaches s y n at f ∷ after))) r x n moment ≡ record { fingerprint = f; outcome = (Ok tt) }
 sheet_plain = sheets.sheet_plain
 
 -- 2. Of any book, no attach changes the entry of another number.
@@ -51,18 +45,18 @@ pub count_kept : (b : Book) (ds : List Deed) → b.count ≤ (book_after b ds).c
 count_kept = sheets.count_kept
 
 -- 4. A refused attach leaves the book as it came.
-pub refused_book : (b : Book) (r : Register) (x n moment : ℕ) (f : List ℕ) (why : Refusal) → (attached b r x n moment f).outcome ≡ Refused why
+pub refused_book : (b : Book) (r : Register) (x n moment : ℕ) (f : List ℕ) (why : Refusal) → (attached b r x n moment f).outcome ≡ Err why
     → (attached b r x n moment f).book ≡ b
 refused_book = sheets.refused_book
 
 -- A refused fetch gives 32 zeros.
-pub refused_zeros : (b : Book) (r : Register) (x n moment : ℕ) (why : Refusal) → (fetched b r x n moment).outcome ≡ Refused why
+pub refused_zeros : (b : Book) (r : Register) (x n moment : ℕ) (why : Refusal) → (fetched b r x n moment).outcome ≡ Err why
     → (fetched b r x n moment).fingerprint ≡ zeros
 refused_zeros = sheets.refused_zeros
 
 -- 5. Where the gate does not permit, a fetch of a book that fits gives zeros with 1, 2, 3 or 27.
 pub fetch_unpermitted : (b : Book) (r : Register) (x n moment : ℕ) → ((gated r (fetching x n moment)).decision ≡ Permitted → ⊥) → book_fits b ≡ true
-    → (why : Refusal) × (fetched b r x n moment ≡ record { fingerprint = zeros; outcome = Refused why })
+    → (why : Refusal) × (fetched b r x n moment ≡ record { fingerprint = zeros; outcome = Err why })
     × (any (eqb (number_of why)) (1 ∷ 2 ∷ 3 ∷ 27 ∷ []) ≡ true)
 fetch_unpermitted = sheets.fetch_unpermitted
 

@@ -1,13 +1,12 @@
 -- Believed: The fingerprint book in 02's words: its entries, the tests of attach and fetch in their order, what each hands back, and what any
 -- attaches and fetches in a row come to.
-use Rattle.std.specs.Prelude.{Bool, ◌&&◌, ◌||◌, cond, List, [], ◌∷◌, ◌++◌, map, ℕ, suc, eqb, leb, ltb, take, set, replicate}
+use Rattle.refusals.specs.declared.Refusal.{Refusal}
+use Rattle.std.specs.Prelude.{Bool, ◌&&◌, ◌||◌, cond, List, [], ◌∷◌, ◌++◌, map, ℕ, suc, eqb, leb, ltb, take, set, replicate, Result, Err, Ok}
 use Rattle.lists.specs.Lists.{any, distinct}
 use Rattle.rights.specs.Rights.{reading}
 use Rattle.register.specs.declared.Register.{Register}
 use Rattle.soundness_rules.specs.Sound.{sound}
 use Rattle.refusals.specs.Refusals.{Test, outcome_of, is_accepted}
-use Rattle.refusals.specs.declared.Outcome.{Outcome}
-use Rattle.refusals.specs.declared.Outcome.TheVariants.{Accepted, Refused}
 use Rattle.refusals.specs.declared.Refusal.TheVariants.{Unsound, NotPermitted, NoEntry, BookFull, BadBook}
 use Rattle.actions.specs.Actions.{one_use, is_permitted}
 use Rattle.actions.specs.declared.Action.{Action}
@@ -99,9 +98,9 @@ with_entry b n f = record {
 }
 
 -- accepted, the book with the entry; refused, as it came
-abbrev pub attached_on : Outcome → Book → Book → Attached
-attached_on Accepted b c = record { book = c; outcome = Accepted }
-attached_on (Refused why) b c = record { book = b; outcome = Refused why }
+abbrev pub attached_on : Result Unit Refusal → Book → Book → Attached
+attached_on (Ok _) b c = record { book = c; outcome = (Ok tt) }
+attached_on (Err why) b c = record { book = b; outcome = Err why }
 
 -- the answer of an attach of f to the number n, by the actor x
 unfoldable pub attached : Book → Register → ℕ → ℕ → ℕ → List ℕ → Attached
@@ -113,9 +112,9 @@ first_print [] = zeros
 first_print (e ∷ l) = e.fingerprint
 
 -- accepted, the entry's 32 bytes; refused, 32 zeros
-abbrev pub fetched_on : Outcome → List Entry → Fetched
-fetched_on Accepted l = record { fingerprint = first_print l; outcome = Accepted }
-fetched_on (Refused why) l = record { fingerprint = zeros; outcome = Refused why }
+abbrev pub fetched_on : Result Unit Refusal → List Entry → Fetched
+fetched_on (Ok _) l = record { fingerprint = first_print l; outcome = (Ok tt) }
+fetched_on (Err why) l = record { fingerprint = zeros; outcome = Err why }
 
 -- the answer of a fetch of the number n by the actor x
 unfoldable pub fetched : Book → Register → ℕ → ℕ → ℕ → Fetched
@@ -146,5 +145,5 @@ noted b (d ∷ ds) = noted (deed_after b d) ds ++ noted_by b d
 
 -- a permitted fetch is answered by the first of some, or with 28 and zeros where there is none
 abbrev pub answered_by : List Entry → Fetched
-answered_by [] = record { fingerprint = zeros; outcome = Refused NoEntry }
-answered_by (e ∷ l) = record { fingerprint = e.fingerprint; outcome = Accepted }
+answered_by [] = record { fingerprint = zeros; outcome = Err NoEntry }
+answered_by (e ∷ l) = record { fingerprint = e.fingerprint; outcome = (Ok tt) }

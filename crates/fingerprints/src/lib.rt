@@ -6,7 +6,7 @@
 ghost use Rattle.std.specs.Prelude.{◌≡◌};
 ghost use Rattle.fingerprints.specs.Fingerprints.{empty_book};
 
-use refusals::Outcome;
+use refusals::Refusal;
 
 // A resource's number and the fingerprint attached to it.
 #[repr(C)]
@@ -50,12 +50,12 @@ impl Book {
 #[derive(Clone, Copy)]
 pub struct Attached {
     pub book: Book,
-    pub outcome: Outcome,
+    pub outcome: Result<(), Refusal>,
 }
 
 // The answer of a fetch. Refused: 32 zeros.
 #[derive(Clone, Copy)]
 pub struct Fetched {
     pub fingerprint: [u8; Entry::BYTES],
-    pub outcome: Outcome,
+    pub outcome: Result<(), Refusal>,
 }

@@ -1,10 +1,5 @@
 -- An action judged step by step is judged by what is lent. Assumes nothing.
-use mathlib.Core.Path.{◌≡◌}
-use mathlib.Core.Bool.{Bool, not, ◌&&◌, cond}
-use mathlib.Core.List.{List, []}
-use Prim.Native.Nat.{ℕ, ◌≤◌}
-use lib.Dec.{eqb}
-use lib.ListN.{length, take}
+use Rattle.std.proofs.Common.{◌≡◌, Bool, not, ◌&&◌, cond, List, [], ℕ, ◌≤◌, eqb, length, take}
 use Rattle.register.specs.Limits.{resource_limit}
 use Rattle.actions.specs.Actions.{use_limit}
 use Rattle.actions.specs.declared.Action.{Action}

@@ -1,5 +1,5 @@
 -- Laws: What is judged by columns, put together: what is told of what is lent, and the whole answer. Assumes nothing.
-use Rattle.std.specs.Prelude.{◌≡◌, refl, true, false, cond, List, [], ◌∷◌, ℕ, eqb, length}
+use Rattle.std.specs.Prelude.{◌≡◌, refl, true, false, cond, List, [], ℕ, eqb, length, Result, Err, Ok}
 use Rattle.std.proofs.Math.Path.{sym, ap}
 use Rattle.std.proofs.Common.{◌∙◌}
 use Rattle.lists.specs.Tests.{cases}
@@ -8,16 +8,13 @@ use Rattle.register.specs.Register.{Shaped}
 use Rattle.register.specs.declared.Register.{Register}
 use Rattle.soundness_rules.specs.Sound.{sound}
 use Rattle.actions.specs.declared.Action.{Action}
-use Rattle.actions.specs.declared.Violation.{Violation}
 use Rattle.actions.specs.declared.Decision.TheVariants.{Permitted, Refused, Stopped}
 use Rattle.actions.specs.declared.Verdict.{Verdict}
 use Rattle.refusals.specs.Refusals.{outcome_of}
 use Rattle.refusals.proofs.Laws.{outcome_cases, outcome_pass, outcome_fail, outcome_accepted}
-use Rattle.refusals.specs.declared.Outcome.{Outcome}
-use Rattle.refusals.specs.declared.Outcome.TheVariants.{Accepted, Refused as RefusedFor}
 use Rattle.refusals.specs.declared.Refusal.{Refusal}
 use Rattle.refusals.specs.declared.Refusal.TheVariants.{Unsound}
-use Rattle.gate_rules.specs.Gate.{violations_of, listed, padded, decided, action_tests, gate_tests, gated}
+use Rattle.gate_rules.specs.Gate.{violations_of, listed, padded, action_tests, gate_tests, gated}
 use Rattle.gate_rules.proofs.Laws.{gated_stopped, gated_judged}
 use Rattle.gate_rules.proofs.Sameness.{gated_same}
 use Rattle.uses.specs.declared.UsesJudged.{UsesJudged}
@@ -28,16 +25,16 @@ use Rattle.gate.specs.Laws.{decided_natural, judged_natural, tests_natural, lent
 
 -- what is told of what is lent of a register is told of the register
 module _ (r : Register) (a : Action) {l : Lent} (same : l ≡ lent_in r) where
-  pub outcome_seen : {outcome : Outcome} → outcome ≡ outcome_of (lent_tests l.names l.actors a)
+  pub outcome_seen : {outcome : Result Unit Refusal} → outcome ≡ outcome_of (lent_tests l.names l.actors a)
       → outcome ≡ outcome_of (action_tests (sheeted r) a)
   outcome_seen e = e ∙ ap (λ w. outcome_of (lent_tests w.names w.actors a)) same ∙ ap outcome_of (tests_natural r a)
 
-  pub judged_seen : Shaped r → sound (sheeted r) ≡ true → outcome_of (action_tests (sheeted r) a) ≡ Accepted → lent_judged l a ≡ action_judged (sheeted r) a
+  pub judged_seen : Shaped r → sound (sheeted r) ≡ true → outcome_of (action_tests (sheeted r) a) ≡ Ok tt → lent_judged l a ≡ action_judged (sheeted r) a
   unfolding action_tests
   judged_seen shaped h passed = ap (λ w. lent_judged w a) same ∙ lent_natural r shaped h a (outcome_accepted _ _ passed)
 
 -- the answer of the gate, where the tests are passed
-pub gate_judged : (r : Register) (shaped : Shaped r) (h : sound r ≡ true) (a : Action) (judged : UsesJudged) → outcome_of (action_tests r a) ≡ Accepted →
+pub gate_judged : (r : Register) (shaped : Shaped r) (h : sound r ≡ true) (a : Action) (judged : UsesJudged) → outcome_of (action_tests r a) ≡ Ok tt →
     judged ≡ action_judged r a →
     ◌≡◌ {A = Verdict} (record { decision = cond (eqb judged.violations.count 0) Permitted Refused; violations = judged.violations; hops = judged.hops }) (gated r a)
 unfolding action_tests gate_tests
@@ -51,7 +48,7 @@ pub gate_unsound : (r : Register) (a : Action) → sound r ≡ false →
 unfolding gate_tests
 gate_unsound r a fails = sym (gated_stopped r a Unsound (outcome_fail _ _ fails))
 
-pub gate_stopped : (r : Register) (a : Action) (why : Refusal) → sound r ≡ true → outcome_of (action_tests r a) ≡ RefusedFor why →
+pub gate_stopped : (r : Register) (a : Action) (why : Refusal) → sound r ≡ true → outcome_of (action_tests r a) ≡ Err why →
     ◌≡◌ {A = Verdict} (record { decision = Stopped why; violations = listed []; hops = padded [] }) (gated r a)
 unfolding gate_tests
 gate_stopped r a why h stops = sym (gated_stopped r a why (outcome_pass _ _ h ∙ stops))
@@ -75,17 +72,17 @@ module _ (r : Register) (s : List ℕ) (found : Findings) (a : Action) where
   verdict_unsound h = sym (ap (λ o. verdict_told o (lent_judged lent a)) (outcome_fail _ _ h))
 
   module _ (h : found.sound ≡ true) where
-    tested : {o : Outcome} → outcome_of (lent_tests found.actors.names r.actors.count a) ≡ o → verdict_told o (lent_judged lent a) ≡ verdict_by r s found a
+    tested : {o : Result Unit Refusal} → outcome_of (lent_tests found.actors.names r.actors.count a) ≡ o → verdict_told o (lent_judged lent a) ≡ verdict_by r s found a
     unfolding verdict_by
     tested e = sym (ap (λ o. verdict_told o (lent_judged lent a)) (outcome_pass _ _ h ∙ e))
 
-    pub verdict_stopped : (why : Refusal) → outcome_of (lent_tests found.actors.names r.actors.count a) ≡ RefusedFor why
+    pub verdict_stopped : (why : Refusal) → outcome_of (lent_tests found.actors.names r.actors.count a) ≡ Err why
         → stopping why ≡ verdict_by r s found a
     verdict_stopped why e = tested e
 
-    pub verdict_judged : outcome_of (lent_tests found.actors.names r.actors.count a) ≡ Accepted → {judged : UsesJudged} → judged ≡ lent_judged lent a
-        → verdict_told Accepted judged ≡ verdict_by r s found a
-    verdict_judged e of-judged = ap (verdict_told Accepted) of-judged ∙ tested e
+    pub verdict_judged : outcome_of (lent_tests found.actors.names r.actors.count a) ≡ Ok tt → {judged : UsesJudged} → judged ≡ lent_judged lent a
+        → verdict_told (Ok tt) judged ≡ verdict_by r s found a
+    verdict_judged e of-judged = ap (verdict_told (Ok tt)) of-judged ∙ tested e
 
   -- it is the gate's, where the sheet is that of the register's claims and the register was judged by it
   pub gated_told : length r.claims.list ≡ claim_limit → (found.sound ≡ true → Shaped r) → AsGated r s found a (verdict_by r s found a)

@@ -1,15 +1,14 @@
 -- Working: An action judged by the columns of a register. What it is in 01's words is `judged_natural` of Laws.
-use Rattle.std.specs.Prelude.{◌≡◌, Bool, not, ◌&&◌, cond, List, [], ◌∷◌, map, ℕ, eqb, take}
+use Rattle.refusals.specs.declared.Refusal.{Refusal}
+use Rattle.std.specs.Prelude.{◌≡◌, Bool, not, ◌&&◌, cond, List, [], ◌∷◌, map, ℕ, eqb, take, Result, Err, Ok}
 use Rattle.lists.specs.Lists.{any}
 use Rattle.register.specs.Limits.{machine_kind}
 use Rattle.register.specs.Register.{actors_of}
 use Rattle.register.specs.declared.Register.{Register}
-use Rattle.soundness_rules.specs.Sound.{sound, is_machine}
+use Rattle.soundness_rules.specs.Sound.{is_machine}
 use Rattle.columns.specs.Columns.{resource_id, latest_place, beside}
 use Rattle.columns.specs.Sheet.{column_of, sheet_of, holder_column, rights_column, weight_column, expiry_column}
 use Rattle.refusals.specs.Refusals.{Test, outcome_of}
-use Rattle.refusals.specs.declared.Outcome.{Outcome}
-use Rattle.refusals.specs.declared.Outcome.TheVariants.{Accepted, Refused as RefusedFor}
 use Rattle.refusals.specs.declared.Refusal.TheVariants.{Unsound, Range, Absent}
 use Rattle.actions.specs.Actions.{action_fits}
 use Rattle.actions.specs.declared.Action.{Action}
@@ -28,6 +27,7 @@ use Rattle.uses.specs.declared.UsesJudged.{UsesJudged}
 use Rattle.uses.specs.Sights.{owner_at, owner_number, sight_of}
 use Rattle.gate.specs.declared.Counts.{Counts}
 use Rattle.gate.specs.declared.Holder.{Holder}
+use Rattle.gate.specs.declared.LentRegister.{LentRegister}
 
 -- the violations and the hop counts of an action
 abbrev pub action_judged : Register → Action → UsesJudged
@@ -80,6 +80,10 @@ lent_of counts found lens ends s bytes = record {
   ups = found.ups;
   claims = counts.claims;
 }
+
+-- those of what is lent together
+abbrev pub lent_from : LentRegister → Lent
+lent_from l = lent_of l.counts l.found.now l.lens.now l.ends.now l.sheet.now l.bytes.now
 
 -- those of a register, by a sheet and what was found of it
 abbrev pub lent_by : Register → List ℕ → Findings → Lent
@@ -135,9 +139,9 @@ module _ (l : Lent) where
       uses_judged (sight_by a.now a.actor) l.reports l.resources a (pushed_all (listed []) (besides (machine_by a.actor) (owner_by a.actor) a))
 
 -- the verdict by the outcome of the tests and what was judged: permitted means an empty list
-abbrev pub verdict_told : Outcome → UsesJudged → Verdict
-verdict_told (RefusedFor why) judged = record { decision = Stopped why; violations = listed []; hops = padded [] }
-verdict_told Accepted judged = record {
+abbrev pub verdict_told : Result Unit Refusal → UsesJudged → Verdict
+verdict_told (Err why) judged = record { decision = Stopped why; violations = listed []; hops = padded [] }
+verdict_told (Ok _) judged = record {
   decision = cond (eqb judged.violations.count 0) Permitted Refused;
   violations = judged.violations;
   hops = judged.hops;

@@ -1,8 +1,7 @@
 -- Laws: What an action judged by lent columns is in 01's words, and what tests 2 and 3 by them are. Assumes nothing.
-use Rattle.std.specs.Prelude.{◌≡◌, refl, Bool, true, false, ◌&&◌, cond, ℕ, suc, ◌≤◌, eqb, ltb, length, get_or}
+use Rattle.std.specs.Prelude.{◌≡◌, refl, Bool, true, false, ◌&&◌, cond, ℕ, suc, ◌≤◌, eqb, ltb, length, get_or, Option, None, Some, List, [], ◌∷◌, ◌++◌, map}
+use Rattle.std.proofs.Common.{ap, ◌∙◌, arith, lt-ltb, append_assoc}
 use Rattle.std.proofs.Math.Path.{sym}
-use Rattle.std.proofs.Common.{ap, ◌∙◌, arith, lt-ltb}
-use mathlib.Core.List.{List, [], ◌∷◌, ◌++◌, map, append_assoc}
 use Rattle.std.proofs.Math.Dec.{eqb-suc-zero}
 use Rattle.std.proofs.Math.ListN.{get_or-map}
 use Rattle.register.specs.Limits.{claim_limit, machine_kind, moment_end}
@@ -14,8 +13,6 @@ use Rattle.columns.specs.Columns.{actor_id, actor_owner, resource_id, holder_of,
 use Rattle.columns.specs.Laws.{among_natural, beside_natural}
 use Rattle.columns.specs.Sheet.{sheet_limit, sheet_of, id_column, parent_column, holder_column, resource_column, rights_column, weight_column}
 use Rattle.columns.specs.SheetLaws.{column_natural, sheet_long}
-use Rattle.columns.specs.declared.Place.{Place}
-use Rattle.columns.specs.declared.Place.TheVariants.{At, Nowhere}
 use Rattle.lookup.specs.Asked.{asked_at}
 use Rattle.actions.specs.Actions.{violation_limit, uses_of, action_fits}
 use Rattle.actions.specs.declared.Action.{Action}
@@ -53,11 +50,11 @@ ownerless_natural r h x =
     ∙ there (latest_place (map actor_id r.actors.list) r.actors.count x)
     ∙ sym (ap (λ b. b && eqb (owner_number r x) 0) (asked_actor r h x (λ a. eqb machine_kind a.kind)))
   where
-    there : (p : Place) → asked_at no_actor r.actors.list (λ a. eqb machine_kind a.kind && eqb a.owner 0) p
+    there : (p : Option ℕ) → asked_at no_actor r.actors.list (λ a. eqb machine_kind a.kind && eqb a.owner 0) p
         ≡ asked_at no_actor r.actors.list (λ a. eqb machine_kind a.kind) p && eqb (owner_at (map actor_owner r.actors.list) p) 0
-    there (At j) =
+    there (Some j) =
         ap (λ o. eqb machine_kind (get_or r.actors.list j no_actor).kind && eqb o 0) (sym (get_or-map actor_owner r.actors.list j no_actor))
-    there Nowhere = refl
+    there None = refl
 
 module _ (r : Register) (shaped : Shaped r) (h : sound r ≡ true) where
   judged_faults : (moment x n : ℕ) (us : List Usage) →

@@ -12,11 +12,10 @@ ghost use Rattle.columns.specs.Columns.{latest_place};
 ghost use Rattle.refusals.specs.Refusals.{outcome_of};
 ghost use Rattle.gate_rules.specs.Gate.{gated};
 ghost use Rattle.uses.specs.Sights.{owner_at};
-ghost use Rattle.gate.specs.Judged.{sheet_ends, lent_of, owner_asked, relied_by, lent_tests, lent_judged, verdict_by, AsGated};
+ghost use Rattle.gate.specs.Judged.{sheet_ends, lent_from, owner_asked, relied_by, lent_tests, lent_judged, verdict_by, AsGated};
 
 use actions::{Action, Verdict};
-use columns::Place;
-use refusals::{Outcome, Refusal};
+use refusals::Refusal;
 use register::{Actor, Register};
 use soundness::Findings;
 use uses::{Uses, UsesJudged};
@@ -45,8 +44,8 @@ pub fn owner_of<'a>(names: &'a [u32], owners: &'a [u32], n: usize, x: u32) -> u3
 {
     let place = columns::latest_place(names, n, x);
     match place {
-        Place::At(j) => columns::number_at(owners, j),
-        Place::Nowhere => 0,
+        Some(j) => columns::number_at(owners, j),
+        None => 0,
     }
 }
 
@@ -70,78 +69,92 @@ fn owner_asked(owned: bool, owner: u32, n: usize, moment: u64) -> Holder
     }
 }
 
-// The claim that a holder relies on for each use, by the sheet of the claims and their ends: those that can cover are gathered once.
-fn relied_by<'a>(
-    who: Holder,
-    sheet: &'a [u32],
-    ends: &'a [u64],
-    spots: &'a [u16],
-    bytes: &'a [u8],
-    lens: &'a [usize],
-    uses: Uses,
-) -> [u16; Action::USES]
-    ensures { result ≡ relied_by who sheet.now ends.now spots.now bytes.now lens.now uses }
-{
-    let holders = columns::column(sheet, columns::HOLDERS);
-    let rights = columns::column(sheet, columns::RIGHTS);
-    let held = coverage::gather(holders, ends, who.claims, who.number, who.moment);
-    uses::relied_on(&held.places, held.count, rights, spots, bytes, lens, uses)
+// What is lent to judge actions by: the counts of a register and what was found of it, the lengths of the paths, the ends of the claims, the sheet of
+// the claims and the bytes of the paths.
+#[derive(Clone, Copy)]
+pub struct LentRegister<'a> {
+    pub counts: Counts,
+    pub found: &'a Findings,
+    pub lens: &'a [usize],
+    pub ends: &'a [u64],
+    pub sheet: &'a [u32],
+    pub bytes: &'a [u8],
 }
 
-// An action judged by the counts of a register and what was found of it, the lengths of the paths, the ends of the claims, the sheet of the claims
-// and the bytes of the paths: its violations in 01's order and the hop count of each use. By those of a sound register, and where the
-// action is in range, these are the gate's (`lent_natural` and `judged_natural` of specs/Laws); the tests are the caller's.
-pub fn judge_by<'a>(
-    counts: Counts,
-    found: Findings,
-    lens: &'a [usize],
-    ends: &'a [u64],
-    sheet: &'a [u32],
-    bytes: &'a [u8],
-    a: Action,
-) -> UsesJudged
-    ensures { result ≡ lent_judged (lent_of counts found lens.now ends.now sheet.now bytes.now) a }
-{
-    let machine = columns::is_beside(
-        &found.actors.names,
-        &found.actors.kinds,
-        counts.actors,
-        a.actor,
-        Actor::MACHINE,
-    );
-    let owner = owner_of(
-        &found.actors.names,
-        &found.actors.owners,
-        counts.actors,
-        a.actor,
-    );
-    let owned = machine & (owner != 0);
-    let vs = violations::first_violations(a, machine, owner);
-    let uses = uses::uses_of(&found.resources.reports, counts.resources, a);
-    let actor = Holder {
-        number: a.actor,
-        claims: counts.claims,
-        moment: a.now,
-    };
-    let relied = relied_by(actor, sheet, ends, &found.spots, bytes, lens, uses);
-    let asked = owner_asked(owned, owner, counts.claims, a.now);
-    let covered = relied_by(asked, sheet, ends, &found.spots, bytes, lens, uses);
-    let hops = uses::hop_counts(&found.ups, &relied, uses.count);
-    let violations = uses::put_faults(vs, &relied, &covered, owned, &found.resources.publics, uses);
-    UsesJudged { violations, hops }
+impl LentRegister<'_> {
+    // The claim that a holder relies on for each use, by the sheet of the claims and their ends: those that can cover are gathered once.
+    fn relied(self, who: Holder, uses: Uses) -> [u16; Action::USES]
+        ensures { result ≡ relied_by who self.entry.sheet.now self.entry.ends.now self.entry.found.now.spots self.entry.bytes.now self.entry.lens.now uses }
+    {
+        let holders = columns::column(self.sheet, columns::HOLDERS);
+        let rights = columns::column(self.sheet, columns::RIGHTS);
+        let held = coverage::gather(holders, self.ends, who.claims, who.number, who.moment);
+        uses::relied_on(
+            &held.places,
+            held.count,
+            rights,
+            &self.found.spots,
+            self.bytes,
+            self.lens,
+            uses,
+        )
+    }
+
+    // An action judged by what is lent: its violations in 01's order and the hop count of each use. By what is lent of a sound register, and where
+    // the action is in range, these are the gate's (`lent_natural` and `judged_natural` of specs/Laws); the tests are the caller's.
+    pub fn judge(self, a: Action) -> UsesJudged
+        ensures { result ≡ lent_judged (lent_from self.entry) a }
+    {
+        let found = self.found;
+        let counts = self.counts;
+        let machine = columns::is_beside(
+            &found.actors.names,
+            &found.actors.kinds,
+            counts.actors,
+            a.actor,
+            Actor::MACHINE,
+        );
+        let owner = owner_of(
+            &found.actors.names,
+            &found.actors.owners,
+            counts.actors,
+            a.actor,
+        );
+        let owned = machine & (owner != 0);
+        let vs = violations::first_violations(a, machine, owner);
+        let uses = uses::uses_of(&found.resources.reports, counts.resources, a);
+        let actor = Holder {
+            number: a.actor,
+            claims: counts.claims,
+            moment: a.now,
+        };
+        let relied = self.relied(actor, uses);
+        let asked = owner_asked(owned, owner, counts.claims, a.now);
+        let covered = self.relied(asked, uses);
+        let hops = uses::hop_counts(&found.ups, &relied, uses.count);
+        let violations = uses::put_faults(
+            vs,
+            &relied,
+            &covered,
+            owned,
+            &found.resources.publics,
+            uses,
+        );
+        UsesJudged { violations, hops }
+    }
 }
 
 // Tests 2 and 3, of the action, over the ids of the first `n` actors.
-pub fn action_outcome(names: &[u32], n: usize, a: Action) -> Outcome
+pub fn action_outcome(names: &[u32], n: usize, a: Action) -> Result<(), Refusal>
     ensures { result ≡ outcome_of (lent_tests names.now n a) }
 {
     if !actions::action_fits(a) {
-        return Outcome::Refused(Refusal::Range);
+        return Err(Refusal::Range);
     }
     if !columns::is_among(names, n, a.actor) {
-        return Outcome::Refused(Refusal::Absent);
+        return Err(Refusal::Absent);
     }
-    Outcome::Accepted
+    Ok(())
 }
 
 // The gate by a sheet of the register's claims and what was found of the register, which is refused with 1 where that says that it is not sound.
@@ -163,11 +176,18 @@ pub fn gate_by(r: Register, sheet: &[u32], found: Findings, a: Action) -> Verdic
     let ends = claim_ends(sheet, &found.ups, counts.claims);
     let outcome = action_outcome(&found.actors.names, counts.actors, a);
     match outcome {
-        Outcome::Refused(why) => violations::stopped(why),
-        Outcome::Accepted => {
-            let judged = judge_by(counts, found, &lens, &ends, sheet, &bytes, a);
-            let hops = judged.hops;
-            violations::decided(judged.violations, hops)
+        Err(why) => violations::stopped(why),
+        Ok(()) => {
+            let lent = LentRegister {
+                counts,
+                found: &found,
+                lens: &lens,
+                ends: &ends,
+                sheet,
+                bytes: &bytes,
+            };
+            let judged = lent.judge(a);
+            violations::decided(judged.violations, judged.hops)
         }
     }
 }

@@ -1,6 +1,6 @@
 -- Laws: What a plan answers: the gate's own verdicts up to and with the first flagged action, then cancelled; nothing where it is stopped. Assumes
 -- nothing.
-use Rattle.std.specs.Prelude.{◌≡◌, Bool, true, false, not, ◌||◌, cond, List, [], ◌∷◌, ◌++◌, map, ℕ, suc, ◌+◌, ◌≤◌, ◌<◌, eqb, leb, length, replicate}
+use Rattle.std.specs.Prelude.{◌≡◌, Bool, true, false, not, ◌||◌, cond, List, [], ◌∷◌, ◌++◌, map, ℕ, suc, ◌+◌, ◌≤◌, ◌<◌, eqb, leb, length, replicate, Err, Ok}
 use Rattle.std.proofs.Math.Path.{refl, ap}
 use Rattle.std.proofs.Common.{sym, ◌∙◌, add-zero, zero-add, arith, eq-eqb, ne_eqb, leb-true, le-leb}
 use Rattle.std.proofs.lemmas.Bool.{lt-leb}
@@ -9,7 +9,6 @@ use Rattle.register.specs.declared.Register.{Register}
 use Rattle.soundness_rules.specs.Sound.{sound}
 use Rattle.refusals.specs.Refusals.{outcome_of}
 use Rattle.refusals.proofs.Laws.{outcome_cases, outcome_clash}
-use Rattle.refusals.specs.declared.Outcome.TheVariants.{Accepted, Refused as RefusedFor}
 use Rattle.refusals.specs.declared.Refusal.{Refusal}
 use Rattle.refusals.specs.declared.Refusal.TheVariants.{Unsound, Range}
 use Rattle.actions.specs.Actions.{action_limit}
@@ -69,12 +68,12 @@ halt_clash : {A : Type 0} {why : Refusal} {n : ℕ} → halts why n ≡ runs →
 halt_clash e = let never : ◌≡◌ {A = ℕ} 0 1 = cc in absurd (omega arith)
 
 module _ (r : Register) where
-  pub first_halt_pass : (n : ℕ) (a : Action) (actions : List Action) → outcome_of (action_tests r a) ≡ Accepted
+  pub first_halt_pass : (n : ℕ) (a : Action) (actions : List Action) → outcome_of (action_tests r a) ≡ Ok tt
       → first_halt r n (a ∷ actions) ≡ first_halt r (suc n) actions
   unfolding first_halt
   first_halt_pass n a actions e = ap (λ o. halt_on o n (first_halt r (suc n) actions)) e
 
-  pub first_halt_fail : (n : ℕ) (a : Action) (actions : List Action) (why : Refusal) → outcome_of (action_tests r a) ≡ RefusedFor why
+  pub first_halt_fail : (n : ℕ) (a : Action) (actions : List Action) (why : Refusal) → outcome_of (action_tests r a) ≡ Err why
       → first_halt r n (a ∷ actions) ≡ halts why n
   unfolding first_halt
   first_halt_fail n a actions why e = ap (λ o. halt_on o n (first_halt r (suc n) actions)) e
@@ -89,7 +88,7 @@ module _ (r : Register) where
 
   -- the first action that fails 2 or 3 stops a plan, by its position
   pub first_halt_at : (n : ℕ) (before : List Action) (a : Action) (after : List Action) (why : Refusal)
-      → All (λ b. outcome_of (action_tests r b) ≡ Accepted) before → outcome_of (action_tests r a) ≡ RefusedFor why
+      → All (λ b. outcome_of (action_tests r b) ≡ Ok tt) before → outcome_of (action_tests r a) ≡ Err why
       → first_halt r n (before ++ a ∷ after) ≡ halts why (n + length before)
   first_halt_at n [] a after why h e = rw (add-zero n) (first_halt_fail n a after why e)
   first_halt_at n (b ∷ before) a after why h e =
@@ -133,7 +132,7 @@ unfolding halt_of
 plan_too_many r p e many = planned_stopped r p Range 0 (rw (e, lt-leb p.count action_limit many))
 
 pub plan_stopped_at : (r : Register) (p : Plan) → sound r ≡ true → p.count ≤ action_limit → (before : List Action) (a : Action) (after : List Action) (why : Refusal)
-    → actions_of p ≡ before ++ a ∷ after → All (λ b. outcome_of (action_tests r b) ≡ Accepted) before → outcome_of (action_tests r a) ≡ RefusedFor why
+    → actions_of p ≡ before ++ a ∷ after → All (λ b. outcome_of (action_tests r b) ≡ Ok tt) before → outcome_of (action_tests r a) ≡ Err why
     → planned r p ≡ stopped why (length before)
 unfolding halt_of
 plan_stopped_at r p e few before a after why split h fails =
@@ -145,25 +144,25 @@ halt_cases runs f g = f refl
 halt_cases (halts why n) f g = g why n refl
 
 -- a plan whose answer is no refusal runs
-pub accepted_runs : (r : Register) (p : Plan) → (planned r p).outcome ≡ Accepted → halt_of r p ≡ runs
+pub accepted_runs : (r : Register) (p : Plan) → (planned r p).outcome ≡ Ok tt → halt_of r p ≡ runs
 accepted_runs r p h =
     halt_cases (halt_of r p) (λ e. e) (λ why n e. outcome_clash (sym (ap (λ v. v.outcome) (planned_stopped r p why n e)) ∙ h))
 
 -- up to and with the first flagged action its verdicts are the gate's own, and every later one is cancelled
-pub plan_flagged : (r : Register) (p : Plan) → (planned r p).outcome ≡ Accepted → (before : List Action) (a : Action) (after : List Action)
+pub plan_flagged : (r : Register) (p : Plan) → (planned r p).outcome ≡ Ok tt → (before : List Action) (a : Action) (after : List Action)
     → actions_of p ≡ before ++ a ∷ after → All (λ b. b.flags ≡ 0) before → (a.flags ≡ 0 → ⊥)
     → planned r p ≡ held (map (λ b. judged (violations_of r b)) before ++ (judged (violations_of r a) ∷ replicate (length after) Cancelled))
 plan_flagged r p h before a after split flagless set =
     planned_runs r p (accepted_runs r p h)
     ∙ ap held (ap (λ l. judgements r false l) split ∙ judgements_flagged r before a after flagless set)
 
-pub plan_unflagged : (r : Register) (p : Plan) → (planned r p).outcome ≡ Accepted → All (λ b. b.flags ≡ 0) (actions_of p)
+pub plan_unflagged : (r : Register) (p : Plan) → (planned r p).outcome ≡ Ok tt → All (λ b. b.flags ≡ 0) (actions_of p)
     → planned r p ≡ held (map (λ b. judged (violations_of r b)) (actions_of p))
 plan_unflagged r p h flagless =
     planned_runs r p (accepted_runs r p h) ∙ ap held (judgements_unflagged r (actions_of p) flagless)
 
 -- the gate stops no action of a plan that is not stopped
-pub plan_gated : (r : Register) (p : Plan) → (planned r p).outcome ≡ Accepted → (a : Action) → IsIn (actions_of p) a
+pub plan_gated : (r : Register) (p : Plan) → (planned r p).outcome ≡ Ok tt → (a : Action) → IsIn (actions_of p) a
     → gated r a ≡ record { decision = decided (violations_of r a); violations = listed (violations_of r a); hops = padded (hop_counts r a) }
 plan_gated r p h a at =
     let told = halt_runs r p (accepted_runs r p h) in
@@ -192,7 +191,7 @@ judged_refused r a h =
     stopped_clash e = let never : ◌≡◌ {A = ℕ} 0 1 = cc in absurd (omega arith)
 
 -- a stopped plan has no verdicts
-pub stopped_count : (r : Register) (p : Plan) (why : Refusal) → (planned r p).outcome ≡ RefusedFor why → (planned r p).count ≡ 0
+pub stopped_count : (r : Register) (p : Plan) (why : Refusal) → (planned r p).outcome ≡ Err why → (planned r p).count ≡ 0
 stopped_count r p why h =
     halt_cases (halt_of r p)
     (λ e. outcome_clash (sym h ∙ ap (λ v. v.outcome) (planned_runs r p e)))

@@ -1,26 +1,20 @@
 -- The gate and a plan on a small register: every kind of violation once yes and once no, in 01's
 -- order, with its flag, actor or position; the claim relied on; the tests in their order, and what a
 -- plan answers. All by computing. Assumes nothing.
-use mathlib.Core.Path.{◌≡◌, refl}
-use mathlib.Core.Bool.{true, false}
-use mathlib.Core.List.{List, [], ◌∷◌, map}
-use Prim.Native.Nat.{ℕ}
-use lib.ListN.{length, take, replicate}
+use Rattle.std.proofs.Common.{Result, Err, Ok, ◌≡◌, refl, true, false, List, [], ◌∷◌, map, ℕ, length, take, replicate}
+use Rattle.refusals.specs.declared.Refusal.{Refusal}
 use Rattle.lists.specs.Lists.{dropping, distinct, same}
 use Rattle.rights.specs.Rights.{has_right, has_rights, bars_machine}
 use Rattle.paths.specs.Containment.{components, climbing, trimmed, starting, contained, reached}
-use Rattle.register.specs.Register.{no_actor, no_resource, no_claim}
+use Rattle.register.specs.Register.{no_actor, no_resource}
 use Rattle.register.specs.Chain.{chain, root_granted, circling}
 use Rattle.register.specs.declared.Claim.{Claim}
 use Rattle.register.specs.declared.Register.{Register}
 use Rattle.soundness_rules.specs.Sound.{actor_fits, resource_fits, claim_fits, names_stand, root_kept, drawn_from, machine_may, over_chain, drawn, fresh, alone, over, acceptable, sound_claims, sound_actors, sound_resources, within_limits, sound}
 use Rattle.refusals.specs.Refusals.{outcome_of, number_of}
-use Rattle.refusals.specs.declared.Outcome.{Outcome}
-use Rattle.refusals.specs.declared.Outcome.TheVariants.{Accepted, Refused as RefusedFor}
 use Rattle.actions.specs.Actions.{kind_of, value_of, judgement_number, judgement_value, no_use, action_fits}
 use Rattle.actions.specs.declared.Usage.{Usage}
 use Rattle.actions.specs.declared.Action.{Action}
-use Rattle.actions.specs.declared.Plan.{Plan}
 use Rattle.actions.specs.declared.Decision.{Decision}
 use Rattle.actions.specs.declared.Decision.TheVariants.{Permitted, Refused, Stopped}
 use Rattle.gate_rules.specs.Gate.{public_read, contains, covering, covers, is_ownerless, owner_lacks, first_of, reach_of, flags_set, governed, use_violation, use_violations, violations_of, hops_for, hop_counts, action_tests, gate_tests, gated}
@@ -143,15 +137,15 @@ spoilt_told : map (λ a. told (gated spoilt a).decision) (reading 1 0 1999 ∷ r
 unfolding spoilt gated gate_tests action_tests action_fits outcome_of desk violations_of flags_set governed use_violations use_violation covers covering contains public_read is_ownerless owner_lacks hops_for first_of reach_of reached contained climbing components trimmed starting same chain dropping has_right sound within_limits sound_actors sound_resources sound_claims acceptable alone over fresh drawn over_chain machine_may drawn_from root_kept names_stand claim_fits resource_fits actor_fits distinct circling root_granted has_rights bars_machine
 spoilt_told = refl
 
-abbrev outcome_told : Outcome → ℕ
-outcome_told Accepted = 0
-outcome_told (RefusedFor why) = number_of why
+abbrev outcome_told : Result Unit Refusal → ℕ
+outcome_told (Ok _) = 0
+outcome_told (Err why) = number_of why
 
 -- what stops a plan and at which position, then number and value of each verdict
 abbrev answer : Register → ℕ → List Action → List (List ℕ)
 answer r count actions =
     let v = planned r (record { count = count; actions = actions }) in
-    (outcome_told v.outcome ∷ v.position ∷ []) ∷ map (λ e. judgement_number e.what ∷ judgement_value e.what ∷ []) (take v.count v.list)
+    (outcome_told v.outcome ∷ v.position ∷ []) ∷ map (λ e. judgement_number e ∷ judgement_value e ∷ []) (take v.count v.list)
 
 -- permitted, refused with three violations, refused by a flag, cancelled; 3 at position 1, before 2 at
 -- position 2; 2 at position 0 before 3 there; 17 actions before any of them; 1 before that

@@ -1,11 +1,6 @@
 -- A set flag always refuses. Assumes nothing.
-use mathlib.Core.Path.{◌≡◌, refl}
-use mathlib.Core.Bool.{true, false}
-use mathlib.Core.List.{List, [], ◌∷◌, map}
-use Prim.Native.Nat.{ℕ, ◌<◌, ◌/◌, ◌%◌, ◌^◌, zero-le}
-use native.Mathlib.Omega.{arith}
-use borrow.Author.Tests.{eqb-true, eqb-false, eq-eqb}
-use lib.Dec.{eqb}
+use Rattle.std.proofs.Common.{◌≡◌, refl, true, false, List, [], ◌∷◌, map, ℕ, ◌<◌, ◌/◌, ◌%◌, ◌^◌, zero-le, arith, eqb-true, eq-eqb, eqb}
+use borrow.Author.Tests.{eqb-false}
 use Rattle.lists.specs.Each.{cons_clash, all_imp, all_every}
 use Rattle.lists.specs.Counts.{every_counted_sound}
 use Rattle.lists.specs.Filters.{filter_none, none_filter}

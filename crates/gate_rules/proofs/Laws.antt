@@ -1,9 +1,9 @@
 -- Laws: What the answer of the gate says part by part: what stops it, what it is otherwise, and what an empty list of violations says. Assumes
 -- nothing.
-use Rattle.std.specs.Prelude.{◌≡◌, refl, Bool, true, false, ◌&&◌, cond, List, [], ◌∷◌, ◌++◌, ℕ, suc, ◌+◌, ◌≤◌, ◌<◌, ◌^◌, eqb, leb, ltb}
+use Rattle.std.specs.Prelude.{◌≡◌, refl, Bool, true, false, ◌&&◌, cond, List, [], ◌∷◌, ◌++◌, ℕ, suc, ◌≤◌, ◌<◌, ◌^◌, leb, ltb, Err, Ok}
 use Rattle.std.proofs.Common.{ap, sym, ◌∙◌, arith, leb-true, ltb-true}
 use Rattle.lists.specs.Tests.{cases}
-use Rattle.lists.specs.Lists.{any, every, All}
+use Rattle.lists.specs.Lists.{every, All}
 use Rattle.lists.specs.Each.{ands_out, list_cases, cons_clash}
 use Rattle.rights.specs.Rights.{is_right}
 use Rattle.register.specs.Limits.{id_limit, moment_end}
@@ -13,7 +13,6 @@ use Rattle.soundness_rules.specs.Sound.{is_machine}
 use Rattle.refusals.specs.Refusals.{outcome_of}
 use Rattle.refusals.proofs.Laws.{outcome_cases, accepted_out, accepted_in}
 use Rattle.refusals.specs.declared.Refusal.{Refusal}
-use Rattle.refusals.specs.declared.Outcome.TheVariants.{Accepted, Refused as RefusedFor}
 use Rattle.actions.specs.Actions.{use_limit, govern_limit, flag_count, uses_of, governs_of, action_fits}
 use Rattle.actions.specs.declared.Usage.{Usage}
 use Rattle.actions.specs.declared.Action.{Action}
@@ -25,13 +24,13 @@ use Rattle.gate_rules.specs.Authority.{Passed}
 use Rattle.gate_rules.specs.Fitting.{Fit}
 
 -- a stopped gate call gives no violations and no hop counts
-pub gated_stopped : (r : Register) (a : Action) (why : Refusal) → outcome_of (gate_tests r a) ≡ RefusedFor why
+pub gated_stopped : (r : Register) (a : Action) (why : Refusal) → outcome_of (gate_tests r a) ≡ Err why
     → gated r a ≡ record { decision = Stopped why; violations = listed []; hops = padded [] }
 unfolding gated
 gated_stopped r a why e = ap (λ o. verdict_on o r a) e
 
 -- one that is not stopped answers with the violations and the hop counts
-pub gated_judged : (r : Register) (a : Action) → outcome_of (gate_tests r a) ≡ Accepted
+pub gated_judged : (r : Register) (a : Action) → outcome_of (gate_tests r a) ≡ Ok tt
     → gated r a ≡ record { decision = decided (violations_of r a); violations = listed (violations_of r a); hops = padded (hop_counts r a) }
 unfolding gated
 gated_judged r a e = ap (λ o. verdict_on o r a) e
@@ -57,15 +56,15 @@ action_fits_out a h =
       governed_most = leb-true a.governed govern_limit told.1.1.1.1.1.0;
     }
 
-pub action_tests_out : (r : Register) (a : Action) → outcome_of (action_tests r a) ≡ Accepted → Fit r a
+pub action_tests_out : (r : Register) (a : Action) → outcome_of (action_tests r a) ≡ Ok tt → Fit r a
 unfolding action_tests
 action_tests_out r a h = let told = accepted_out (action_tests r a) h in record { fits = told.0; known = told.1.0 }
 
-pub gate_tests_out : (r : Register) (a : Action) → outcome_of (gate_tests r a) ≡ Accepted → Passed r a
+pub gate_tests_out : (r : Register) (a : Action) → outcome_of (gate_tests r a) ≡ Ok tt → Passed r a
 unfolding gate_tests action_tests
 gate_tests_out r a h = let told = accepted_out (gate_tests r a) h in record { soundly = told.0; fits = told.1.0; known = told.1.1.0 }
 
-pub gate_tests_in : (r : Register) (a : Action) → Passed r a → outcome_of (gate_tests r a) ≡ Accepted
+pub gate_tests_in : (r : Register) (a : Action) → Passed r a → outcome_of (gate_tests r a) ≡ Ok tt
 unfolding gate_tests action_tests
 gate_tests_in r a h = accepted_in (gate_tests r a) (h.soundly, (h.fits, (h.known, tt)))
 

@@ -1,33 +1,23 @@
 -- A violation stands in the list exactly where its sentence holds, and the list ascends. Assumes
 -- nothing.
-use mathlib.Core.Path.{◌≡◌, refl, sym, ap, ◌∙◌}
-use mathlib.Core.Bool.{Bool, true, false, cond}
-use mathlib.Core.List.{List, [], ◌∷◌, ◌++◌, map}
-use mathlib.Core.Logic.{inl, inr}
-use Prim.Native.Nat.{ℕ, suc, ◌+◌, ◌≤◌, ◌<◌, ◌/◌, ◌%◌, ◌^◌, zero-le}
-use native.Mathlib.Omega.{arith}
-use borrow.Author.Tests.{eqb-true, eqb-false, eq-eqb}
-use lib.Dec.{eqb}
-use lib.ListN.{length, get_or}
+use Rattle.std.proofs.Common.{◌≡◌, refl, sym, ap, ◌∙◌, true, List, [], ◌∷◌, inr, ℕ, suc, ◌+◌, ◌≤◌, ◌<◌, ◌/◌, ◌%◌, ◌^◌, zero-le, arith, eqb-true, eq-eqb, eqb, length}
+use borrow.Author.Tests.{eqb-false}
 use Rattle.lists.specs.Tests.{cases}
-use Rattle.lists.specs.Lists.{Each, All, counted, filter}
-use Rattle.lists.specs.Each.{all_imp, all_both, all_append, all_map, each_all}
+use Rattle.lists.specs.Lists.{All, counted, filter}
+use Rattle.lists.specs.Each.{all_imp, all_both, all_map, each_all}
 use Rattle.lists.specs.Filters.{filter_passed, all_dropping}
 use Rattle.lists.specs.Counts.{counted_below}
-use Rattle.register.specs.Register.{actors_of}
 use Rattle.register.specs.declared.Register.{Register}
-use Rattle.soundness_rules.specs.Sound.{is_machine}
-use Rattle.actions.specs.Actions.{flag_count, no_use, uses_of, governs_of, value_of}
-use Rattle.actions.specs.declared.Usage.{Usage}
+use Rattle.actions.specs.Actions.{flag_count, value_of}
 use Rattle.actions.specs.declared.Action.{Action}
 use Rattle.actions.specs.declared.Violation.{Violation}
-use Rattle.actions.specs.declared.Violation.TheVariants.{FlagSet, NoOwner, MachineGoverns, NotCovered, OwnerNotCovering}
-use Rattle.gate_rules.specs.Gate.{covers, is_ownerless, owner_lacks, flags_set, governed, use_violation, use_violations, violations_of}
+use Rattle.actions.specs.declared.Violation.TheVariants.{FlagSet, MachineGoverns}
+use Rattle.gate_rules.specs.Gate.{flags_set, governed}
 use Rattle.gate_rules.specs.Listing.{Violates, rank_of, Precedes, Ascends}
 use Rattle.gate_rules.specs.Authority.{IsIn}
-use Rattle.gate_rules.specs.Places.{place_here, place_later, all_place}
-use Rattle.gate_rules.proofs.Laws.{governed_nil, governed_cons, use_violations_nil, use_violations_cons}
-use Rattle.gate_rules.proofs.Members.{place_left, place_right, place_filter, place_map, place_counted, each_joined, each_filter, each_mapped, counted_ascends}
+use Rattle.gate_rules.specs.Places.{place_here, place_later}
+use Rattle.gate_rules.proofs.Laws.{governed_nil, governed_cons}
+use Rattle.gate_rules.proofs.Members.{place_filter, place_map, place_counted, each_filter, each_mapped, counted_ascends}
 
 -- the violations of one rank, from a value on
 abbrev pub Ranked : ℕ → ℕ → Violation → Type 0

@@ -1,29 +1,22 @@
 -- A violation stands in the list of an action exactly where its sentence holds, and the whole list
 -- ascends. Assumes nothing.
-use mathlib.Core.Path.{◌≡◌, refl, sym, ap, ◌∙◌}
-use mathlib.Core.Bool.{Bool, true, false, cond}
-use mathlib.Core.List.{List, [], ◌∷◌, ◌++◌}
-use mathlib.Core.Logic.{inl, ⊎_elim}
-use Prim.Native.Nat.{ℕ, suc, ◌+◌, ◌≤◌, ◌<◌, zero-le}
-use native.Mathlib.Nat.{zero-add}
-use native.Mathlib.Omega.{arith}
-use lib.ListN.{length, get_or}
-use Rattle.lists.specs.Lists.{Each, All}
-use Rattle.lists.specs.Each.{all_imp, all_append, all_map}
+use Rattle.std.proofs.Common.{◌≡◌, refl, Bool, true, false, cond, List, [], ◌∷◌, ◌++◌, inl, ⊎_elim, ℕ, ◌+◌, ◌≤◌, ◌<◌, zero-le, zero-add, arith, length}
+use Rattle.lists.specs.Lists.{All}
+use Rattle.lists.specs.Each.{all_imp, all_append}
 use Rattle.register.specs.Register.{actors_of}
 use Rattle.register.specs.declared.Register.{Register}
 use Rattle.soundness_rules.specs.Sound.{is_machine}
-use Rattle.actions.specs.Actions.{flag_count, no_use, uses_of, governs_of, value_of}
+use Rattle.actions.specs.Actions.{uses_of, governs_of, value_of}
 use Rattle.actions.specs.declared.Action.{Action}
 use Rattle.actions.specs.declared.Violation.{Violation}
 use Rattle.actions.specs.declared.Violation.TheVariants.{FlagSet, NoOwner, MachineGoverns, NotCovered, OwnerNotCovering}
-use Rattle.gate_rules.specs.Gate.{covers, is_ownerless, owner_lacks, flags_set, governed, use_violations, violations_of}
-use Rattle.gate_rules.specs.Listing.{use_at, Violates, rank_of, Precedes, Ascends}
+use Rattle.gate_rules.specs.Gate.{is_ownerless, flags_set, governed, use_violations, violations_of}
+use Rattle.gate_rules.specs.Listing.{Violates, rank_of, Precedes, Ascends}
 use Rattle.gate_rules.specs.Authority.{IsIn}
 use Rattle.gate_rules.specs.Places.{place_here, all_place}
 use Rattle.gate_rules.proofs.Members.{place_left, place_right, each_joined}
 use Rattle.gate_rules.proofs.Listed.{Ranked, flags_out, flags_ranked, flags_ascend, flag_in, governed_out, governed_ranked, governed_ascend, governed_in}
-use Rattle.gate_rules.proofs.ListedUses.{UseSays, OneSays, uses_out, uses_ranked, uses_ascend, not_covered_in, owner_in_lem}
+use Rattle.gate_rules.proofs.ListedUses.{OneSays, uses_out, uses_ranked, uses_ascend, not_covered_in, owner_in_lem}
 
 -- a part of the list that stands there only where a test is passed
 module _ (Q : Violation → Type 0) where

@@ -1,8 +1,5 @@
 -- Where a claim of a sound register is live, so is each claim that it is drawn from. Assumes nothing.
-use mathlib.Core.Path.{◌≡◌}
-use mathlib.Core.Bool.{true}
-use mathlib.Core.List.{List, [], ◌∷◌, ◌++◌}
-use Prim.Native.Nat.{ℕ}
+use Rattle.std.proofs.Common.{◌≡◌, true, List, [], ◌∷◌, ◌++◌, ℕ}
 use lib.Seq.{append_snoc}
 use Rattle.lists.specs.Tests.{and_right}
 use Rattle.lists.specs.Lists.{every, All}

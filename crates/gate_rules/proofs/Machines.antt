@@ -1,9 +1,5 @@
 -- A machine without an owner is never permitted, and neither is one that governs. Assumes nothing.
-use mathlib.Core.Path.{◌≡◌, ap}
-use mathlib.Core.Bool.{true, false}
-use Prim.Native.Nat.{◌<◌}
-use native.Mathlib.Omega.{arith}
-use lib.ListN.{length, length-take}
+use Rattle.std.proofs.Common.{◌≡◌, ap, true, false, ◌<◌, arith, length, length-take}
 use Rattle.lists.specs.Tests.{clash}
 use Rattle.register.specs.Register.{actors_of}
 use Rattle.register.specs.declared.Register.{Register}

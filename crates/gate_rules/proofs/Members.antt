@@ -1,13 +1,8 @@
 -- Places in lists that are joined, mapped, filtered and counted, and lists in which each element has
 -- something to do with all that follow it. Assumes nothing.
-use mathlib.Core.Path.{◌≡◌, refl, ap, ◌∙◌}
-use mathlib.Core.Bool.{Bool, true, false}
-use mathlib.Core.List.{List, [], ◌∷◌, ◌++◌, map, append_assoc, map-append}
-use mathlib.Core.Logic.{inl, inr, ⊎_elim}
-use Prim.Native.Nat.{ℕ, zero, suc, ◌+◌, ◌≤◌, ◌<◌}
-use native.Mathlib.Omega.{arith}
-use lib.Dec.{eqb}
-use borrow.Author.Tests.{eqb-true, eqb-false}
+use Rattle.std.proofs.Common.{◌≡◌, ap, ◌∙◌, Bool, true, List, [], ◌∷◌, ◌++◌, map, append_assoc, ℕ, zero, suc, ◌+◌, ◌≤◌, ◌<◌, arith, eqb, eqb-true}
+use mathlib.Core.List.{map-append}
+use borrow.Author.Tests.{eqb-false}
 use Rattle.lists.specs.Tests.{cases}
 use Rattle.lists.specs.Lists.{Each, All, counted, filter}
 use Rattle.lists.specs.Each.{all_append, all_imp}

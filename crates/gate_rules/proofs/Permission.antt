@@ -1,11 +1,6 @@
 -- Traceable authority is enough: an action that has it for each use, and is otherwise without violation, is permitted. Assumes nothing.
-use mathlib.Core.Path.{◌≡◌, sym}
-use mathlib.Core.Bool.{Bool, true, false, not, ◌&&◌}
-use mathlib.Core.List.{[]}
-use mathlib.Core.Logic.{⊎_elim}
-use Prim.Native.Nat.{ℕ}
-use borrow.Author.Tests.{eqb-true, eq-eqb, not-true}
-use lib.Dec.{eqb}
+use Rattle.std.proofs.Common.{◌≡◌, sym, Bool, true, false, not, ◌&&◌, [], ⊎_elim, ℕ, eqb-true, eq-eqb, eqb}
+use borrow.Author.Tests.{not-true}
 use Rattle.lists.specs.Tests.{cases, clash, and_left, and_right, and_both, or_second}
 use Rattle.lists.specs.Lists.{any}
 use Rattle.lists.specs.Each.{all_imp, all_none}

@@ -1,10 +1,8 @@
 -- Actions that are the same get the same answer of the gate, and plans that are the same the same answer. Assumes nothing.
-use mathlib.Core.Path.{◌≡◌, refl, ap, ◌∙◌}
-use mathlib.Core.Bool.{false}
+use Rattle.std.proofs.Common.{Result, Err, Ok, ◌≡◌, refl, ap, ◌∙◌, false}
+use Rattle.refusals.specs.declared.Refusal.{Refusal}
 use Rattle.register.specs.declared.Register.{Register}
 use Rattle.refusals.specs.Refusals.{outcome_of}
-use Rattle.refusals.specs.declared.Outcome.{Outcome}
-use Rattle.refusals.specs.declared.Outcome.TheVariants.{Accepted, Refused as RefusedFor}
 use Rattle.actions.specs.Actions.{SameAction}
 use Rattle.actions.specs.declared.Action.{Action}
 use Rattle.actions.specs.declared.Plan.{Plan}
@@ -20,9 +18,9 @@ module _ (r : Register) where
   unfolding gate_tests
   gate_tests_same a b same = rw (same_action_tests r a b same)
 
-  verdict_same : (o : Outcome) (a b : Action) → SameAction a b → verdict_on o r a ≡ verdict_on o r b
-  verdict_same Accepted a b same = rw (same_violations r a b same, hop_counts_same a b same)
-  verdict_same (RefusedFor why) a b same = refl
+  verdict_same : (o : Result Unit Refusal) (a b : Action) → SameAction a b → verdict_on o r a ≡ verdict_on o r b
+  verdict_same (Ok _) a b same = rw (same_violations r a b same, hop_counts_same a b same)
+  verdict_same (Err why) a b same = refl
 
   -- the gate
   pub gated_same_action : (a b : Action) → SameAction a b → gated r a ≡ gated r b

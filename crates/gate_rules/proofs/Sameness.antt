@@ -1,11 +1,9 @@
 -- Laws: Registers that are the same get the same answers of the gate and of the plan; so do registers that are alike, whatever their claims hold as
 -- left. Assumes nothing.
-use Rattle.std.specs.Prelude.{◌≡◌, Bool, false, ◌&&◌, ◌||◌, leb, length}
+use Rattle.refusals.specs.declared.Refusal.{Refusal}
+use Rattle.std.proofs.Common.{◌≡◌, Bool, false, ◌&&◌, ◌||◌, leb, length, Result, Err, Ok, sym, ◌∙◌, List, [], ◌∷◌, map, ℕ, suc}
 use Rattle.std.proofs.Math.Path.{refl, ap, fun_ext}
-use Rattle.std.proofs.Common.{sym, ◌∙◌}
 use Rattle.std.proofs.Math.Bool.{not}
-use mathlib.Core.List.{List, [], ◌∷◌, map}
-use Prim.Native.Nat.{ℕ, suc}
 use Rattle.std.proofs.Math.Dec.{eqb}
 use Rattle.std.proofs.lemmas.List.{length-map}
 use Rattle.lists.specs.Tests.{cases}
@@ -24,8 +22,6 @@ use Rattle.soundness_rules.proofs.Alike.{chain_bare}
 use Rattle.soundness_rules.proofs.Sameness.{Alike, same_alike}
 use Rattle.soundness_rules.specs.Sound.{is_machine}
 use Rattle.refusals.specs.Refusals.{outcome_of}
-use Rattle.refusals.specs.declared.Outcome.{Outcome}
-use Rattle.refusals.specs.declared.Outcome.TheVariants.{Accepted, Refused as RefusedFor}
 use Rattle.actions.specs.Actions.{uses_of}
 use Rattle.actions.specs.declared.Usage.{Usage}
 use Rattle.actions.specs.declared.Action.{Action}
@@ -183,9 +179,9 @@ module _ (r s : Register) (same : Alike r s) where
   unfolding gate_tests
   gate_tests_same a = rw (same.judged, action_tests_same a)
 
-  verdict_same : (o : Outcome) (a : Action) → verdict_on o r a ≡ verdict_on o s a
-  verdict_same Accepted a = rw (violations_alike a, hop_counts_alike a)
-  verdict_same (RefusedFor why) a = refl
+  verdict_same : (o : Result Unit Refusal) (a : Action) → verdict_on o r a ≡ verdict_on o s a
+  verdict_same (Ok _) a = rw (violations_alike a, hop_counts_alike a)
+  verdict_same (Err why) a = refl
 
   -- the gate
   pub gated_alike : (a : Action) → gated r a ≡ gated s a

@@ -1,12 +1,9 @@
 -- A register that is not sound stops the gate before anything is asked of the action. Assumes nothing.
-use mathlib.Core.Path.{◌≡◌}
-use mathlib.Core.Bool.{false}
-use mathlib.Core.List.{[]}
+use Rattle.std.proofs.Common.{Err, ◌≡◌, false, []}
 use Rattle.register.specs.declared.Register.{Register}
 use Rattle.soundness_rules.specs.Sound.{sound}
 use Rattle.refusals.specs.Refusals.{outcome_of}
 use Rattle.refusals.proofs.Laws.{outcome_fail}
-use Rattle.refusals.specs.declared.Outcome.TheVariants.{Refused as RefusedFor}
 use Rattle.refusals.specs.declared.Refusal.TheVariants.{Unsound}
 use Rattle.actions.specs.declared.Action.{Action}
 use Rattle.actions.specs.declared.Decision.TheVariants.{Stopped}
@@ -14,7 +11,7 @@ use Rattle.gate_rules.specs.Gate.{action_tests, gate_tests, listed, padded, gate
 use Rattle.gate_rules.proofs.Laws.{gated_stopped}
 
 module _ (r : Register) (a : Action) (broken : sound r ≡ false) where
-  unsound_first : outcome_of (gate_tests r a) ≡ RefusedFor Unsound
+  unsound_first : outcome_of (gate_tests r a) ≡ Err Unsound
   unfolding gate_tests
   unsound_first = outcome_fail (record { passed = sound r; refusal = Unsound }) (action_tests r a) broken
 

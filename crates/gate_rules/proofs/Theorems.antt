@@ -1,15 +1,10 @@
 -- What is proved of the gate's answer `gated`: what stops it, what it permits and what it never permits. TheoremsUses has what is proved of uses,
 -- TheoremsPlans what is proved of plans, TheoremsViolations what is proved of the list of violations. Assumes nothing.
-use mathlib.Core.Path.{◌≡◌}
-use mathlib.Core.Bool.{true, false}
-use mathlib.Core.List.{List, []}
-use Prim.Native.Nat.{ℕ, ◌<◌, ◌/◌, ◌%◌, ◌^◌}
-use lib.ListN.{length}
+use Rattle.std.proofs.Common.{Err, Ok, ◌≡◌, true, false, List, [], ℕ, ◌<◌, ◌/◌, ◌%◌, ◌^◌, length}
 use Rattle.lists.specs.Lists.{All}
 use Rattle.refusals.specs.Refusals.{outcome_of}
 use Rattle.refusals.specs.declared.Refusal.{Refusal}
 use Rattle.refusals.specs.declared.Refusal.TheVariants.{Unsound}
-use Rattle.refusals.specs.declared.Outcome.TheVariants.{Accepted, Refused as RefusedFor}
 use Rattle.register.specs.Register.{actors_of, claims_of}
 use Rattle.register.specs.Chain.{latest, chain_of, live, Lasting}
 use Rattle.register.proofs.Liveness as liveness
@@ -32,12 +27,12 @@ use Rattle.gate_rules.proofs.Tracing as authority
 use Rattle.gate_rules.proofs.Permission as permission
 
 -- 1a. A call that a test stops gives no violations and no hop counts.
-pub gated_stopped : (r : Register) (a : Action) (why : Refusal) → outcome_of (gate_tests r a) ≡ RefusedFor why
+pub gated_stopped : (r : Register) (a : Action) (why : Refusal) → outcome_of (gate_tests r a) ≡ Err why
     → gated r a ≡ record { decision = Stopped why; violations = listed []; hops = padded [] }
 gated_stopped = laws.gated_stopped
 
 -- 1b. Any other gives the violations and the hop counts, and permits where there are no violations.
-pub gated_judged : (r : Register) (a : Action) → outcome_of (gate_tests r a) ≡ Accepted
+pub gated_judged : (r : Register) (a : Action) → outcome_of (gate_tests r a) ≡ Ok tt
     → gated r a ≡ record { decision = decided (violations_of r a); violations = listed (violations_of r a); hops = padded (hop_counts r a) }
 gated_judged = laws.gated_judged
 

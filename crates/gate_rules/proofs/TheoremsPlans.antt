@@ -1,14 +1,9 @@
 -- What is proved of the plan's answer `planned`. Assumes nothing.
-use mathlib.Core.Path.{◌≡◌}
-use mathlib.Core.Bool.{true, false}
-use mathlib.Core.List.{List, ◌∷◌, ◌++◌, map}
-use Prim.Native.Nat.{◌≤◌, ◌<◌}
-use lib.ListN.{length, replicate}
+use Rattle.std.proofs.Common.{Err, Ok, ◌≡◌, true, false, List, ◌∷◌, ◌++◌, map, ◌≤◌, ◌<◌, length, replicate}
 use Rattle.lists.specs.Lists.{All}
 use Rattle.refusals.specs.Refusals.{outcome_of}
 use Rattle.refusals.specs.declared.Refusal.{Refusal}
 use Rattle.refusals.specs.declared.Refusal.TheVariants.{Unsound, Range}
-use Rattle.refusals.specs.declared.Outcome.TheVariants.{Accepted, Refused as RefusedFor}
 use Rattle.register.specs.declared.Register.{Register}
 use Rattle.soundness_rules.specs.Sound.{sound}
 use Rattle.actions.specs.Actions.{action_limit}
@@ -22,13 +17,13 @@ use Rattle.gate_rules.proofs.Cancelling as cancelling
 use Rattle.gate_rules.specs.Authority.{IsIn}
 
 -- 9a. Up to and with the first flagged action the verdicts of a plan are the judgements of the violations, and every later one is cancelled.
-pub plan_flagged : (r : Register) (p : Plan) → (planned r p).outcome ≡ Accepted → (before : List Action) (a : Action) (after : List Action)
+pub plan_flagged : (r : Register) (p : Plan) → (planned r p).outcome ≡ Ok tt → (before : List Action) (a : Action) (after : List Action)
     → actions_of p ≡ before ++ a ∷ after → All (λ b. b.flags ≡ 0) before → (a.flags ≡ 0 → ⊥)
     → planned r p ≡ held (map (λ b. judged (violations_of r b)) before ++ (judged (violations_of r a) ∷ replicate (length after) Cancelled))
 plan_flagged = cancelling.plan_flagged
 
 -- 9b. Where no action is flagged, all verdicts are the judgements of the violations.
-pub plan_unflagged : (r : Register) (p : Plan) → (planned r p).outcome ≡ Accepted → All (λ b. b.flags ≡ 0) (actions_of p)
+pub plan_unflagged : (r : Register) (p : Plan) → (planned r p).outcome ≡ Ok tt → All (λ b. b.flags ≡ 0) (actions_of p)
     → planned r p ≡ held (map (λ b. judged (violations_of r b)) (actions_of p))
 plan_unflagged = cancelling.plan_unflagged
 
@@ -41,7 +36,7 @@ pub judged_refused : (r : Register) (a : Action) → (gated r a).decision ≡ Re
 judged_refused = cancelling.judged_refused
 
 -- 9e. The gate stops no action of a plan that is not stopped.
-pub plan_gated : (r : Register) (p : Plan) → (planned r p).outcome ≡ Accepted → (a : Action) → IsIn (actions_of p) a
+pub plan_gated : (r : Register) (p : Plan) → (planned r p).outcome ≡ Ok tt → (a : Action) → IsIn (actions_of p) a
     → gated r a ≡ record { decision = decided (violations_of r a); violations = listed (violations_of r a); hops = padded (hop_counts r a) }
 plan_gated = cancelling.plan_gated
 
@@ -55,12 +50,12 @@ plan_too_many = cancelling.plan_too_many
 
 -- 9h. Otherwise the first action that fails 2 or 3 stops the plan, by its position.
 pub plan_stopped_at : (r : Register) (p : Plan) → sound r ≡ true → p.count ≤ action_limit → (before : List Action) (a : Action) (after : List Action) (why : Refusal)
-    → actions_of p ≡ before ++ a ∷ after → All (λ b. outcome_of (action_tests r b) ≡ Accepted) before → outcome_of (action_tests r a) ≡ RefusedFor why
+    → actions_of p ≡ before ++ a ∷ after → All (λ b. outcome_of (action_tests r b) ≡ Ok tt) before → outcome_of (action_tests r a) ≡ Err why
     → planned r p ≡ stopped why (length before)
 plan_stopped_at = cancelling.plan_stopped_at
 
 -- 9i. A stopped plan has no verdicts.
-pub stopped_count : (r : Register) (p : Plan) (why : Refusal) → (planned r p).outcome ≡ RefusedFor why → (planned r p).count ≡ 0
+pub stopped_count : (r : Register) (p : Plan) (why : Refusal) → (planned r p).outcome ≡ Err why → (planned r p).count ≡ 0
 stopped_count = cancelling.stopped_count
 
 -- 9j. An empty plan has no verdicts.

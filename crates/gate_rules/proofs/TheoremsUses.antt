@@ -1,11 +1,6 @@
 -- What is proved of the uses of an action: those that are not covered, how many violations and hop counts there are, what never matters. Assumes
 -- nothing.
-use mathlib.Core.Path.{◌≡◌}
-use mathlib.Core.Bool.{true, false}
-use mathlib.Core.List.{[], ◌∷◌}
-use Prim.Native.Nat.{ℕ, ◌≤◌}
-use lib.Dec.{eqb}
-use lib.ListN.{length}
+use Rattle.std.proofs.Common.{◌≡◌, true, false, [], ◌∷◌, ℕ, ◌≤◌, eqb, length}
 use Rattle.lists.specs.Lists.{any}
 use Rattle.paths.specs.Containment.{reached}
 use Rattle.register.specs.Limits.{hop_limit}

@@ -1,10 +1,6 @@
 -- What the gate permits rests on traceable authority: each covering claim, its chain and its root. Assumes nothing.
-use mathlib.Core.Path.{◌≡◌, refl, sym}
-use mathlib.Core.Bool.{Bool, true, false, not, ◌&&◌}
-use mathlib.Core.Logic.{inl, inr}
-use Prim.Native.Nat.{ℕ}
-use borrow.Author.Tests.{eqb-true, eqb-false, eq-eqb, not-false}
-use lib.Dec.{eqb}
+use Rattle.std.proofs.Common.{◌≡◌, refl, sym, Bool, true, false, not, ◌&&◌, inl, inr, ℕ, eqb-true, eq-eqb, eqb}
+use borrow.Author.Tests.{eqb-false, not-false}
 use Rattle.lists.specs.Tests.{clash, and_left, and_right}
 use Rattle.lists.specs.Lists.{any}
 use Rattle.lists.specs.Each.{every_all}

@@ -1,5 +1,6 @@
 -- Believed: The gate for one action, in 01's words: covers, covering claim, owner, the violations in their order, hop counts.
-use Rattle.std.specs.Prelude.{Bool, not, ◌&&◌, ◌||◌, cond, List, [], ◌∷◌, ◌++◌, map, ℕ, suc, ◌-◌, ◌/◌, ◌%◌, ◌^◌, eqb, leb, length, replicate}
+use Rattle.refusals.specs.declared.Refusal.{Refusal}
+use Rattle.std.specs.Prelude.{Bool, not, ◌&&◌, ◌||◌, cond, List, [], ◌∷◌, ◌++◌, map, ℕ, suc, ◌-◌, ◌/◌, ◌%◌, ◌^◌, eqb, leb, length, replicate, Result, Err, Ok}
 use Rattle.lists.specs.Lists.{any, every, ands, counted, filter}
 use Rattle.rights.specs.Rights.{reading, has_right}
 use Rattle.paths.specs.Containment.{contained, reached}
@@ -11,8 +12,6 @@ use Rattle.register.specs.declared.Claim.{Claim}
 use Rattle.register.specs.declared.Register.{Register}
 use Rattle.soundness_rules.specs.Sound.{sound, is_machine}
 use Rattle.refusals.specs.Refusals.{Test, outcome_of}
-use Rattle.refusals.specs.declared.Outcome.{Outcome}
-use Rattle.refusals.specs.declared.Outcome.TheVariants.{Accepted, Refused as RefusedFor}
 use Rattle.refusals.specs.declared.Refusal.TheVariants.{Unsound, Range, Absent}
 use Rattle.actions.specs.Actions.{use_limit, violation_limit, flag_count, uses_of, governs_of, action_fits}
 use Rattle.actions.specs.declared.Usage.{Usage}
@@ -149,9 +148,9 @@ abbrev pub decided : List Violation → Decision
 decided [] = Permitted
 decided (v ∷ vs) = Refused
 
-abbrev pub verdict_on : Outcome → Register → Action → Verdict
-verdict_on Accepted r a = record { decision = decided (violations_of r a); violations = listed (violations_of r a); hops = padded (hop_counts r a) }
-verdict_on (RefusedFor why) r a = record { decision = Stopped why; violations = listed []; hops = padded [] }
+abbrev pub verdict_on : Result Unit Refusal → Register → Action → Verdict
+verdict_on (Ok _) r a = record { decision = decided (violations_of r a); violations = listed (violations_of r a); hops = padded (hop_counts r a) }
+verdict_on (Err why) r a = record { decision = Stopped why; violations = listed []; hops = padded [] }
 
 -- the answer of the gate
 unfoldable pub gated : Register → Action → Verdict

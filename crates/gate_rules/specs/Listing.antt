@@ -5,7 +5,7 @@ use Rattle.lists.specs.Lists.{Each, All}
 use Rattle.register.specs.Register.{actors_of}
 use Rattle.register.specs.declared.Register.{Register}
 use Rattle.soundness_rules.specs.Sound.{is_machine}
-use Rattle.actions.specs.Actions.{flag_count, no_use, uses_of, governs_of, kind_of, value_of}
+use Rattle.actions.specs.Actions.{flag_count, no_use, uses_of, governs_of, value_of}
 use Rattle.actions.specs.declared.Action.{Action}
 use Rattle.actions.specs.declared.Usage.{Usage}
 use Rattle.actions.specs.declared.Violation.{Violation}

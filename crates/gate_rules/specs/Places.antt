@@ -1,8 +1,8 @@
 -- Laws: Places of a list, and the first element that passes a test. Assumes nothing.
-use Rattle.std.specs.Prelude.{◌≡◌, Bool, true, false, ◌⊎◌}
+use Rattle.std.specs.Prelude.{◌≡◌, Bool, true, false, ◌⊎◌, List, [], ◌∷◌, ◌++◌}
+use Rattle.std.proofs.Common.{ap, ◌∙◌, inl, inr, append_assoc}
 use Rattle.std.proofs.Math.Path.{refl}
-use Rattle.std.proofs.Common.{ap, ◌∙◌, inl, inr}
-use mathlib.Core.List.{List, [], ◌∷◌, ◌++◌, reverse-cons, reverse-append, append_assoc}
+use mathlib.Core.List.{reverse-cons, reverse-append}
 use Rattle.lists.specs.Tests.{cases, clash, or_left, or_right, or_second}
 use Rattle.lists.specs.Lists.{any, All}
 use Rattle.lists.specs.Each.{none_all, all_imp, all_append, any_append}

@@ -1,10 +1,8 @@
 -- Believed: The gate for a plan, in 01's words: what stops it, and the verdict on each action.
-use Rattle.std.specs.Prelude.{Bool, false, not, ◌||◌, cond, List, [], ◌∷◌, ◌++◌, map, ℕ, suc, ◌-◌, eqb, leb, length, take, replicate, ◌≡◌}
+use Rattle.std.specs.Prelude.{Bool, false, not, ◌||◌, cond, List, [], ◌∷◌, ◌++◌, ℕ, suc, ◌-◌, eqb, leb, length, take, replicate, ◌≡◌, Result, Err, Ok}
 use Rattle.register.specs.declared.Register.{Register}
 use Rattle.soundness_rules.specs.Sound.{sound}
 use Rattle.refusals.specs.Refusals.{outcome_of}
-use Rattle.refusals.specs.declared.Outcome.{Outcome}
-use Rattle.refusals.specs.declared.Outcome.TheVariants.{Accepted, Refused as RefusedFor}
 use Rattle.refusals.specs.declared.Refusal.{Refusal}
 use Rattle.refusals.specs.declared.Refusal.TheVariants.{Unsound, Range}
 use Rattle.actions.specs.Actions.{action_limit, SameAction}
@@ -47,9 +45,9 @@ pub data Halt : Type 0 where
   runs : Halt
   halts : Refusal → ℕ → Halt
 
-abbrev pub halt_on : Outcome → ℕ → Halt → Halt
-halt_on Accepted n more = more
-halt_on (RefusedFor why) n more = halts why n
+abbrev pub halt_on : Result Unit Refusal → ℕ → Halt → Halt
+halt_on (Ok _) n more = more
+halt_on (Err why) n more = halts why n
 
 -- the first action with 2 or 3, by its position from n
 unfoldable pub first_halt : Register → ℕ → List Action → Halt
@@ -63,17 +61,17 @@ halt_of r p = cond (sound r) (cond (leb p.count action_limit) (first_halt r 0 (a
 -- verdicts as the answer holds them
 abbrev pub held : List Judgement → PlanVerdict
 held vs = record {
-  outcome = Accepted;
+  outcome = Ok tt;
   position = 0;
-  list = map (λ v. record { what = v }) vs ++ replicate (action_limit - length vs) (record { what = Permitted });
+  list = vs ++ replicate (action_limit - length vs) Permitted;
   count = length vs;
 }
 
 abbrev pub stopped : Refusal → ℕ → PlanVerdict
 stopped why n = record {
-  outcome = RefusedFor why;
+  outcome = Err why;
   position = n;
-  list = replicate action_limit (record { what = Permitted });
+  list = replicate action_limit Permitted;
   count = 0;
 }
 

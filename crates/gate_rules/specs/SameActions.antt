@@ -1,9 +1,8 @@
 -- Laws: Actions that are the same get the same violations, tests and verdicts, and stop a list at the same place. Assumes nothing.
-use Rattle.std.specs.Prelude.{◌≡◌, Bool, ◌||◌, ℕ, suc, eqb}
-use Rattle.std.proofs.Math.Path.{refl, ap}
+use Rattle.std.specs.Prelude.{◌≡◌, Bool, ◌||◌, ℕ, suc, eqb, List, [], ◌∷◌}
 use Rattle.std.proofs.Common.{◌∙◌}
+use Rattle.std.proofs.Math.Path.{refl, ap}
 use Rattle.std.proofs.Math.Bool.{not}
-use mathlib.Core.List.{List, [], ◌∷◌}
 use Rattle.register.specs.declared.Register.{Register}
 use Rattle.refusals.specs.Refusals.{outcome_of}
 use Rattle.actions.specs.Actions.{SameAction, action_fits}

@@ -1,12 +1,8 @@
 -- What the columns and the sheet answer is what 01 asks of the lists that they are of. Assumes nothing.
-use mathlib.Core.Path.{◌≡◌, sym, ap, ◌∙◌, refl}
-use mathlib.Core.Bool.{Bool, true, false, cond, and-true}
-use mathlib.Core.List.{[], ◌∷◌, List, ◌++◌, map}
-use Prim.Native.Nat.{ℕ, suc, ◌+◌, ◌-◌, ◌<◌, ◌≤◌, min}
-use native.Mathlib.Omega.{arith}
-use borrow.Author.Tests.{eq-eqb, ne_eqb}
-use lib.Dec.{eqb, ltb}
-use lib.ListN.{length, take, get_or, length-map}
+use Rattle.std.proofs.Common.{Option, ℕ, None, Some, Result, Err, Ok, ◌≡◌, sym, ap, ◌∙◌, refl, Bool, true, cond, [], ◌∷◌, List, ◌++◌, map, suc, ◌+◌, ◌-◌, ◌<◌, ◌≤◌, min, arith, eq-eqb, ne_eqb, eqb, ltb, length, take, get_or}
+use Rattle.refusals.specs.declared.Refusal.{Refusal}
+use mathlib.Core.Bool.{and-true}
+use lib.ListN.{length-map}
 use Rattle.lists.specs.Lists.{any, every}
 use Rattle.lists.specs.Each.{any_reverse, every_map}
 use Rattle.register.specs.Limits.{claim_limit, hop_limit, left_limit}
@@ -19,8 +15,6 @@ use Rattle.columns.specs.Columns.{claim_id, latest_place, places_up}
 use Rattle.columns.specs.Laws.{among_natural, places_up_at, places_up_none}
 use Rattle.columns.specs.Sheet.{sheet_of, column_of, claim_at, claims_in, id_column, parent_column, grantor_column, holder_column}
 use Rattle.columns.specs.SheetLaws.{sheet_long, sheet_claims, column_natural}
-use Rattle.columns.specs.declared.Place.{Place}
-use Rattle.columns.specs.declared.Place.TheVariants.{At, Nowhere}
 use Rattle.lookup.specs.Finding.{earlier_places}
 use Rattle.lookup.specs.Walks.{up_from, sheet_chain}
 use Rattle.soundness_rules.specs.Sound.{names_stand, root_kept, sound, fewer_left, stored}
@@ -28,8 +22,6 @@ use Rattle.claim_judging.specs.Alone.{world_by}
 use Rattle.claim_judging.specs.Over.{hands_at}
 use Rattle.refusals.specs.Refusals.{outcome_of}
 use Rattle.refusals.proofs.Laws.{outcome_nil, outcome_cases, outcome_first}
-use Rattle.refusals.specs.declared.Outcome.{Outcome}
-use Rattle.refusals.specs.declared.Outcome.TheVariants.{Accepted, Refused}
 use Rattle.refusals.specs.declared.Refusal.TheVariants.{NoParent}
 use Rattle.change_rules.specs.Changes.{standing, parent_tests, grant_tests}
 use Rattle.granting.specs.Drawn.{chain_tests, drawn_tests, parent_asked}
@@ -54,7 +46,7 @@ unfolding chain_tests
 chain_asked fewer f l h = rw (circling_map f (λ d. d.grantor) (λ d. d.holder) l h)
 
 -- and of columns that are the same
-pub chain_columns : (fewer : Bool) (l : List ℕ) (x : ℕ) {g h grantors holders : List ℕ} {y : Outcome} → g ≡ grantors → h ≡ holders
+pub chain_columns : (fewer : Bool) (l : List ℕ) (x : ℕ) {g h grantors holders : List ℕ} {y : Result Unit Refusal} → g ≡ grantors → h ≡ holders
     → y ≡ outcome_of (chain_tests (λ j. get_or g j 0) (λ j. get_or h j 0) fewer l x)
     → y ≡ outcome_of (chain_tests (λ j. get_or grantors j 0) (λ j. get_or holders j 0) fewer l x)
 chain_columns fewer l x {g} {h} {grantors} {holders} granted held e =
@@ -68,9 +60,6 @@ pub record Walk (p : ℕ → Bool) (ups : List ℕ) (at up : ℕ) (e : Bool) : T
   pub ahead : e ≡ every p (at ∷ places_up ups at)
 
 module _ {p : ℕ → Bool} {ups : List ℕ} {at up : ℕ} {e : Bool} (s : Walk p ups at up e) where
-  pub walk_fails : p at ≡ false → e ≡ false
-  walk_fails h = s.ahead ∙ rw h
-
   pub walk_root : at ≤ up → e ≡ p at
   walk_root h = s.ahead ∙ rw (places_up_none ups at (rw (← s.next) h)) (and-true (p at))
 
@@ -85,9 +74,6 @@ pub record Stepping (ups : List ℕ) (from member up steps : ℕ) : Type 0 where
   pub next : up ≡ get_or ups member member
   pub ahead : steps + length (places_up ups member) ≡ length (places_up ups from)
 
-pub stepping_start : (ups : List ℕ) (from : ℕ) {up : ℕ} → up ≡ get_or ups from from → Stepping ups from from up 0
-stepping_start ups from u = record { within = omega arith; next = u; ahead = omega arith }
-
 module _ {ups : List ℕ} {from member up steps : ℕ} (s : Stepping ups from member up steps) where
   pub stepping_next : up < member → {higher : ℕ} → higher ≡ get_or ups up up → Stepping ups from up higher (steps + 1)
   stepping_next h u =
@@ -98,15 +84,15 @@ module _ {ups : List ℕ} {from member up steps : ℕ} (s : Stepping ups from me
   stepping_done h = omega (arith, s.ahead, ap length (places_up_none ups member (rw (← s.next) h)))
 
 -- tests 9 to 16, over the chain above a claim c by the places
-module _ (version : ℕ) (s ups : List ℕ) (place : Place) (c : Claim) (moment : ℕ) where
-  pub root_passes : c.parent ≡ 0 → outcome_of (parent_asked version s ups place c moment) ≡ Accepted
+module _ (version : ℕ) (s ups : List ℕ) (place : Option ℕ) (c : Claim) (moment : ℕ) where
+  pub root_passes : c.parent ≡ 0 → outcome_of (parent_asked version s ups place c moment) ≡ Ok tt
   root_passes z = rw (eq-eqb c.parent 0 z) outcome_nil
 
   module _ (o : c.parent ≡ 0 → ⊥) where
-    pub parent_nowhere : place ≡ Nowhere → outcome_of (parent_asked version s ups place c moment) ≡ Refused NoParent
+    pub parent_nowhere : place ≡ None → outcome_of (parent_asked version s ups place c moment) ≡ Err NoParent
     parent_nowhere q = rw (ne_eqb c.parent 0 o, q) (parent_absent version moment [] c refl)
 
-    pub parent_at : {at : ℕ} → place ≡ At at → {p : Claim} → p ≡ claim_at s at → {lives : Bool}
+    pub parent_at : {at : ℕ} → place ≡ Some at → {p : Claim} → p ≡ claim_at s at → {lives : Bool}
         → lives ≡ every (λ j. current moment (claim_at s j)) (at ∷ places_up ups at)
         → outcome_of (parent_asked version s ups place c moment) ≡ outcome_of (drawn_tests lives p c ++ chain_tests (λ j. get_or (column_of grantor_column s) j 0) (λ j. get_or (column_of holder_column s) j 0)
         (ltb (hands_at version (suc (length (places_up ups at))) c) (hands_at version (length (places_up ups at)) p)) (at ∷ places_up ups at) c.holder)
@@ -126,7 +112,7 @@ module _ (version : ℕ) (s ups : List ℕ) (place : Place) (c : Claim) (moment 
         (sym read))
 
 -- an accepted grant finds the register sound
-sound_first : (r : Register) (c : Claim) (moment : ℕ) → outcome_of (grant_tests r c moment) ≡ Accepted → sound r ≡ true
+sound_first : (r : Register) (c : Claim) (moment : ℕ) → outcome_of (grant_tests r c moment) ≡ Ok tt → sound r ≡ true
 unfolding grant_tests
 sound_first r c moment q = (outcome_first _ _ q).0
 
@@ -161,12 +147,12 @@ module _ (r : Register) (long : length r.claims.list ≡ claim_limit) (c : Claim
       rw left
 
   -- the claim beside the outcome is the one that is stored
-  pub settled_told : (moment : ℕ) {outcome : Outcome} {hops : ℕ} {y : GrantOutcome} → outcome ≡ outcome_of (grant_tests r c moment)
+  pub settled_told : (moment : ℕ) {outcome : Result Unit Refusal} {hops : ℕ} {y : GrantOutcome} → outcome ≡ outcome_of (grant_tests r c moment)
       → hops ≡ min (length parent_places) (suc hop_limit) → y ≡ settled_as outcome r.version hops c → y ≡ grant_outcome r c moment
   unfolding grant_outcome
   settled_told moment {outcome} decided counted told =
       told
       ∙ outcome_cases outcome
-      (λ accepted. let agreed : outcome_of (grant_tests r c moment) ≡ Accepted = sym decided ∙ accepted in
+      (λ accepted. let agreed : outcome_of (grant_tests r c moment) ≡ (Ok tt) = sym decided ∙ accepted in
       rw (accepted, agreed, counted, hands_told (sound_first r c moment agreed)))
-      (λ why refused. let denied : outcome_of (grant_tests r c moment) ≡ Refused why = sym decided ∙ refused in rw (refused, denied))
+      (λ why refused. let denied : outcome_of (grant_tests r c moment) ≡ Err why = sym decided ∙ refused in rw (refused, denied))

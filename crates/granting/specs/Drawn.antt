@@ -1,7 +1,8 @@
 -- Working: A grant's tests in the parts that the code decides one by one: tests 1 and 2 where it is told whether the register is sound; tests 3 to 8
 -- where it is told whether the claim's id stands; those of the parent and the claim alone; those of the chain, over anything that has grantors and
 -- holders. That 01's tests are these parts in this order is proved here (`world_tests_lem`, `parent_tests_lem`). Assumes nothing.
-use Rattle.std.specs.Prelude.{◌≡◌, refl, Bool, not, ◌&&◌, cond, List, [], ◌∷◌, ◌++◌, map, ℕ, eqb, leb, ltb}
+use Rattle.refusals.specs.declared.Refusal.{Refusal}
+use Rattle.std.specs.Prelude.{◌≡◌, refl, Bool, not, ◌&&◌, cond, List, [], ◌∷◌, ◌++◌, map, ℕ, eqb, leb, ltb, Option, Result, Err, Ok}
 use Rattle.std.proofs.Common.{sym, ap, ◌∙◌}
 use Rattle.lists.specs.Lists.{any, every}
 use Rattle.rights.specs.Rights.{delegating, has_right, has_rights, bars_machine}
@@ -15,10 +16,7 @@ use Rattle.refusals.specs.Refusals.{Test, outcome_of}
 use Rattle.refusals.proofs.Laws.{outcome_cases, outcome_append, outcome_append_refused}
 use Rattle.change_rules.specs.Changes.{source_live, world_tests, parent_tests}
 use Rattle.refusals.specs.declared.Refusal.TheVariants.{Absent, Stands, Full, NotKeeper, Ownerless, NotByMachine, NotHeld, NotLive, NoDelegate, RightLacking, WeightAbove, TooManyHops, Circle, Unsound, Range}
-use Rattle.refusals.specs.declared.Outcome.{Outcome}
-use Rattle.refusals.specs.declared.Outcome.TheVariants.{Accepted, Refused}
 use Rattle.columns.specs.Sheet.{claim_at}
-use Rattle.columns.specs.declared.Place.{Place}
 use Rattle.lookup.specs.Walks.{up_from}
 
 -- tests 3 to 8 in a world, where it is told whether the id of the claim c stands, and that n claims do
@@ -50,9 +48,9 @@ chain_tests grantor holder fewer l h =
     ∷ []
 
 -- the outcome of tests one behind the other, where that of each part is told
-abbrev pub outcome_then : Outcome → Outcome → Outcome
-outcome_then (Refused why) next = Refused why
-outcome_then Accepted next = next
+abbrev pub outcome_then : Result Unit Refusal → Result Unit Refusal → Result Unit Refusal
+outcome_then (Err why) next = Err why
+outcome_then (Ok _) next = next
 
 -- tests 1 and 2, where it is told whether the register is sound
 abbrev pub first_tests : Bool → ℕ → Claim → ℕ → List Test
@@ -63,7 +61,7 @@ first_tests whole version c moment =
 
 -- tests 9 to 16, over the chain above the claim c as the claims of a sheet and the places of the parents have it, where the parent of c stands at a place;
 -- of a root there are none
-abbrev pub parent_asked : ℕ → List ℕ → List ℕ → Place → Claim → ℕ → List Test
+abbrev pub parent_asked : ℕ → List ℕ → List ℕ → Option ℕ → Claim → ℕ → List Test
 parent_asked version s ups place c moment = cond (eqb c.parent 0) [] (parent_tests version moment (map (claim_at s) (up_from ups place)) c)
 
 pub world_tests_lem : (w : World) (earlier : List Claim) (n : ℕ) (c : Claim)
@@ -89,7 +87,7 @@ unfolding parent_tests drawn_tests chain_tests
 parent_tests_lem version moment p higher c = rw (source_live_lem moment p higher)
 
 -- tests decided one part after the other are decided together
-pub decided_then : (tests more : List Test) {first next : Outcome} → first ≡ outcome_of tests → next ≡ outcome_of more → outcome_then first next ≡ outcome_of (tests ++ more)
+pub decided_then : (tests more : List Test) {first next : Result Unit Refusal} → first ≡ outcome_of tests → next ≡ outcome_of more → outcome_then first next ≡ outcome_of (tests ++ more)
 decided_then tests more {first} {next} e told =
     outcome_cases first
     (λ passed. ap (λ o. outcome_then o next) passed ∙ told ∙ sym (outcome_append tests more (sym e ∙ passed)))

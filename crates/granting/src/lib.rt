@@ -16,77 +16,77 @@ ghost use Rattle.refusals.specs.Refusals.{outcome_of};
 ghost use Rattle.granting.specs.Drawn.{told_tests, drawn_tests, chain_tests, outcome_then, first_tests, parent_asked};
 ghost use Rattle.granting.specs.Settled.{settled_as, grant_outcome};
 
-use columns::{ActorColumns, Place, ResourceColumns};
-use refusals::{Outcome, Refusal};
+use columns::{ActorColumns, ResourceColumns};
+use refusals::Refusal;
 use register::{Actor, Claim, Register};
 
 // The outcome of a grant, and the claim: accepted, as the register holds it; refused, as it came.
 #[derive(Clone, Copy)]
 pub struct GrantOutcome {
     pub claim: Claim,
-    pub outcome: Outcome,
+    pub outcome: Result<(), Refusal>,
 }
 
 // Tests 3 to 8, over the columns of the first `h` actors and the first `m` resources: `stands` says whether a claim has the id already, and `n` how
 // many claims there are.
 pub fn world_outcome(
-    actors: ActorColumns,
+    actors: &ActorColumns,
     h: usize,
-    resources: ResourceColumns,
+    resources: &ResourceColumns,
     m: usize,
     stands: bool,
     n: usize,
     c: Claim,
-) -> Outcome
-    ensures { result ≡ outcome_of (told_tests (world_by 0 actors.names actors.kinds actors.owners h resources.reports resources.keepers m) stands n c) }
+) -> Result<(), Refusal>
+    ensures { result ≡ outcome_of (told_tests (world_by 0 actors.now.names actors.now.kinds actors.now.owners h resources.now.reports resources.now.keepers m) stands n c) }
 {
     if !claim_judging::names_stand(&actors.names, h, &resources.reports, m, c) {
-        return Outcome::Refused(Refusal::Absent);
+        return Err(Refusal::Absent);
     }
     if stands {
-        return Outcome::Refused(Refusal::Stands);
+        return Err(Refusal::Stands);
     }
     if Register::CLAIMS <= n {
-        return Outcome::Refused(Refusal::Full);
+        return Err(Refusal::Full);
     }
     if !claim_judging::root_kept(&resources.reports, &resources.keepers, m, c) {
-        return Outcome::Refused(Refusal::NotKeeper);
+        return Err(Refusal::NotKeeper);
     }
     if !columns::is_beside(&actors.names, &actors.kinds, h, c.grantor, Actor::MACHINE) {
-        return Outcome::Accepted;
+        return Ok(());
     }
     if columns::is_beside(&actors.names, &actors.owners, h, c.grantor, 0) {
-        return Outcome::Refused(Refusal::Ownerless);
+        return Err(Refusal::Ownerless);
     }
     if rights::bars_machine(c.rights) {
-        return Outcome::Refused(Refusal::NotByMachine);
+        return Err(Refusal::NotByMachine);
     }
-    Outcome::Accepted
+    Ok(())
 }
 
 // Tests 10 to 14, of the parent and the claim: `lives` says whether the parent is live, which the chain above it decides.
-pub fn drawn_outcome(p: Claim, c: Claim, lives: bool) -> Outcome
+pub fn drawn_outcome(p: Claim, c: Claim, lives: bool) -> Result<(), Refusal>
     ensures { result ≡ outcome_of (drawn_tests lives p c) }
 {
     if p.holder != c.grantor {
-        return Outcome::Refused(Refusal::NotHeld);
+        return Err(Refusal::NotHeld);
     }
     if p.resource != c.resource {
-        return Outcome::Refused(Refusal::NotHeld);
+        return Err(Refusal::NotHeld);
     }
     if !lives {
-        return Outcome::Refused(Refusal::NotLive);
+        return Err(Refusal::NotLive);
     }
     if !rights::has(p.rights, rights::DELEGATE) {
-        return Outcome::Refused(Refusal::NoDelegate);
+        return Err(Refusal::NoDelegate);
     }
     if !rights::has_all(p.rights, c.rights) {
-        return Outcome::Refused(Refusal::RightLacking);
+        return Err(Refusal::RightLacking);
     }
     if p.weight < c.weight {
-        return Outcome::Refused(Refusal::WeightAbove);
+        return Err(Refusal::WeightAbove);
     }
-    Outcome::Accepted
+    Ok(())
 }
 
 // Whether the claim at the place `from` of a sheet and every claim above it are current at the moment. `ups` has for each place that of the
@@ -124,12 +124,12 @@ fn steps_up(ups: &[u16], from: usize) -> usize
 }
 
 // How many claims stand above one whose parent stands at the place, counted up to one more than the limit of the hops.
-fn hops_under(ups: &[u16], place: Place) -> usize
+fn hops_under(ups: &[u16], place: Option<usize>) -> usize
     ensures { result ≡ min (length (up_from ups.now place)) (suc hop_limit) }
 {
     match place {
-        Place::Nowhere => 0,
-        Place::At(at) => lists::least(steps_up(ups, at), Register::HOPS) + 1,
+        None => 0,
+        Some(at) => steps_up(ups, at).min(Register::HOPS) + 1,
     }
 }
 
@@ -143,27 +143,24 @@ pub fn chain_outcome<'a>(
     at: usize,
     p: Claim,
     c: Claim,
-) -> Outcome
+) -> Result<(), Refusal>
     ensures { result ≡ outcome_of (chain_tests (λ j. get_or grantors.now j 0) (λ j. get_or holders.now j 0) (ltb (hands_at version (suc (length (places_up ups.now at))) c) (hands_at version (length (places_up ups.now at)) p)) (at ∷ places_up ups.now at) c.holder) }
 {
     let steps = steps_up(ups, at);
     if !claim_judging::fewer_left(version, steps, p, c) {
-        return Outcome::Refused(Refusal::TooManyHops);
+        return Err(Refusal::TooManyHops);
     }
     if claim_judging::circles_up(ups, grantors, holders, at, steps, c.holder) {
-        return Outcome::Refused(Refusal::Circle);
+        return Err(Refusal::Circle);
     }
-    Outcome::Accepted
+    Ok(())
 }
 
 // The outcome of tests of which the first part and the next are told.
-pub fn then(first: Outcome, next: Outcome) -> Outcome
+pub fn then(first: Result<(), Refusal>, next: Result<(), Refusal>) -> Result<(), Refusal>
     ensures { result ≡ outcome_then first next }
 {
-    match first {
-        Outcome::Refused(why) => Outcome::Refused(why),
-        Outcome::Accepted => next,
-    }
+    first.and(next)
 }
 
 // Tests 9 to 16, over the claims of a sheet and the places of their parents, where the claim's parent stands at the place; a root passes.
@@ -171,18 +168,18 @@ fn parent_outcome<'a>(
     version: u64,
     sheet: &'a [u32],
     ups: &'a [u16],
-    place: Place,
+    place: Option<usize>,
     c: Claim,
     moment: u64,
-) -> Outcome
+) -> Result<(), Refusal>
     ensures { result ≡ outcome_of (parent_asked version sheet.now ups.now place c moment) }
 {
     if c.parent == 0 {
-        return Outcome::Accepted;
+        return Ok(());
     }
     match place {
-        Place::Nowhere => Outcome::Refused(Refusal::NoParent),
-        Place::At(at) => {
+        None => Err(Refusal::NoParent),
+        Some(at) => {
             let p = columns::claim_at(sheet, at);
             let lives = current_up(sheet, ups, at, moment);
             let drawn = drawn_outcome(p, c, lives);
@@ -195,35 +192,30 @@ fn parent_outcome<'a>(
 }
 
 // Tests 1 and 2: `whole` says whether the register is sound.
-fn first_outcome(whole: bool, version: u64, c: Claim, moment: u64) -> Outcome
+fn first_outcome(whole: bool, version: u64, c: Claim, moment: u64) -> Result<(), Refusal>
     ensures { result ≡ outcome_of (first_tests whole version c moment) }
 {
     if !whole {
-        return Outcome::Refused(Refusal::Unsound);
+        return Err(Refusal::Unsound);
     }
     if !claim_judging::claim_fits(version, c) {
-        return Outcome::Refused(Refusal::Range);
+        return Err(Refusal::Range);
     }
     if register::MOMENT_END <= moment {
-        return Outcome::Refused(Refusal::Range);
+        return Err(Refusal::Range);
     }
-    Outcome::Accepted
+    Ok(())
 }
 
 // The claim of a grant with this outcome, beside it: accepted, it tells the hands that it has left with so many hops.
-fn settled(outcome: Outcome, version: u64, hops: usize, c: Claim) -> GrantOutcome
+fn settled(outcome: Result<(), Refusal>, version: u64, hops: usize, c: Claim) -> GrantOutcome
     ensures { result ≡ settled_as outcome version hops c }
 {
-    match outcome {
-        Outcome::Accepted => GrantOutcome {
-            claim: claim_judging::stored(version, hops, c),
-            outcome: Outcome::Accepted,
-        },
-        Outcome::Refused(why) => GrantOutcome {
-            claim: c,
-            outcome: Outcome::Refused(why),
-        },
-    }
+    let claim = match outcome {
+        Ok(()) => claim_judging::stored(version, hops, c),
+        Err(_) => c,
+    };
+    GrantOutcome { claim, outcome }
 }
 
 // The outcome of a grant of a claim at a moment, and the claim as the register then holds it.
@@ -239,9 +231,15 @@ pub fn grant_outcome(r: Register, c: Claim, moment: u64) -> GrantOutcome
     let stands = columns::is_among(ids, k.count, c.id);
     let place = columns::latest_place(ids, k.count, c.parent);
     let first = first_outcome(found.sound, r.version, c, moment);
-    let actors = found.actors;
-    let resources = found.resources;
-    let world = world_outcome(actors, a.count, resources, o.count, stands, k.count, c);
+    let world = world_outcome(
+        &found.actors,
+        a.count,
+        &found.resources,
+        o.count,
+        stands,
+        k.count,
+        c,
+    );
     let parent = parent_outcome(r.version, &sheet, &found.ups, place, c, moment);
     let hops = hops_under(&found.ups, place);
     settled(then(first, then(world, parent)), r.version, hops, c)

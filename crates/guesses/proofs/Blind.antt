@@ -1,10 +1,7 @@
 -- Registers that look alike to the actor of an action get one answer of the gate. Assumes nothing.
-use mathlib.Core.Path.{◌≡◌, refl, ap, sym, ◌∙◌}
-use mathlib.Core.Bool.{Bool, true, false, not, ◌&&◌, or-false}
-use mathlib.Core.List.{List, [], ◌∷◌, map}
-use mathlib.Core.Logic.{inl, inr, ⊎_elim}
-use Prim.Native.Nat.{ℕ, suc}
-use lib.Dec.{eqb}
+use Rattle.std.proofs.Common.{Result, Err, Ok, ◌≡◌, refl, ap, sym, ◌∙◌, Bool, true, false, not, ◌&&◌, List, [], ◌∷◌, map, inl, inr, ⊎_elim, ℕ, suc, eqb}
+use Rattle.refusals.specs.declared.Refusal.{Refusal}
+use mathlib.Core.Bool.{or-false}
 use Rattle.lists.specs.Lists.{any, All}
 use Rattle.register.specs.Limits.{machine_kind}
 use Rattle.register.specs.Register.{actors_of}
@@ -13,8 +10,6 @@ use Rattle.register.specs.declared.Register.{Register}
 use Rattle.soundness_rules.specs.Sound.{sound, is_machine}
 use Rattle.soundness_rules.proofs.Registers.{sound_out}
 use Rattle.refusals.specs.Refusals.{outcome_of}
-use Rattle.refusals.specs.declared.Outcome.{Outcome}
-use Rattle.refusals.specs.declared.Outcome.TheVariants.{Accepted, Refused as RefusedFor}
 use Rattle.actions.specs.Actions.{uses_of}
 use Rattle.actions.specs.declared.Usage.{Usage}
 use Rattle.actions.specs.declared.Action.{Action}
@@ -138,9 +133,9 @@ module _ (r s : Register) (a : Action) (alike : LooksAlike r s a) where
   unfolding gate_tests
   tests_blind = rw (alike.first_sound, alike.second_sound, action_tests_blind)
 
-  verdict_blind : (o : Outcome) → verdict_on o r a ≡ verdict_on o s a
-  verdict_blind Accepted = rw (violations_blind, hop_counts_blind)
-  verdict_blind (RefusedFor why) = refl
+  verdict_blind : (o : Result Unit Refusal) → verdict_on o r a ≡ verdict_on o s a
+  verdict_blind (Ok _) = rw (violations_blind, hop_counts_blind)
+  verdict_blind (Err why) = refl
 
   pub guess_blind : gated r a ≡ gated s a
   unfolding gated

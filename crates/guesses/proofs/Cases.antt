@@ -1,12 +1,6 @@
 -- Two small registers that look alike to a machine and differ in all that it does not see, and a third that does not look alike: what it is
 -- answered in each. By computing, but for what the theorem gives. Assumes nothing.
-use mathlib.Core.Path.{◌≡◌, refl, ap, sym, ◌∙◌}
-use mathlib.Core.Bool.{true, false}
-use mathlib.Core.List.{List, [], ◌∷◌, map}
-use mathlib.Core.Logic.{inl, inr}
-use Prim.Native.Nat.{ℕ}
-use native.Mathlib.Omega.{arith}
-use lib.ListN.{replicate}
+use Rattle.std.proofs.Common.{◌≡◌, refl, ap, sym, ◌∙◌, true, false, List, [], ◌∷◌, map, inl, inr, ℕ, arith, replicate}
 use Rattle.lists.specs.Lists.{dropping, distinct, same}
 use Rattle.rights.specs.Rights.{has_right, has_rights, bars_machine}
 use Rattle.paths.specs.Containment.{components, climbing, trimmed, starting, contained, reached}

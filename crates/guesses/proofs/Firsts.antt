@@ -1,11 +1,7 @@
 -- The first of a list that passes a test decides for the whole list, where numbers are distinct; and what does not pass may be left out.
 -- Assumes nothing.
-use mathlib.Core.Path.{◌≡◌, refl, ap, sym, ◌∙◌}
-use mathlib.Core.Bool.{Bool, true, false, not, ◌&&◌, ◌||◌}
-use mathlib.Core.List.{List, [], ◌∷◌, map}
-use Prim.Native.Nat.{ℕ, suc}
-use borrow.Author.Tests.{eqb-true, not-true}
-use lib.Dec.{eqb, leb}
+use Rattle.std.proofs.Common.{◌≡◌, refl, ap, sym, ◌∙◌, Bool, true, false, not, ◌&&◌, ◌||◌, List, [], ◌∷◌, map, ℕ, suc, eqb-true, eqb, leb}
+use borrow.Author.Tests.{not-true}
 use Rattle.lists.specs.Tests.{cases, clash, and_left, and_right}
 use Rattle.lists.specs.Lists.{any, filter, All, distinct}
 use Rattle.lists.specs.Each.{any_map, none_weaken}

@@ -1,10 +1,7 @@
 -- What is hidden from an actor is covered neither by the actor nor by its owner. Assumes nothing.
-use mathlib.Core.Path.{◌≡◌, refl}
-use mathlib.Core.Bool.{true, false, not, ◌&&◌, ◌||◌, and-false}
-use mathlib.Core.Logic.{inl, inr}
-use Prim.Native.Nat.{ℕ}
+use Rattle.std.proofs.Common.{◌≡◌, refl, true, false, not, ◌&&◌, ◌||◌, inl, inr, ℕ, eqb}
+use mathlib.Core.Bool.{and-false}
 use borrow.Author.Tests.{not-true}
-use lib.Dec.{eqb}
 use Rattle.lists.specs.Tests.{cases, and_left, and_right}
 use Rattle.lists.specs.Lists.{any}
 use Rattle.lists.specs.Each.{none_weaken}

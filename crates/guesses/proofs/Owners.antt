@@ -1,12 +1,7 @@
 -- In a sound register the record of an actor's owner is told by the actor's own, so two registers that agree on the one agree on the other.
 -- Assumes nothing.
-use mathlib.Core.Path.{◌≡◌, ap, sym, ◌∙◌}
-use mathlib.Core.Bool.{true, ◌&&◌}
-use mathlib.Core.List.{[], ◌∷◌}
-use Prim.Native.Nat.{ℕ}
-use native.Mathlib.Omega.{arith}
-use borrow.Author.Tests.{eqb-true, eqb-false, eq-eqb}
-use lib.Dec.{eqb}
+use Rattle.std.proofs.Common.{◌≡◌, ap, sym, ◌∙◌, true, ◌&&◌, [], ◌∷◌, ℕ, arith, eqb-true, eq-eqb, eqb}
+use borrow.Author.Tests.{eqb-false}
 use Rattle.lists.specs.Tests.{cases, and_left, and_right}
 use Rattle.lists.specs.Lists.{any}
 use Rattle.lists.specs.Each.{every_all}

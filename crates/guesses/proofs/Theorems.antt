@@ -1,8 +1,5 @@
 -- What is proved of a guessed number: it tells the one who guesses nothing that is hidden from them. Assumes nothing.
-use mathlib.Core.Path.{◌≡◌}
-use mathlib.Core.Bool.{true, false}
-use mathlib.Core.List.{List, [], ◌∷◌}
-use Prim.Native.Nat.{ℕ}
+use Rattle.std.proofs.Common.{Err, ◌≡◌, true, false, List, [], ◌∷◌, ℕ}
 use Rattle.lists.specs.Lists.{All}
 use Rattle.register.specs.declared.Register.{Register}
 use Rattle.soundness_rules.specs.Sound.{sound}
@@ -13,7 +10,6 @@ use Rattle.actions.specs.declared.Violation.TheVariants.{NotCovered}
 use Rattle.gate_rules.specs.Gate.{covers, use_violation, hops_for, gated}
 use Rattle.gate_rules.specs.Plans.{actions_of, planned}
 use Rattle.gate_rules.proofs.Coverage.{not_covered_violation, not_covered_hops}
-use Rattle.refusals.specs.declared.Outcome.TheVariants.{Refused}
 use Rattle.refusals.specs.declared.Refusal.TheVariants.{NotPermitted}
 use Rattle.fingerprints.specs.Fingerprints.{book_fits, attaching, fetching, attached, fetched}
 use Rattle.fingerprints.specs.declared.Book.{Book}
@@ -66,14 +62,14 @@ fetch_blind_register = books.fetch_blind_register
 
 -- 5c. With two books that fit, an attach is told 27 with the one where it is with the other.
 pub attach_permission : (b c : Book) → book_fits b ≡ true → book_fits c ≡ true → (r s : Register) (x n moment : ℕ) (f g : List ℕ)
-    → LooksAlike r s (attaching x n moment) → (attached b r x n moment f).outcome ≡ Refused NotPermitted
-    → (attached c s x n moment g).outcome ≡ Refused NotPermitted
+    → LooksAlike r s (attaching x n moment) → (attached b r x n moment f).outcome ≡ Err NotPermitted
+    → (attached c s x n moment g).outcome ≡ Err NotPermitted
 attach_permission = books.attach_permission
 
 -- 5d. So is a fetch.
 pub fetch_permission : (b c : Book) → book_fits b ≡ true → book_fits c ≡ true → (r s : Register) (x n moment : ℕ)
-    → LooksAlike r s (fetching x n moment) → (fetched b r x n moment).outcome ≡ Refused NotPermitted
-    → (fetched c s x n moment).outcome ≡ Refused NotPermitted
+    → LooksAlike r s (fetching x n moment) → (fetched b r x n moment).outcome ≡ Err NotPermitted
+    → (fetched c s x n moment).outcome ≡ Err NotPermitted
 fetch_permission = books.fetch_permission
 
 -- 6. The plain gate's whole answer is one too.

@@ -1,12 +1,7 @@
 -- In a sound register, who covers a use and with how many hops is told by what is seen of the claims and by the used resource as it stands.
 -- Assumes nothing.
-use mathlib.Core.Path.{◌≡◌, refl, ap, sym, ◌∙◌}
-use mathlib.Core.Bool.{Bool, true, not, ◌&&◌, ◌||◌, or-false}
-use mathlib.Core.List.{List, [], ◌∷◌, map}
-use mathlib.Core.Logic.{◌⊎◌, ⊎_elim}
-use Prim.Native.Nat.{ℕ}
-use borrow.Author.Tests.{eqb-true, eq-eqb}
-use lib.Dec.{eqb}
+use Rattle.std.proofs.Common.{◌≡◌, refl, ap, sym, ◌∙◌, Bool, true, not, ◌&&◌, ◌||◌, List, [], ◌∷◌, map, ◌⊎◌, ⊎_elim, ℕ, eqb-true, eq-eqb, eqb}
+use mathlib.Core.Bool.{or-false}
 use Rattle.lists.specs.Tests.{or_second}
 use Rattle.lists.specs.Lists.{any, ands, All}
 use Rattle.lists.specs.Each.{ands_out, any_map, all_imp}

@@ -1,10 +1,7 @@
 -- Calls on a small register: where they end, what is left and which grants are left to make again; clearings at their edges; and pairs of
 -- withdrawals in both orders: what each call is told, how many go and what is left. All by computing. Assumes nothing.
-use mathlib.Core.Path.{◌≡◌, refl}
-use mathlib.Core.Bool.{Bool, true, false}
-use mathlib.Core.List.{List, [], ◌∷◌, ◌++◌, map}
-use Prim.Native.Nat.{ℕ, ◌+◌}
-use lib.ListN.{replicate, length}
+use Rattle.std.proofs.Common.{Result, Err, Ok, ◌≡◌, refl, Bool, true, false, List, [], ◌∷◌, ◌++◌, map, ℕ, ◌+◌, replicate, length}
+use Rattle.refusals.specs.declared.Refusal.{Refusal}
 use Rattle.lists.specs.Fills.{all_replicate}
 use Rattle.lists.specs.Lists.{dropping, distinct}
 use Rattle.rights.specs.Rights.{has_right, has_rights, bars_machine}
@@ -16,8 +13,6 @@ use Rattle.soundness_rules.specs.Sound.{actor_fits, resource_fits, claim_fits, n
 use Rattle.refusals.specs.Refusals.{outcome_of, number_of}
 use Rattle.change_rules.specs.Changes.{source_live, parent_tests, world_tests, grant_tests, granted, revoke_tests, holding, Withdrawal, revoke, clear_resource, clear_expired, clear_resource_tests, clear_expired_tests, withdrawn}
 use Rattle.change_rules.specs.declared.Revoked.{Revoked}
-use Rattle.refusals.specs.declared.Outcome.{Outcome}
-use Rattle.refusals.specs.declared.Outcome.TheVariants.{Accepted, Refused}
 use Rattle.history.specs.History.{Change, grant, changed, took, register_after, accepts, started, kept, survivors, olds, grants, History, withdraw}
 use Rattle.history.proofs.Replay.{history}
 
@@ -163,9 +158,9 @@ abbrev turned : Pair → Pair
 turned p = pair p.other p.one
 
 -- 0 for accepted, else the refusal's number
-abbrev told_number : Outcome → ℕ
-told_number Accepted = 0
-told_number (Refused why) = number_of why
+abbrev told_number : Result Unit Refusal → ℕ
+told_number (Ok _) = 0
+told_number (Err why) = number_of why
 
 abbrev first_of : Register → Pair → Revoked
 first_of r p = withdrawn r p.one

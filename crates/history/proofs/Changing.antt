@@ -1,10 +1,5 @@
 -- When a withdrawal is accepted, test by test, and the register that a call hands back. Assumes nothing.
-use mathlib.Core.Path.{◌≡◌, ap, sym, ◌∙◌}
-use mathlib.Core.Bool.{Bool, true, false, cond}
-use mathlib.Core.List.{List, [], ◌∷◌}
-use Prim.Native.Nat.{ℕ, ◌-◌}
-use lib.Dec.{eqb, ltb}
-use lib.ListN.{length}
+use Rattle.std.proofs.Common.{◌≡◌, ap, sym, ◌∙◌, Bool, true, false, cond, List, [], ◌∷◌, ℕ, ◌-◌, eqb, ltb, length}
 use Rattle.lists.specs.Lists.{any, ands}
 use Rattle.lists.specs.Each.{ands_out}
 use Rattle.register.specs.Limits.{moment_end}

@@ -1,13 +1,9 @@
 -- Registers that hold certain claims, latest first, over the actors and resources of a register: how calls change the claims that they
 -- hold, and when they are sound. Assumes nothing.
-use mathlib.Core.Path.{◌≡◌, refl, ap, sym, ◌∙◌}
-use mathlib.Core.Bool.{Bool, true}
-use mathlib.Core.List.{List, ◌∷◌, reverse-reverse, map}
-use Prim.Native.Nat.{suc, ◌-◌, ◌≤◌, ◌<◌}
-use native.Mathlib.Numerals.{add-one}
-use native.Mathlib.Omega.{arith}
-use lib.ListN.{length, replicate, length-set, length-reverse, length-take}
-use lib.Seq.{take-append_seam, length-take-le}
+use Rattle.std.proofs.Common.{◌≡◌, refl, ap, sym, ◌∙◌, Bool, true, List, ◌∷◌, map, suc, ◌-◌, ◌≤◌, ◌<◌, add-one, arith, length, replicate, length-set, length-take, length-take-le}
+use mathlib.Core.List.{reverse-reverse}
+use lib.ListN.{length-reverse}
+use lib.Seq.{take-append_seam}
 use Rattle.lists.specs.Tests.{cases}
 use Rattle.lists.specs.Fills.{full_length}
 use Rattle.register.specs.Limits.{claim_limit}

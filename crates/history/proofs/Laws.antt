@@ -1,12 +1,8 @@
 -- What is accepted, what a grant looks at, and what a withdrawal removes. Assumes nothing.
-use mathlib.Core.Path.{◌≡◌, ap, ◌∙◌, refl, sym}
-use mathlib.Core.Bool.{Bool, true, ◌&&◌, ◌||◌, not, false}
-use mathlib.Core.List.{List, [], ◌∷◌, ◌++◌, reverse-reverse}
-use Prim.Native.Nat.{ℕ, ◌+◌, ◌-◌, ◌≤◌, ◌<◌}
-use native.Mathlib.Omega.{arith}
-use borrow.Author.Tests.{lt-ltb, eqb-true, eqb-false}
-use lib.Dec.{eqb, ltb}
-use lib.ListN.{length, length-reverse}
+use Rattle.std.proofs.Common.{◌≡◌, ap, ◌∙◌, refl, sym, Bool, true, ◌&&◌, ◌||◌, not, false, List, [], ◌∷◌, ◌++◌, ℕ, ◌+◌, ◌-◌, ◌≤◌, ◌<◌, arith, lt-ltb, eqb-true, eqb, ltb, length}
+use mathlib.Core.List.{reverse-reverse}
+use borrow.Author.Tests.{eqb-false}
+use lib.ListN.{length-reverse}
 use Rattle.lists.specs.Tests.{iff_same, and_left, and_right, and_both, cases}
 use Rattle.lists.specs.Lists.{any, Each, All, filter}
 use Rattle.lists.specs.Each.{all_imp, all_none}

@@ -1,13 +1,9 @@
 -- What is left in the annals after an accepted grant and after an accepted withdrawal, and what stays true of it: striking by lines is
 -- striking by chains. Assumes nothing.
-use mathlib.Core.Path.{◌≡◌, refl, ap, sym, subst, ◌∙◌, fun_ext}
-use mathlib.Core.Bool.{Bool, true, false, not, ◌||◌, or-true, or-false, false≢true, true≢false}
-use mathlib.Core.List.{List, [], ◌∷◌, ◌++◌}
-use Prim.Native.Nat.{ℕ, ◌<◌}
-use native.Mathlib.Omega.{arith}
-use borrow.Author.Tests.{eq-eqb, ne_eqb, not-true}
-use lib.Dec.{eqb, ltb}
-use lib.ListN.{length}
+use Rattle.std.proofs.Common.{◌≡◌, refl, ap, sym, subst, ◌∙◌, Bool, true, false, not, ◌||◌, true≢false, List, [], ◌∷◌, ◌++◌, ℕ, ◌<◌, arith, eq-eqb, ne_eqb, eqb, ltb, length}
+use mathlib.Core.Path.{fun_ext}
+use mathlib.Core.Bool.{or-true, or-false, false≢true}
+use borrow.Author.Tests.{not-true}
 use Rattle.lists.specs.Tests.{cases, or_left}
 use Rattle.lists.specs.Lists.{any, Each, All, dropping, filter}
 use Rattle.lists.specs.Each.{each_all, each_imp, all_imp, all_both, all_append, all_none, any_either, any_map, all_map, any_append}

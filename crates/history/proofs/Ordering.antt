@@ -1,11 +1,7 @@
 -- Two withdrawals, one after the other: what the second is told, and that each is steady. Assumes nothing.
-use mathlib.Core.Path.{◌≡◌, refl, ap, sym, ◌∙◌}
-use mathlib.Core.Logic.{inl, inr, ⊎_elim}
-use mathlib.Core.Bool.{Bool, true, false, not, ◌&&◌, cond, and-false, false≢true}
-use mathlib.Core.List.{List}
-use Prim.Native.Nat.{ℕ, ◌+◌, ◌<◌}
-use borrow.Author.Tests.{ne_eqb, eq-eqb}
-use lib.Dec.{eqb}
+use Rattle.std.proofs.Common.{Result, Err, Ok, ◌≡◌, refl, ap, sym, ◌∙◌, inl, inr, ⊎_elim, Bool, true, false, not, ◌&&◌, cond, List, ℕ, ◌+◌, ◌<◌, ne_eqb, eq-eqb, eqb}
+use Rattle.refusals.specs.declared.Refusal.{Refusal}
+use mathlib.Core.Bool.{and-false, false≢true}
 use Rattle.lists.specs.Tests.{cases, clash, and_left, and_right}
 use Rattle.lists.specs.Lists.{any, All}
 use Rattle.lists.specs.Each.{none_all, none_weaken}
@@ -20,8 +16,6 @@ use Rattle.refusals.specs.Refusals.{outcome_of, is_accepted}
 use Rattle.change_rules.specs.Changes.{world_in, standing, revoke_tests, Withdrawal, revoke, clear_resource, clear_expired, names, clear_resource_tests, clear_expired_tests, withdrawn}
 use Rattle.refusals.proofs.Laws.{outcome_pass}
 use Rattle.refusals.specs.declared.Refusal.TheVariants.{Unsound, Absent, NoClaim, NoGrantor}
-use Rattle.refusals.specs.declared.Outcome.{Outcome}
-use Rattle.refusals.specs.declared.Outcome.TheVariants.{Accepted, Refused}
 use Rattle.history.specs.History.{took, withdraw}
 use Rattle.history.proofs.Changing.{refused_register, took_sound, withdrawn_register}
 use Rattle.history.proofs.Holds.{standing_holding, without_sound}
@@ -47,9 +41,9 @@ stands_chain = chain_ind (λ c. c.id) (λ c. c.parent) (λ L y H. Distinct (λ c
         clash (numbered (λ c. c.id) (λ c. c.parent) y c) (rw (← same) (numbered_own (λ c. c.id) (λ c. c.parent) c above)) e)
 
 -- what the four tests of a revocation tell
-abbrev tell : Bool → Bool → Bool → Bool → Outcome
+abbrev tell : Bool → Bool → Bool → Bool → Result Unit Refusal
 tell judged known standing granting =
-    cond judged (cond known (cond standing (cond granting Accepted (Refused NoGrantor)) (Refused NoClaim)) (Refused Absent)) (Refused Unsound)
+    cond judged (cond known (cond standing (cond granting (Ok tt) (Err NoGrantor)) (Err NoClaim)) (Err Absent)) (Err Unsound)
 
 told_by : (r : Register) (w y : ℕ) → (withdrawn r (revoke w y)).outcome
     ≡ tell (sound r) ((world_in r).known w) (stands (standing r) y) (any (λ c. eqb c.grantor w) (chain_from (standing r) y))
@@ -82,7 +76,7 @@ module _ (P : Claim → Bool) (r : Register) (h : sound r ≡ true) where
 
   -- what a revocation is told behind a striking
   revoke_without : (who y : ℕ) → (withdrawn (without P r) (revoke who y)).outcome
-      ≡ cond ((world_in r).known who && any P (chain_from (standing r) y)) (Refused NoClaim) (withdrawn r (revoke who y)).outcome
+      ≡ cond ((world_in r).known who && any P (chain_from (standing r) y)) (Err NoClaim) (withdrawn r (revoke who y)).outcome
   revoke_without who y =
       told_by (without P r) who y
       ∙ rw (without_sound r P h, standing_holding r (leaving P (standing r)), told_by r who y, h) (
@@ -102,7 +96,7 @@ module _ (P : Claim → Bool) (r : Register) (h : sound r ≡ true) where
   clear_expired_without who moment = outcome_pass _ _ (without_sound r P h) ∙ sym (outcome_pass _ _ h)
 
   -- what a withdrawal is told behind a striking
-  told_without : (w : Withdrawal) → (withdrawn (without P r) w).outcome ≡ cond (loses r P w) (Refused NoClaim) (withdrawn r w).outcome
+  told_without : (w : Withdrawal) → (withdrawn (without P r) w).outcome ≡ cond (loses r P w) (Err NoClaim) (withdrawn r w).outcome
   told_without (revoke who y) = revoke_without who y
   told_without (clear_resource who o) = clear_resource_without who o
   told_without (clear_expired who moment) = clear_expired_without who moment
@@ -119,7 +113,7 @@ steady w = record {
   judges = λ r e. took_sound r w e;
   stays = λ P r h. cases (loses r P w)
       (λ e. inr (lost_none P r h w e))
-      (λ e. inl (ap is_accepted (told_without P r h w ∙ ap (λ b. cond b (Refused NoClaim) (withdrawn r w).outcome) e)));
+      (λ e. inl (ap is_accepted (told_without P r h w ∙ ap (λ b. cond b (Err NoClaim) (withdrawn r w).outcome) e)));
 }
 
 -- the same register in either order
@@ -134,28 +128,28 @@ withdraw_sum r v w = withdrawing.withdraw_sum v w (steady v) (steady w) r
 
 -- the call that comes second is told 17 where the first takes its claim, and otherwise as alone
 second_told : (r : Register) (v w : Withdrawal)
-    → (withdrawn (withdrawn r v).register w).outcome ≡ cond (takes r v w) (Refused NoClaim) (withdrawn r w).outcome
+    → (withdrawn (withdrawn r v).register w).outcome ≡ cond (takes r v w) (Err NoClaim) (withdrawn r w).outcome
 second_told r v w = cases (took r (withdraw v))
     (λ e. ap (λ s. (withdrawn s w).outcome) (withdrawn_register r v e)
     ∙ told_without (names v) r (took_sound r v e) w
-    ∙ ap (λ b. cond (b && loses r (names v) w) (Refused NoClaim) (withdrawn r w).outcome) (sym e))
+    ∙ ap (λ b. cond (b && loses r (names v) w) (Err NoClaim) (withdrawn r w).outcome) (sym e))
     (λ e. ap (λ s. (withdrawn s w).outcome) (refused_register r (withdraw v) e)
-    ∙ ap (λ b. cond (b && loses r (names v) w) (Refused NoClaim) (withdrawn r w).outcome) (sym e))
+    ∙ ap (λ b. cond (b && loses r (names v) w) (Err NoClaim) (withdrawn r w).outcome) (sym e))
 
 -- where the first takes nothing from it, the second is told as alone
 untaken_told : (r : Register) (v w : Withdrawal) → takes r v w ≡ false → (withdrawn (withdrawn r v).register w).outcome ≡ (withdrawn r w).outcome
-untaken_told r v w e = second_told r v w ∙ ap (λ b. cond b (Refused NoClaim) (withdrawn r w).outcome) e
+untaken_told r v w e = second_told r v w ∙ ap (λ b. cond b (Err NoClaim) (withdrawn r w).outcome) e
 
 pub withdraw_second : (r : Register) (v w : Withdrawal) → SecondTold w (withdrawn r w).outcome (withdrawn (withdrawn r v).register w).outcome
 withdraw_second r v (revoke who y) = cases (takes r v (revoke who y))
-    (λ e. inr (second_told r v (revoke who y) ∙ ap (λ b. cond b (Refused NoClaim) (withdrawn r (revoke who y)).outcome) e))
+    (λ e. inr (second_told r v (revoke who y) ∙ ap (λ b. cond b (Err NoClaim) (withdrawn r (revoke who y)).outcome) e))
     (λ e. inl (untaken_told r v (revoke who y) e))
 withdraw_second r v (clear_resource who o) = untaken_told r v (clear_resource who o) (and-false (took r (withdraw v)))
 withdraw_second r v (clear_expired who moment) = untaken_told r v (clear_expired who moment) (and-false (took r (withdraw v)))
 
 -- a revocation whose claim another withdrawal takes would have passed tests 1, 3 and 17
 taken_alone : (r : Register) (v : Withdrawal) (who y : ℕ) → takes r v (revoke who y) ≡ true
-    → (withdrawn r (revoke who y)).outcome ≡ cond (any (λ c. eqb c.grantor who) (chain_from (standing r) y)) Accepted (Refused NoGrantor)
+    → (withdrawn r (revoke who y)).outcome ≡ cond (any (λ c. eqb c.grantor who) (chain_from (standing r) y)) (Ok tt) (Err NoGrantor)
 taken_alone r v who y e =
     let first = and_left (took r (withdraw v)) _ e in
     let rest = and_right (took r (withdraw v)) ((world_in r).known who && any (names v) (chain_from (standing r) y)) e in
@@ -171,7 +165,7 @@ not_both : (a : Bool) → a && not a ≡ false
 not_both true = refl
 not_both false = refl
 
-either_told : (granting : Bool) → AcceptedOrBarred (cond granting Accepted (Refused NoGrantor))
+either_told : (granting : Bool) → AcceptedOrBarred (cond granting (Ok tt) (Err NoGrantor))
 either_told true = inl refl
 either_told false = inr refl
 

@@ -1,11 +1,8 @@
 -- What any calls come to: the register holds what remains in the annals, and making the remaining grants again ends in it. Assumes nothing.
-use mathlib.Core.Path.{◌≡◌, refl, ap, sym, subst, ◌∙◌}
-use mathlib.Core.Bool.{true, false, not, ◌&&◌, cond, and-true, and_assoc}
-use mathlib.Core.List.{List, [], ◌∷◌, ◌++◌, map, reverse-cons, reverse-reverse}
-use Prim.Native.Nat.{ℕ, ◌≤◌, ◌<◌}
-use native.Mathlib.Omega.{arith}
-use borrow.Author.Tests.{ltb-true, lt-ltb}
-use lib.ListN.{length, length-map}
+use Rattle.std.proofs.Common.{◌≡◌, refl, ap, sym, subst, ◌∙◌, true, false, not, ◌&&◌, cond, List, [], ◌∷◌, ◌++◌, map, ℕ, ◌≤◌, ◌<◌, arith, ltb-true, lt-ltb, length}
+use mathlib.Core.Bool.{and-true, and_assoc}
+use mathlib.Core.List.{reverse-cons, reverse-reverse}
+use lib.ListN.{length-map}
 use Rattle.lists.specs.Tests.{cases, and_both}
 use Rattle.lists.specs.Each.{all_imp, reverse_map}
 use Rattle.lists.specs.Filters.{dropping_none, dropping_length, filter_hit, filter_miss, filter_none, filter_reverse}

@@ -1,10 +1,6 @@
 -- What is proved of any calls of grant and withdrawal, over the definitions that their contracts cite. Where a grant's claim has to come into its
 -- place, the array of claims has the 256 places of its type: every register of the program has its shape (`Shaped`). Assumes nothing.
-use mathlib.Core.Path.{◌≡◌}
-use mathlib.Core.Bool.{true, false, ◌&&◌, ◌||◌}
-use mathlib.Core.List.{List, [], ◌∷◌, ◌++◌}
-use Prim.Native.Nat.{ℕ}
-use lib.Dec.{eqb, ltb}
+use Rattle.std.proofs.Common.{◌≡◌, true, false, ◌&&◌, ◌||◌, List, [], ◌∷◌, ◌++◌, ℕ, eqb, ltb}
 use Rattle.register.specs.Limits.{claim_limit, moment_end}
 use Rattle.register.specs.Register.{claims_of, Shaped}
 use Rattle.register.specs.Chain.{above}

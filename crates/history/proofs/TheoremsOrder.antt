@@ -1,7 +1,5 @@
 -- What is proved of two withdrawals, one after the other, in either order. Assumes nothing.
-use mathlib.Core.Path.{◌≡◌}
-use mathlib.Core.Bool.{true}
-use Prim.Native.Nat.{ℕ, ◌+◌}
+use Rattle.std.proofs.Common.{◌≡◌, true, ℕ, ◌+◌}
 use Rattle.register.specs.declared.Register.{Register}
 use Rattle.change_rules.specs.Changes.{Withdrawal, revoke, withdrawn}
 use Rattle.history.specs.Order.{SameOrAbsent, AcceptedOrBarred, turns_absent, takes, SecondTold}

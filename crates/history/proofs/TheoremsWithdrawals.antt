@@ -1,10 +1,5 @@
 -- What is proved of a withdrawal by itself: when it is accepted, what it removes, how many went. Assumes nothing.
-use mathlib.Core.Path.{◌≡◌}
-use mathlib.Core.Bool.{true, not}
-use mathlib.Core.List.{[], ◌∷◌}
-use Prim.Native.Nat.{ℕ, ◌+◌}
-use lib.Dec.{eqb, ltb}
-use lib.ListN.{length}
+use Rattle.std.proofs.Common.{◌≡◌, true, not, [], ◌∷◌, ℕ, ◌+◌, eqb, ltb, length}
 use Rattle.lists.specs.Lists.{any, ands, filter}
 use Rattle.register.specs.Limits.{moment_end}
 use Rattle.register.specs.Register.{claims_of, actors_of}

@@ -1,12 +1,8 @@
 -- Two withdrawals, one after the other, on any register: the same register in either order, and as many removed in all. It is asked of
 -- each that striking others leaves its acceptance, or nothing that it names. Assumes nothing.
-use mathlib.Core.Path.{◌≡◌, refl, ap, sym, ◌∙◌}
-use mathlib.Core.Logic.{◌⊎◌, ⊎_elim}
-use mathlib.Core.Bool.{Bool, true, false, ◌||◌, or_comm, cond}
-use mathlib.Core.List.{List}
-use Prim.Native.Nat.{ℕ, ◌+◌, ◌-◌}
-use native.Mathlib.Omega.{arith}
-use lib.ListN.{length, length-reverse}
+use Rattle.std.proofs.Common.{◌≡◌, refl, ap, sym, ◌∙◌, ◌⊎◌, ⊎_elim, Bool, true, false, ◌||◌, cond, List, ℕ, ◌+◌, ◌-◌, arith, length}
+use mathlib.Core.Bool.{or_comm}
+use lib.ListN.{length-reverse}
 use Rattle.lists.specs.Tests.{cases}
 use Rattle.lists.specs.Each.{each_all}
 use Rattle.lists.specs.Lists.{All}

@@ -1,13 +1,9 @@
 -- Laws of what is kept of an object's members while they are read: each behind the others, by its key's place. Assumes nothing.
-use Prim.Native.Nat.{ℕ, ◌≤◌, ◌<◌}
-use mathlib.Core.Path.{◌≡◌, sym, ◌∙◌}
-use mathlib.Core.List.{List, [], ◌∷◌, ◌++◌, map-append}
-use mathlib.Core.Bool.{Bool, true, false, or-true, or-false}
-use native.Mathlib.Omega.{arith}
-use borrow.Author.Tests.{eqb-true, eqb-false}
-use lib.Dec.{eqb}
-use lib.ListN.{length, get_or, set, replicate, get_or-replicate, length-set}
-use lib.Seq.{get_or-set_same, get_or-set_other}
+use Rattle.std.proofs.Common.{ℕ, ◌≤◌, ◌<◌, ◌≡◌, sym, ◌∙◌, List, [], ◌∷◌, ◌++◌, Bool, true, false, arith, eqb-true, eqb, length, get_or, set, replicate, length-set, get_or-set_same, get_or-set_other}
+use mathlib.Core.List.{map-append}
+use mathlib.Core.Bool.{or-true, or-false}
+use borrow.Author.Tests.{eqb-false}
+use lib.ListN.{get_or-replicate}
 use Rattle.lists.specs.Tests.{cases}
 use Rattle.lists.specs.Lists.{any, All}
 use Rattle.lists.specs.Each.{all_both, all_append, none_all, any_map, any_append}

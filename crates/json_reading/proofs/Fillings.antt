@@ -1,29 +1,12 @@
--- Laws of the keys seen, and of arrays filled one by one from what was read. Assumes nothing.
-use Prim.Native.Nat.{ℕ, zero, suc, ◌+◌, ◌-◌, ◌*◌, ◌≤◌, ◌<◌}
-use mathlib.Core.Path.{◌≡◌, refl, sym, ap, ◌∙◌}
-use mathlib.Core.List.{List, [], ◌∷◌, ◌++◌, map}
-use mathlib.Core.Bool.{Bool, true, false}
-use native.Mathlib.Omega.{arith}
-use native.Mathlib.Numerals.{add-one}
-use lib.ListN.{length, take, drop, get_or, set, replicate, length-append, length-map, length-take, length-drop, get_or-append}
-use lib.Seq.{length-take-le, take-suc, take-length, get_or-take, get_or-drop, get_or-append-add}
+-- Laws of arrays filled one by one from what was read. Assumes nothing.
+use Rattle.std.proofs.Common.{ℕ, zero, suc, ◌+◌, ◌-◌, ◌*◌, ◌≤◌, ◌<◌, ◌≡◌, refl, sym, ap, ◌∙◌, List, [], ◌∷◌, ◌++◌, map, arith, add-one, length, take, drop, get_or, set, replicate, length-append, length-take, length-drop, length-take-le, take-suc, get_or-take, get_or-drop, get_or-append-add}
+use lib.ListN.{length-map, get_or-append}
+use lib.Seq.{take-length}
 use Rattle.lists.specs.Fills.{put_first}
-use Rattle.lists.specs.Tests.{cases, clash}
-use Rattle.lists.specs.Counts.{every_counted_sound, every_counted_complete}
 use Rattle.actions.specs.Actions.{no_use, use_limit}
-use Rattle.json_rules.specs.Names.{read_place, write_place, execute_place, domain_place}
+use Rattle.json_rules.specs.Names.{read_place, write_place, execute_place}
 use Rattle.json_rules.specs.Actions.{used_with}
-use Rattle.json_reading.specs.Answers.{block_of, list_room, draft_full, uses_taken}
-
--- the first seven keys are seen where each of them is, and are not where one of them is not
-pub draft_full_lem : (seen : List Bool) → ((k : ℕ) → k < domain_place → get_or seen k false ≡ true) → draft_full seen ≡ true
-draft_full_lem seen all = every_counted_complete (λ k. get_or seen k false) domain_place 0 (λ k low high. all k (omega arith))
-
-pub draft_short : (seen : List Bool) (i : ℕ) → i < domain_place → get_or seen i false ≡ false → draft_full seen ≡ false
-draft_short seen i inside unseen =
-    cases (draft_full seen)
-    (λ t. clash (get_or seen i false) (every_counted_sound (λ k. get_or seen k false) domain_place 0 t i (omega arith) (omega arith)) unseen)
-    (λ f. f)
+use Rattle.json_reading.specs.Answers.{block_of, list_room, uses_taken}
 
 -- an array that holds the first i elements of a list, with nothing behind them, holds one more
 pub filled_next : {A : Type 0} (xs : List A) (n i : ℕ) (none x : A) (l : List A) → i < length xs → i < n → l ≡ take i xs ++ replicate (n - i) none →

@@ -1,47 +1,20 @@
 -- Laws of the flags' settings as they are read: one of them, those behind one another, and the object that they are in. Assumes nothing.
-use Prim.Native.Nat.{ℕ, ◌≤◌, ◌<◌}
-use mathlib.Core.Path.{◌≡◌, refl, sym, ap, ◌∙◌, subst}
-use mathlib.Core.List.{List, [], ◌∷◌, ◌++◌, map, map-append}
-use mathlib.Core.Bool.{Bool, true, false, ◌&&◌}
-use native.Mathlib.Omega.{arith}
-use borrow.Author.Tests.{ne_eqb, lt-ltb, le-ltb}
-use lib.Dec.{eqb, ltb}
-use lib.ListN.{drop, get_or, set, replicate}
+use Rattle.std.proofs.Common.{ℕ, ◌≤◌, ◌<◌, ◌≡◌, refl, sym, ap, ◌∙◌, subst, List, [], ◌∷◌, ◌++◌, map, Bool, true, false, ◌&&◌, arith, eqb, drop, get_or, set, replicate, Option, Some, None}
+use mathlib.Core.List.{map-append}
 use Rattle.lists.specs.Tests.{cases}
 use Rattle.lists.specs.Each.{any_map}
 use Rattle.lists.specs.Lists.{counted, distinct}
 use Rattle.lists.specs.Distinct.{distinct_again}
 use Rattle.actions.specs.Actions.{flag_count}
-use Rattle.json_tokens.specs.Tokens.{Token, mark, text, no_token, colon, closes_object, opens_object, true_mark, false_mark, tokens}
+use Rattle.json_tokens.specs.Tokens.{Token, mark, text, no_token, colon, closes_object, opens_object, tokens}
 use Rattle.json_rules.specs.Names.{flag_names, place_of}
-use Rattle.json_rules.specs.Members.{Setting, Taken, missed, led_by, separated, items, any_items, take_text, take_word, take_set, take_setting, take_settings, among_all, is_full_set, taking}
-use Rattle.json_rules.specs.Items.{items_step, setting_shrinks, taken_cases, prefixed, prefixed_nil, prefixed_led}
-use Rattle.json_reading.specs.declared.settings.SettingAt.{SettingAt}
-use Rattle.json_reading.specs.declared.settings.SettingAt.TheVariants.{Is, Not as NoSetting}
-use Rattle.json_reading.specs.declared.settings.Settings.{Settings}
-use Rattle.json_reading.specs.declared.settings.Settings.TheVariants.{Are, Not}
+use Rattle.json_rules.specs.Members.{Setting, Taken, missed, led_by, separated, items, any_items, take_text, take_set, take_setting, take_settings, among_all, is_full_set, taking}
+use Rattle.json_rules.specs.Items.{items_step, setting_shrinks, prefixed, prefixed_nil, prefixed_led}
 use Rattle.json_reading.proofs.Laws.{past_unmarked, continued, separated_natural, separated_more, separated_done, separated_broken, items_missed}
 use Rattle.json_reading.specs.Answers.{Behind, Separation, more, no_more, broken, separation, is_marked, SettingSays, flags_found, full_set, SettingsSays}
 use Rattle.json_reading.proofs.Flags.{is_among, Noted, noted_none, noted_more, noted_answer}
 
 -- One setting.
-
--- a flag that is none of the ten has no setting
-pub set_unknown : (i : ℕ) (ts : List Token) → flag_count ≤ i → take_set i ts ≡ missed
-set_unknown i ts beyond = let unknown : ltb i flag_count ≡ false = le-ltb i flag_count beyond in taken_cases (take_word ts) (λ on us e. rw (e, unknown)) (λ e. rw e)
-
-module _ (i b : ℕ) (ts us : List Token) (marked : ts ≡ mark b ∷ us) where
-  pub set_on : i < flag_count → b ≡ true_mark → take_set i ts ≡ taking (record { flag = i; set = true }) us
-  set_on below e = rw (marked, e, lt-ltb i flag_count below)
-
-  pub set_off : i < flag_count → b ≡ false_mark → take_set i ts ≡ taking (record { flag = i; set = false }) us
-  set_off below e = rw (marked, e, lt-ltb i flag_count below)
-
-  pub set_neither : (b ≡ true_mark → ⊥) → (b ≡ false_mark → ⊥) → take_set i ts ≡ missed
-  set_neither on off = rw (marked, ne_eqb b true_mark on, ne_eqb b false_mark off)
-
-pub set_wordless : (i : ℕ) {ts us : List Token} → ts ≡ us → take_word us ≡ missed → take_set i ts ≡ missed
-set_wordless i e none = rw (e, none)
 
 -- a name, a colon and what the flag is set to
 module _ (ts us : List Token) (x : List ℕ) (named : ts ≡ text x ∷ us) where
@@ -58,10 +31,10 @@ unfolding take_setting
 setting_nameless e none = rw (e, none)
 
 -- what the word's setting says is said of the whole setting, which begins before it
-pub setting_from : (s : List ℕ) (at next : ℕ) (r : SettingAt) (p q : Taken Setting) → at ≤ next → q ≡ p
+pub setting_from : (s : List ℕ) (at next : ℕ) (r : Option (ℕ × Bool × ℕ)) (p q : Taken Setting) → at ≤ next → q ≡ p
     → SettingSays s next r p → SettingSays s at r q
-setting_from s at next (Is flag on end) p q before e h = (e ∙ h.0, h.1, (omega (arith, h.2.0), h.2.1))
-setting_from s at next NoSetting p q before e h = e ∙ h
+setting_from s at next (Some r) p q before e h = (e ∙ h.0, h.1, (omega (arith, h.2.0), h.2.1))
+setting_from s at next None p q before e h = e ∙ h
 
 -- The object of the flags.
 
@@ -169,7 +142,7 @@ unfolding take_settings
 settings_none ts e = rw (past_unmarked opens_object (any_items take_setting closes_object) ts e)
 
 -- what the flags' answer says is said of the whole object, which begins before them
-pub settings_from_lem : (s : List ℕ) (at next : ℕ) (r : Settings) (p q : Taken (List Setting)) → at ≤ next → q ≡ p
+pub settings_from_lem : (s : List ℕ) (at next : ℕ) (r : Option (ℕ × ℕ)) (p q : Taken (List Setting)) → at ≤ next → q ≡ p
     → SettingsSays s next r p → SettingsSays s at r q
-settings_from_lem s at next (Are flags end) p q before e h = (h.0, e ∙ h.1, h.2, (omega (arith, h.3.0), h.3.1))
-settings_from_lem s at next Not p q before e h = e ∙ h
+settings_from_lem s at next (Some r) p q before e h = (h.0, e ∙ h.1, h.2, (omega (arith, h.3.0), h.3.1))
+settings_from_lem s at next None p q before e h = e ∙ h

@@ -1,15 +1,10 @@
 -- Laws of the flags: counted as a number, and kept by their places while the settings are read. Assumes nothing.
-use Prim.Native.Nat.{ℕ, zero, suc, ◌+◌, ◌*◌, ◌^◌, ◌≤◌, ◌<◌}
-use mathlib.Core.Path.{◌≡◌, refl, sym, ap, ◌∙◌, subst}
-use mathlib.Core.List.{List, [], ◌∷◌, ◌++◌, map, map-append}
-use mathlib.Core.Bool.{Bool, true, false, cond, ◌&&◌, or-true, or-false}
-use native.Mathlib.Nat.{pow-le-pow_right, pow-suc}
-use native.Mathlib.Numerals.{add-one}
-use native.Mathlib.Omega.{arith}
-use borrow.Author.Tests.{eqb-true, eqb-false}
-use lib.Dec.{eqb}
-use lib.ListN.{length, drop, get_or, set, replicate, get_or-replicate, length-set}
-use lib.Seq.{get_or-set_same, get_or-set_other}
+use Rattle.std.proofs.Common.{ℕ, zero, suc, ◌+◌, ◌*◌, ◌^◌, ◌≤◌, ◌<◌, ◌≡◌, refl, sym, ap, ◌∙◌, subst, List, [], ◌∷◌, ◌++◌, map, Bool, true, false, cond, ◌&&◌, pow-suc, add-one, arith, eqb-true, eqb, length, drop, get_or, set, replicate, length-set, get_or-set_same, get_or-set_other, Some, None}
+use mathlib.Core.List.{map-append}
+use mathlib.Core.Bool.{or-true, or-false}
+use native.Mathlib.Nat.{pow-le-pow_right}
+use borrow.Author.Tests.{eqb-false}
+use lib.ListN.{get_or-replicate}
 use Rattle.lists.specs.Tests.{cases, clash, and_left, iff_same}
 use Rattle.lists.specs.Lists.{any, every, counted, distinct}
 use Rattle.lists.specs.Each.{any_map, none_weaken, any_append}
@@ -19,7 +14,6 @@ use Rattle.actions.specs.Actions.{flag_count}
 use Rattle.json_tokens.specs.Tokens.{tokens}
 use Rattle.json_rules.specs.Members.{Setting, among_all, is_full_set, taking}
 use Rattle.json_rules.specs.Actions.{set_among, flags_below}
-use Rattle.json_reading.specs.declared.settings.Settings.TheVariants.{Are, Not}
 use Rattle.json_reading.specs.Answers.{Behind, flags_in, flags_found, full_set, SettingsSays}
 
 -- The flags as a number.
@@ -81,22 +75,22 @@ module _ {seen sets : List Bool} {flags worth i : ℕ} (c : Counting seen sets f
 abbrev all_seen : List Bool → Bool
 all_seen seen = every (λ i. get_or seen i false) (counted 0 flag_count)
 
-found_by : (seen sets : List Bool) (next : ℕ) (b : Bool) → all_seen seen ≡ b → flags_found seen sets next ≡ cond b (Are (flags_in flag_count sets) next) Not
+found_by : (seen sets : List Bool) (next : ℕ) (b : Bool) → all_seen seen ≡ b → flags_found seen sets next ≡ cond b (Some (flags_in flag_count sets, next)) None
 unfolding flags_found
-found_by seen sets next b e = ap (λ x. cond x (Are (flags_in flag_count sets) next) Not) e
+found_by seen sets next b e = ap (λ x. cond x (Some (flags_in flag_count sets, next)) None) e
 
-pub flags_unseen : (seen sets : List Bool) (next i : ℕ) → i < flag_count → get_or seen i false ≡ false → flags_found seen sets next ≡ Not
+pub flags_unseen : (seen sets : List Bool) (next i : ℕ) → i < flag_count → get_or seen i false ≡ false → flags_found seen sets next ≡ None
 flags_unseen seen sets next i below e =
     found_by seen sets next false
     (cases (all_seen seen)
     (λ all. clash (get_or seen i false) (every_counted_sound (λ k. get_or seen k false) flag_count 0 all i (omega arith) (omega arith)) e) (λ none. none))
 
 pub counting_done : {seen sets : List Bool} {flags worth i : ℕ} (next : ℕ) → Counting seen sets flags worth i → flag_count ≤ i
-    → flags_found seen sets next ≡ Are flags next
+    → flags_found seen sets next ≡ Some (flags, next)
 counting_done {seen = seen} {sets = sets} {i = i} next c end =
     let last : i ≡ flag_count = omega (arith, c.within) in
     found_by seen sets next true (every_counted_complete (λ k. get_or seen k false) flag_count 0 (λ k low high. c.passed k (omega arith)))
-    ∙ ap (λ n. Are n next) (ap (λ k. flags_in k sets) (sym last) ∙ sym c.number)
+    ∙ ap (λ n. Some (n, next)) (ap (λ k. flags_in k sets) (sym last) ∙ sym c.number)
 
 -- The settings behind one another.
 

@@ -1,13 +1,7 @@
 -- Which of the nine keys some tests leave. Assumes nothing.
-use Prim.Native.Nat.{ℕ, ◌≤◌, ◌<◌}
-use mathlib.Core.Path.{◌≡◌, sym, ◌∙◌}
-use mathlib.Core.Bool.{true, false, ◌&&◌, ◌||◌, or_assoc}
-use native.Mathlib.Omega.{arith}
-use borrow.Author.Tests.{ne_eqb, eqb-true, eqb-false, leb-true, leb-false}
-use lib.Dec.{eqb, leb}
-use Rattle.lists.specs.Tests.{cases, and_left, and_right, or_left, or_right, or_other}
+use Rattle.std.proofs.Common.{ℕ, ◌≤◌, ◌≡◌, true, ◌&&◌, ◌||◌, arith, ne_eqb, eqb-true, leb-true, eqb, leb}
+use Rattle.lists.specs.Tests.{cases, and_left, and_right, or_other}
 use Rattle.json_rules.specs.Names.{id_place, actor_place, kind_place, read_place, execute_place, flags_place, domain_place, depth_place}
-use Rattle.json_rules.specs.Items.{key_count}
 use Rattle.json_reading.specs.Answers.{is_text_key, is_figure_key}
 
 -- the keys whose number is kept
@@ -36,31 +30,3 @@ list_key key h =
     let low = and_left (leb read_place key) (leb key execute_place) h in
     let high = and_right (leb read_place key) (leb key execute_place) h in
     (leb-true read_place key low, leb-true key execute_place high)
-
-pub text_key : (key : ℕ) → (eqb key id_place || eqb key kind_place) || eqb key domain_place ≡ true → is_text_key key ≡ true
-text_key key h = sym (or_assoc (eqb key id_place) (eqb key kind_place) (eqb key domain_place)) ∙ h
-
-pub figure_key : (key : ℕ) → key < key_count → leb read_place key && leb key execute_place ≡ false →
-    (eqb key id_place || eqb key kind_place) || eqb key domain_place ≡ false →
-    is_figure_key key ≡ true
-figure_key key known f g =
-    cases (is_figure_key key) (λ e. e)
-    (λ n. let others = or_right (eqb key actor_place) (eqb key flags_place || eqb key depth_place) n in
-    let firsts = or_left (eqb key id_place || eqb key kind_place) (eqb key domain_place) g in
-    absurd
-    (cases (leb read_place key)
-    (λ e. omega (
-      arith,
-      leb-true read_place key e,
-      leb-false key execute_place (rw e at f),
-      eqb-false key domain_place (or_right (eqb key id_place || eqb key kind_place) (eqb key domain_place) g),
-      eqb-false key flags_place (or_left (eqb key flags_place) (eqb key depth_place) others),
-      eqb-false key depth_place (or_right (eqb key flags_place) (eqb key depth_place) others),
-    ))
-    (λ e. omega (
-      arith,
-      leb-false read_place key e,
-      eqb-false key id_place (or_left (eqb key id_place) (eqb key kind_place) firsts),
-      eqb-false key kind_place (or_right (eqb key id_place) (eqb key kind_place) firsts),
-      eqb-false key actor_place (or_left (eqb key actor_place) (eqb key flags_place || eqb key depth_place) n),
-    ))))

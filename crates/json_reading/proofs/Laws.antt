@@ -1,11 +1,5 @@
 -- Laws of what stands behind a mark, of what follows an item, and of lists that may be empty. Assumes nothing.
-use Prim.Native.Nat.{ℕ}
-use mathlib.Core.Path.{◌≡◌, refl, sym, ap, ◌∙◌}
-use mathlib.Core.List.{List, [], ◌∷◌, ◌++◌}
-use mathlib.Core.Bool.{false}
-use native.Mathlib.Omega.{arith}
-use lib.Dec.{eqb}
-use borrow.Author.Tests.{eq-eqb, ne_eqb}
+use Rattle.std.proofs.Common.{ℕ, ◌≡◌, refl, sym, ap, ◌∙◌, List, [], ◌∷◌, ◌++◌, false, arith, eqb, eq-eqb}
 use Rattle.lists.specs.Tests.{cases}
 use Rattle.json_tokens.specs.Tokens.{Token, mark, text, no_token, comma}
 use Rattle.json_rules.specs.Members.{Taken, taking, missed, past, led_by, separated, further, items, any_items, take_number}
@@ -21,16 +15,6 @@ past_unmarked b go [] other = refl
 past_unmarked b go (mark c ∷ ts) other = rw other
 past_unmarked b go (text x ∷ ts) other = refl
 past_unmarked b go (no_token ∷ ts) other = refl
-
--- what follows an item, by the mark there
-pub separation_comma : (close b : ℕ) (ts : List Token) → b ≡ comma → separation close (mark b ∷ ts) ≡ more ts
-separation_comma close b ts e = rw (eq-eqb b comma e)
-
-pub separation_close : (close b : ℕ) (ts : List Token) → (b ≡ comma → ⊥) → b ≡ close → separation close (mark b ∷ ts) ≡ no_more ts
-separation_close close b ts other e = rw (ne_eqb b comma other, eq-eqb b close e)
-
-pub separation_other : (close b : ℕ) (ts : List Token) → (b ≡ comma → ⊥) → (b ≡ close → ⊥) → separation close (mark b ∷ ts) ≡ broken
-separation_other close b ts other another = rw (ne_eqb b comma other, ne_eqb b close another)
 
 -- an item and what follows it
 abbrev pub continued : {A : Type 0} → (List Token → Taken (List A)) → A → Separation → Taken (List A)

@@ -1,65 +1,18 @@
--- Laws of the places of names, of one number and of a list of numbers. Assumes nothing.
-use Prim.Native.Nat.{ℕ, suc, ◌+◌, ◌≤◌, ◌<◌}
-use mathlib.Core.Path.{◌≡◌, refl, sym, ap, ◌∙◌}
-use mathlib.Core.List.{List, [], ◌∷◌, ◌++◌}
-use mathlib.Core.Bool.{true, false}
-use native.Mathlib.Omega.{arith}
-use lib.ListN.{length, drop, set, drop_of_length-le, length-append, length-set}
-use lib.Seq.{drop-cons}
-use borrow.Author.Tests.{le-leb, lt-leb}
+-- Laws of one number and of a list of numbers. Assumes nothing.
+use Rattle.std.proofs.Common.{ℕ, ◌+◌, ◌≤◌, ◌<◌, ◌≡◌, refl, sym, ap, ◌∙◌, List, [], ◌∷◌, ◌++◌, true, false, arith, length, drop, set, length-append, length-set, drop-cons, le-leb, Option, Some, None}
+use borrow.Author.Tests.{lt-leb}
 use Rattle.lists.specs.Splices.{splice_nil, splice_snoc}
-use Rattle.lists.specs.Lists.{splice, same}
+use Rattle.lists.specs.Lists.{splice}
 use Rattle.register.specs.Limits.{id_limit}
 use Rattle.decimals.specs.Decimals.{Parsed, got, parse}
 use Rattle.actions.specs.Actions.{use_limit}
 use Rattle.json_tokens.specs.Tokens.{Token, mark, text, opens_list, closes_list, tokens}
-use Rattle.json_rules.specs.Names.{place_of}
 use Rattle.json_rules.specs.Members.{Taken, taking, missed, past, is_exact, exact_of, take_number, take_numbers, led_by, further, items, any_items}
 use Rattle.json_rules.specs.Items.{taken_cases, missed_took, items_step, number_shrinks, prefixed, prefixed_nil}
-use Rattle.json_reading.specs.declared.numbers.Numbers.{Numbers}
-use Rattle.json_reading.specs.declared.numbers.Numbers.TheVariants.{Are, Not}
 use Rattle.json_reading.specs.Answers.{Behind, Separation, more, no_more, broken, separation, is_marked, limited, NumbersSays}
 use Rattle.json_reading.proofs.Laws.{past_marked, past_unmarked, continued, separated_natural, items_missed, items_more, items_done, items_broken, any_items_none, any_items_some, number_no_token}
 
--- the place of a name, by the first of the names
-pub place_hit : (n : List ℕ) (names : List (List ℕ)) (x : List ℕ) → same x n ≡ true → place_of (n ∷ names) x ≡ 0
-unfolding place_of
-place_hit n names x e = rw e
-
-pub place_miss : (n : List ℕ) (names : List (List ℕ)) (x : List ℕ) → same x n ≡ false → place_of (n ∷ names) x ≡ suc (place_of names x)
-unfolding place_of
-place_miss n names x e = rw e
-
-place_none : (x : List ℕ) → place_of [] x ≡ 0
-unfolding place_of
-place_none x = refl
-
--- x is none of the first k of some names, behind which `rest` stands
-pub record Later (names : List (List ℕ)) (k : ℕ) (rest : List (List ℕ)) (x : List ℕ) : Type 0 where
-  pub place : place_of names x ≡ k + place_of rest x
-
--- x is none of the first k names
-abbrev pub Unnamed : List (List ℕ) → ℕ → List ℕ → Type 0
-Unnamed names k x = Later names k (drop k names) x
-
-pub unnamed : (names : List (List ℕ)) (x : List ℕ) → Later names 0 names x
-unnamed names x = record { place = omega arith }
-
-module _ {names : List (List ℕ)} {k : ℕ} {n : List ℕ} {rest : List (List ℕ)} {x : List ℕ} (b : Later names k (n ∷ rest) x) where
-  pub next_miss : same x n ≡ false → Later names (suc k) rest x
-  next_miss e = record { place = omega (arith, place_miss n rest x e, b.place) }
-
-  pub next_hit : same x n ≡ true → k ≡ place_of names x
-  next_hit e = omega (arith, place_hit n rest x e, b.place)
-
-pub next_none : {names : List (List ℕ)} {k : ℕ} {x : List ℕ} → Later names k [] x → k ≡ place_of names x
-next_none {x = x} b = omega (arith, place_none x, b.place)
-
 module _ (s : List ℕ) (n next : ℕ) (p : Parsed) (read : p ≡ got n (drop next s)) where
-  -- a number with nothing behind it
-  pub exact_whole : length s ≤ next → (is_exact p ≡ true) × (exact_of p ≡ n)
-  exact_whole past = (rw (read, drop_of_length-le s past), rw read)
-
   pub exact_behind : next < length s → is_exact p ≡ false
   exact_behind inside = rw (read, drop-cons s next 0 inside)
 
@@ -167,7 +120,7 @@ module _ {s : List ℕ} {begun base : ℕ} {old new : List ℕ} {at count : ℕ}
       }
 
       pub listing_done : separation closes_list rest ≡ no_more (tokens (drop next s)) → next ≤ length s →
-          NumbersSays s begun base old (set new (base + count) n) (Are (count + 1) next) (limited (listed (tokens (drop begun s))))
+          NumbersSays s begun base old (set new (base + count) n) (Some (count + 1, next)) (limited (listed (tokens (drop begun s))))
       listing_done e inside = (
         l.ns ++ (n ∷ []),
         ap limited (l.whole ∙ items_done take_number closes_list number_shrinks l.ns n (tokens (drop at s)) rest taken (tokens (drop next s)) e)
@@ -197,13 +150,13 @@ module _ (ts us : List Token) (opened : ts ≡ mark opens_list ∷ us) where
 -- nothing is written of an empty list
 pub says_none : (s : List ℕ) (at next base : ℕ) (old : List ℕ) (us : List Token) → tokens (drop at s) ≡ mark opens_list ∷ us →
     us ≡ mark closes_list ∷ tokens (drop next s) → Behind s at next →
-    NumbersSays s at base old old (Are 0 next) (limited (take_numbers (tokens (drop at s))))
+    NumbersSays s at base old old (Some (0, next)) (limited (take_numbers (tokens (drop at s))))
 says_none s at next base old us opened closed behind =
     ([], ap limited (numbers_none (tokens (drop at s)) us opened (tokens (drop next s)) closed), refl, omega arith, sym (splice_nil base old), behind)
 
 -- what is said of the numbers from a later position on
-pub says_from : (s : List ℕ) (at begun base : ℕ) (old new : List ℕ) (r : Numbers) (p q : Taken (List ℕ)) → at ≤ begun → p ≡ q →
+pub says_from : (s : List ℕ) (at begun base : ℕ) (old new : List ℕ) (r : Option (ℕ × ℕ)) (p q : Taken (List ℕ)) → at ≤ begun → p ≡ q →
     NumbersSays s begun base old new r q → NumbersSays s at base old new r p
-says_from s at begun base old new (Are count next) p q onward e says =
+says_from s at begun base old new (Some r) p q onward e says =
     (says.0, e ∙ says.1, says.2, says.3, says.4, (omega (arith, says.5.0), says.5.1))
-says_from s at begun base old new Not p q onward e says = e ∙ says
+says_from s at begun base old new None p q onward e says = e ∙ says

@@ -1,13 +1,7 @@
 -- Laws of the action that is made of what is kept of an object's members. Assumes nothing.
-use Prim.Native.Nat.{ℕ, ◌+◌, ◌≤◌, ◌<◌}
-use mathlib.Core.Path.{◌≡◌, refl, sym, ◌∙◌}
-use mathlib.Core.List.{List, [], ◌∷◌}
-use mathlib.Core.Bool.{Bool, true, false, ◌&&◌, and-true}
-use native.Mathlib.Omega.{arith}
-use borrow.Author.Tests.{lt-ltb, le-ltb, eqb-true}
-use lib.Dec.{eqb, leb}
-use lib.ListN.{length, take, drop, get_or, replicate, length-append, length-map, length-drop}
-use lib.Seq.{length-take-le}
+use Rattle.std.proofs.Common.{Ok, ℕ, ◌+◌, ◌≤◌, ◌<◌, ◌≡◌, refl, sym, ◌∙◌, List, [], ◌∷◌, Bool, true, false, ◌&&◌, arith, lt-ltb, le-ltb, eqb-true, eqb, leb, length, take, drop, get_or, replicate, length-append, length-drop, length-take-le}
+use mathlib.Core.Bool.{and-true}
+use lib.ListN.{length-map}
 use Rattle.lists.specs.Tests.{cases, clash, or_other, iff_same}
 use Rattle.lists.specs.Lists.{any, All, counted, distinct}
 use Rattle.lists.specs.Counts.{every_counted_sound, every_counted_complete}
@@ -15,16 +9,14 @@ use Rattle.lists.specs.Distinct.{distinct_nil}
 use Rattle.register.specs.Limits.{moment_end}
 use Rattle.actions.specs.Actions.{use_limit, govern_limit}
 use Rattle.actions.specs.declared.Usage.{Usage}
-use Rattle.refusals.specs.declared.Outcome.TheVariants.{Accepted}
 use Rattle.refusals.specs.declared.Refusal.TheVariants.{Range, JsonForm}
-use Rattle.json_tokens.specs.Tokens.{Token, tokens}
+use Rattle.json_tokens.specs.Tokens.{tokens}
 use Rattle.json_rules.specs.Names.{id_place, actor_place, kind_place, read_place, write_place, execute_place, flags_place, domain_place}
 use Rattle.json_rules.specs.Members.{Member, Value, Taken, missed, members_of, among_all, id_length, taking}
 use Rattle.json_rules.specs.Actions.{uses_in, is_full, action_in, held_id, unread, read_whole, read_members, json_read, member_value}
 use Rattle.json_rules.specs.declared.JsonRead.{JsonRead}
 use Rattle.json_reading.specs.Answers.{block_of, list_room, keys_of, admitted_whole, Drafted, draft_full, uses_taken, uses_from, HoldsValue, KeptMembers}
 use Rattle.json_reading.specs.declared.members.Draft.{Draft}
-use Rattle.json_reading.proofs.Wholes.{Whole}
 
 -- what is said of each member is said of what a key among them holds
 held_at : (Q : ℕ → Value → Type 0) (k : ℕ) (ms : List Member) → All (λ m. Q m.key m.value) ms → any (eqb k) (keys_of ms) ≡ true
@@ -104,7 +96,7 @@ module _ {s numbers : List ℕ} {ms : List Member} {seen : List Bool} {figures f
             governs = replicate govern_limit 0;
             governed = 0;
           };
-          outcome = Accepted;
+          outcome = Ok tt;
           kind = get_or figures kind_place 0;
           len = get_or lens id_place 0;
           id = id;
@@ -142,32 +134,21 @@ unadmitted moment (taking [] ts) e = rw distinct_nil
 unadmitted moment (taking (m ∷ ms) ts) e = rw e
 unadmitted moment missed e = refl
 
--- what an admitted object's members are, and what is kept of them
-pub record Admitted (s numbers : List ℕ) (d : Draft) (p : Taken (List Member)) : Type 0 where
-  pub members : List Member
-  pub rest : List Token
-  pub taken : p ≡ taking members rest
-  pub drafted : Drafted s numbers members rest d
-
-pub whole_admitted : {s numbers : List ℕ} {d : Draft} (p : Taken (List Member)) → Whole s numbers d p → d.ok ≡ true → Admitted s numbers d p
-whole_admitted (taking ms rest) h whole = record { members = ms; rest = rest; taken = refl; drafted = h.1 ms rest refl whole }
-whole_admitted {d = d} missed h whole = clash d.ok whole h.0
-
-module _ {t : List ℕ} {moment : ℕ} (timely : moment < moment_end) {numbers : List ℕ} {d : Draft} where
+module _ (t : List ℕ) {moment : ℕ} (timely : moment < moment_end) where
   -- an object that is not admitted
-  pub json_unadmitted : Whole t numbers d (members_of (tokens t)) → d.ok ≡ false → json_read t moment ≡ unread JsonForm
-  json_unadmitted h failed = json_timely t moment timely ∙ unadmitted moment (members_of (tokens t)) (sym h.0 ∙ failed)
+  pub json_unadmitted : admitted_whole (members_of (tokens t)) ≡ false → json_read t moment ≡ unread JsonForm
+  json_unadmitted e = json_timely t moment timely ∙ unadmitted moment (members_of (tokens t)) e
 
-  module _ (a : Admitted t numbers d (members_of (tokens t))) (room : length numbers ≡ list_room) where
+  module _ {numbers : List ℕ} (d : Draft) (a : Drafted t numbers d (members_of (tokens t))) (room : length numbers ≡ list_room) where
     abbrev members_full : Bool
     members_full = draft_full d.seen && leb (get_or d.lens read_place 0 + get_or d.lens write_place 0 + get_or d.lens execute_place 0) use_limit
 
-    full_told : (b : Bool) → members_full ≡ b → is_full a.members ≡ b
-    full_told b e = full_natural a.drafted.kept room ∙ e
+    full_told : (b : Bool) → members_full ≡ b → is_full a.0 ≡ b
+    full_told b e = full_natural a.2 room ∙ e
 
     -- a key is missing, or there are too many uses
     pub json_partial : members_full ≡ false → json_read t moment ≡ unread JsonForm
-    json_partial e = json_timely t moment timely ∙ rw (a.taken, full_told false e)
+    json_partial e = json_timely t moment timely ∙ rw (a.1, full_told false e)
 
-    pub json_whole : members_full ≡ true → json_read t moment ≡ read_whole moment a.members
-    json_whole e = json_timely t moment timely ∙ rw (a.taken, full_told true e)
+    pub json_whole : members_full ≡ true → json_read t moment ≡ read_whole moment a.0
+    json_whole e = json_timely t moment timely ∙ rw (a.1, full_told true e)

@@ -1,23 +1,15 @@
 -- Laws of the members of an object read one by one: what a key, its value and what follows it say of all of them. Assumes nothing.
-use Prim.Native.Nat.{ℕ, ◌≤◌, ◌<◌}
-use mathlib.Core.Path.{◌≡◌, refl, sym, ap, ◌∙◌}
-use mathlib.Core.List.{List, [], ◌∷◌, ◌++◌, map-append}
-use mathlib.Core.Bool.{Bool, true, false}
-use native.Mathlib.Omega.{arith}
-use borrow.Author.Tests.{ne_eqb}
-use lib.Dec.{eqb}
-use lib.ListN.{length, drop, get_or, set, replicate}
-use Rattle.lists.specs.Tests.{cases, clash}
+use Rattle.std.proofs.Common.{ℕ, ◌≤◌, ◌<◌, ◌≡◌, refl, sym, ap, ◌∙◌, List, [], ◌∷◌, ◌++◌, Bool, true, false, arith, ne_eqb, eqb, length, drop, get_or, set, replicate, Some}
+use mathlib.Core.List.{map-append}
+use Rattle.lists.specs.Tests.{cases}
 use Rattle.lists.specs.Lists.{any}
 use Rattle.lists.specs.Distinct.{distinct_again}
 use Rattle.json_tokens.specs.Tokens.{Token, mark, text, no_token, colon, closes_object, tokens}
 use Rattle.json_rules.specs.Names.{key_names, place_of}
-use Rattle.json_rules.specs.Members.{Member, Value, Taken, missed, past, named, take_text, led_by, further, items, take_value, take_held, take_member, taking, made}
+use Rattle.json_rules.specs.Members.{Member, Value, Taken, missed, past, named, take_text, led_by, further, items, take_value, take_held, take_member, taking}
 use Rattle.json_rules.specs.Items.{missed_took, items_step, member_shrinks, prefixed, prefixed_nil, prefixed_led, key_count}
-use Rattle.json_reading.specs.Answers.{Separation, more, no_more, broken, separation, key_of, list_room, Apart, keys_of, DraftSays, admitted, Behind, HeldSays, HoldsValue, KeyedSays, KeptMembers}
+use Rattle.json_reading.specs.Answers.{Separation, more, no_more, broken, separation, key_of, list_room, Apart, keys_of, Drafted, admitted, Behind, HeldSays, HoldsValue, KeyedSays, KeptMembers}
 use Rattle.json_reading.specs.declared.held.Held.{Held}
-use Rattle.json_reading.specs.declared.members.Draft.{Draft}
-use Rattle.json_reading.specs.declared.members.Keyed.{Keyed}
 use Rattle.json_reading.proofs.Laws.{continued, separated_natural}
 use Rattle.json_reading.proofs.Drafts.{Placed, kept_none, kept_next, placed_next}
 
@@ -125,18 +117,6 @@ read_start s begun numbers room = record {
   room = room;
 }
 
--- what is answered: whether the members are admitted, and what is kept of them
-abbrev pub Answered : List ℕ → List ℕ → Draft → Taken (List Member) → Type 0
-Answered s numbers d p = (d.ok ≡ admitted p) × DraftSays s numbers d p
-
-unanswered : {s numbers : List ℕ} {d : Draft} {p : Taken (List Member)} → d.ok ≡ false → admitted p ≡ false → Answered s numbers d p
-unanswered {d = d} failed none = (failed ∙ sym none, λ ms rest e whole. clash d.ok whole failed)
-
-answered : {s numbers : List ℕ} {d : Draft} {p : Taken (List Member)} (l : List Member) → d.ok ≡ true → p ≡ taking l (tokens (drop d.next s))
-    → KeptMembers s numbers l d.seen d.figures d.froms d.lens → Answered s numbers d p
-answered l whole e kept =
-    (whole ∙ rw e (sym kept.once), λ ms rest told yes. let same : ms ≡ l = cc in record { next = cc; kept = rw same kept })
-
 admitted_missed : (ms : List Member) (x : Taken (List Member)) → x ≡ missed → admitted (prefixed ms x) ≡ false
 unfolding prefixed
 admitted_missed ms x e = rw e
@@ -154,41 +134,25 @@ prefixed_done ms m ts = refl
 
 -- what is read of a key and its value says of the member
 module _ (s : List ℕ) (at : ℕ) (numbers : List ℕ) where
-  pub member_unkeyed : (k : Keyed) → key_of (tokens (drop at s)) ≡ missed → k.held.ok ≡ false → KeyedSays s at numbers k (take_member (tokens (drop at s)))
-  member_unkeyed k e failed = rw (unkeyed (tokens (drop at s)) e) failed
+  pub member_unkeyed : key_of (tokens (drop at s)) ≡ missed → take_member (tokens (drop at s)) ≡ missed
+  member_unkeyed e = unkeyed (tokens (drop at s)) e
 
   module _ (key next : ℕ) (named : key_of (tokens (drop at s)) ≡ taking key (tokens (drop next s))) where
-    pub member_beyond : (k : Keyed) → key_count ≤ key → k.held.ok ≡ false → KeyedSays s at numbers k (take_member (tokens (drop at s)))
-    member_beyond k beyond failed =
-        rw (keyed (tokens (drop at s)) key (tokens (drop next s)) named, value_beyond key (tokens (drop next s)) beyond) failed
+    pub member_beyond : key_count ≤ key → take_member (tokens (drop at s)) ≡ missed
+    member_beyond beyond = rw (keyed (tokens (drop at s)) key (tokens (drop next s)) named, value_beyond key (tokens (drop next s)) beyond)
 
-    pub member_held : (h : Held) → key < key_count → Behind s at next → HeldSays s next key numbers h (take_value key (tokens (drop next s)))
-        → KeyedSays s at numbers (record { key = key; held = h }) (take_member (tokens (drop at s)))
-    member_held h known behind says =
-        rw (keyed (tokens (drop at s)) key (tokens (drop next s)) named) (told (take_value key (tokens (drop next s))) says)
-      where
-        told : (p : Taken Value) → HeldSays s next key numbers h p
-            → KeyedSays s at numbers (record { key = key; held = h }) (made (λ v. true) (λ v. record { key = key; value = v }) p)
-        told (taking v rest) says = (says.0, refl, known, says.1, (omega (arith, behind.0, says.2.0), says.2.1), says.3)
-        told missed says = says
+    pub member_missed : take_value key (tokens (drop next s)) ≡ missed → take_member (tokens (drop at s)) ≡ missed
+    member_missed e = rw (keyed (tokens (drop at s)) key (tokens (drop next s)) named, e)
 
--- what a member's answer says of the member
-pub keyed_missed : (s : List ℕ) (at : ℕ) (numbers : List ℕ) (k : Keyed) (p : Taken Member) → KeyedSays s at numbers k p → k.held.ok ≡ false → p ≡ missed
-keyed_missed s at numbers k (taking m rest) says failed = clash k.held.ok says.0 failed
-keyed_missed s at numbers k missed says failed = refl
-
-pub record MemberHeld (s : List ℕ) (at : ℕ) (numbers : List ℕ) (k : Keyed) (p : Taken Member) : Type 0 where
-  pub value : Value
-  pub taken : p ≡ taking (record { key = k.key; value = value }) (tokens (drop k.held.next s))
-  pub known : k.key < key_count
-  pub behind : Behind s at k.held.next
-  pub holds : HoldsValue s numbers k.key k.held.figure k.held.from k.held.len value
-
-pub keyed_took : (s : List ℕ) (at : ℕ) (numbers : List ℕ) (k : Keyed) (p : Taken Member) → KeyedSays s at numbers k p → k.held.ok ≡ true
-    → MemberHeld s at numbers k p
-keyed_took s at numbers k (taking m rest) says whole =
-    record { value = m.value; taken = rw (says.1, says.3); known = says.2; behind = says.4; holds = says.5 }
-keyed_took s at numbers k missed says whole = clash k.held.ok whole says
+    pub member_held : (h : Held) → key < key_count → Behind s at next → HeldSays s next key numbers (Some h) (take_value key (tokens (drop next s)))
+        → KeyedSays s at numbers (Some (record { key = key; held = h })) (take_member (tokens (drop at s)))
+    member_held h known behind says = (
+      says.0,
+      rw (keyed (tokens (drop at s)) key (tokens (drop next s)) named, says.1),
+      known,
+      (omega (arith, behind.0, says.2.0), says.2.1),
+      says.3,
+    )
 
 module _ {s : List ℕ} {begun : ℕ} {numbers : List ℕ} {seen : List Bool} {figures froms lens : List ℕ} {at : ℕ}
     (r : Read s begun numbers seen figures froms lens at) where
@@ -199,29 +163,26 @@ module _ {s : List ℕ} {begun : ℕ} {numbers : List ℕ} {seen : List Bool} {f
   all = members_in (tokens (drop begun s))
 
   -- no member follows
-  missing : take_member here ≡ missed → admitted all ≡ false
-  missing e = rw r.follow (admitted_missed r.members (members_in here) (members_missed here e))
-
-  pub read_missing : (new : List ℕ) (d : Draft) → take_member here ≡ missed → d.ok ≡ false → Answered s new d all
-  read_missing new d e failed = unanswered failed (missing e)
+  pub read_missing : take_member here ≡ missed → admitted all ≡ false
+  read_missing e = rw r.follow (admitted_missed r.members (members_in here) (members_missed here e))
 
   module _ (key : ℕ) (v : Value) (rest : List Token) (taken : take_member here ≡ taking (record { key = key; value = v }) rest) where
     abbrev member : Member
     member = record { key = key; value = v }
 
     -- the key was there before
-    pub read_again : (new : List ℕ) (d : Draft) → key < key_count → get_or seen key false ≡ true → d.ok ≡ false → Answered s new d all
-    read_again new d known again failed =
+    pub read_again : key < key_count → get_or seen key false ≡ true → admitted all ≡ false
+    read_again known again =
         let there : any (eqb key) (keys_of r.members) ≡ true = sym (r.kept.marked key known) ∙ again in
         let led = members_led here member rest taken in
-        unanswered failed (rw (r.follow, led.1) (admitted_again r.members member led.0 there))
+        rw (r.follow, led.1) (admitted_again r.members member led.0 there)
 
     follows : all ≡ prefixed r.members (continued members_in member (separation closes_object rest))
     follows = r.follow ∙ ap (prefixed r.members) (members_took here member rest taken)
 
     -- neither a comma nor the closing brace follows
-    pub read_broken : (new : List ℕ) (d : Draft) → separation closes_object rest ≡ broken → d.ok ≡ false → Answered s new d all
-    read_broken new d e failed = unanswered failed (rw (follows, e) (admitted_missed r.members missed refl))
+    pub read_broken : separation closes_object rest ≡ broken → admitted all ≡ false
+    read_broken e = rw (follows, e) (admitted_missed r.members missed refl)
 
     module _ (new : List ℕ) (figure from len : ℕ) (room : length new ≡ length numbers) (known : key < key_count) (fresh : get_or seen key false ≡ false)
         (apart : Apart key numbers new) (holds : HoldsValue s new key figure from len v) where
@@ -238,14 +199,15 @@ module _ {s : List ℕ} {begun : ℕ} {numbers : List ℕ} {seen : List Bool} {f
 
       -- the closing brace follows
       pub read_done : (next : ℕ) → separation closes_object rest ≡ no_more (tokens (drop next s))
-          → Answered s new (record {
-            ok = true;
+          → Drafted s new (record {
             next = next;
             seen = set seen key true;
             figures = set figures key figure;
             froms = set froms key from;
             lens = set lens key len;
           }) all
-      read_done next e =
-          answered (r.members ++ (member ∷ [])) refl (follows ∙ rw e (prefixed_done r.members member (tokens (drop next s))))
-          (kept_next r.kept r.placed key figure from len v known fresh apart holds)
+      read_done next e = (
+        r.members ++ (member ∷ []),
+        follows ∙ rw e (prefixed_done r.members member (tokens (drop next s))),
+        kept_next r.kept r.placed key figure from len v known fresh apart holds,
+      )

@@ -1,23 +1,17 @@
 -- Laws of keys and of what they hold, as the code's answers say them. Assumes nothing.
-use Prim.Native.Nat.{ℕ, ◌+◌, ◌≤◌, ◌<◌}
-use mathlib.Core.Path.{◌≡◌, refl, sym, ap, ◌∙◌}
-use mathlib.Core.List.{List, [], ◌∷◌}
-use mathlib.Core.Bool.{Bool, true, false, cond, ◌||◌}
-use native.Mathlib.Omega.{arith}
-use borrow.Author.Tests.{eqb-true, eqb-false, leb-true, lt-ltb, le-ltb, ltb-true, ltb-false}
-use lib.Dec.{eqb, leb, ltb}
-use lib.ListN.{length, take, drop}
+use Rattle.std.proofs.Common.{ℕ, ◌+◌, ◌≤◌, ◌<◌, ◌≡◌, refl, sym, ap, ◌∙◌, List, [], ◌∷◌, Bool, true, false, cond, ◌||◌, arith, eqb-true, leb-true, lt-ltb, le-ltb, ltb-true, ltb-false, eqb, leb, ltb, length, take, drop, Option, Some, None}
+use borrow.Author.Tests.{eqb-false}
 use Rattle.lists.specs.Tests.{cases, and_left}
 use Rattle.lists.specs.Lists.{every, splice, same}
 use Rattle.lists.specs.Splices.{splice_part, splice_behind, splice_before}
 use Rattle.rights.specs.Rights.{right_count}
 use Rattle.actions.specs.Actions.{use_limit}
-use Rattle.json_tokens.specs.Tokens.{Token, mark, text, no_token, colon, zero_mark, tokens}
-use Rattle.json_rules.specs.Names.{key_names, kind_names, default_domain, place_of, id_place, actor_place, kind_place, read_place, write_place, execute_place, flags_place, domain_place, depth_place}
-use Rattle.json_rules.specs.Members.{Setting, Value, letters, figure, figures, settings, Taken, missed, made, named, take_text, take_number, take_numbers, take_settings, take_zero, take_value, is_id_byte, is_id_text, id_length, taking}
+use Rattle.json_tokens.specs.Tokens.{Token, mark, text, no_token, zero_mark, tokens}
+use Rattle.json_rules.specs.Names.{kind_names, default_domain, place_of, id_place, actor_place, kind_place, read_place, write_place, execute_place, flags_place, domain_place, depth_place}
+use Rattle.json_rules.specs.Members.{Setting, Value, letters, figure, figures, settings, Taken, missed, made, take_text, take_number, take_numbers, take_settings, take_zero, take_value, is_id_byte, is_id_text, id_length, taking}
 use Rattle.json_rules.specs.Actions.{as_letters, as_figure, as_figures, as_settings, flags_of}
 use Rattle.json_reading.specs.declared.held.Held.{Held}
-use Rattle.json_reading.specs.Answers.{Behind, is_marked, key_of, is_text_key, block_of, list_room, limited, held_whole, HeldSays, HeldAnyway, Apart, HoldsValue}
+use Rattle.json_reading.specs.Answers.{Behind, is_marked, is_text_key, block_of, list_room, limited, held_whole, HeldSays, HeldAnyway, Apart, KeptApart, HoldsValue}
 use Rattle.json_reading.proofs.Laws.{past_unmarked}
 use Rattle.json_reading.proofs.Keys.{single_key, domain_last}
 
@@ -31,16 +25,6 @@ module _ (ts : List Token) where
 
   pub text_broken : (us : List Token) → ts ≡ no_token ∷ us → take_text ts ≡ missed
   text_broken us e = rw e
-
-  -- a key is a text with a colon behind it
-  pub key_at : (x : List ℕ) (key : ℕ) (us rest : List Token) → ts ≡ text x ∷ us → us ≡ mark colon ∷ rest → key ≡ place_of key_names x → key_of ts ≡ taking key rest
-  key_at x key us rest e f place = rw (e, f, place)
-
-  pub key_unmarked : (x : List ℕ) (us : List Token) → ts ≡ text x ∷ us → is_marked colon us ≡ false → key_of ts ≡ missed
-  key_unmarked x us e h = rw e (past_unmarked colon (λ rest. taking (place_of key_names x) rest) us h)
-
-  pub key_missed : take_text ts ≡ missed → key_of ts ≡ missed
-  key_missed e = ap (named key_names (λ k rest. taking k rest)) e
 
 -- what is made of what was taken, by whether it may stand
 module _ {A B : Type 0} (fits : A → Bool) (make : A → B) (p : Taken A) where
@@ -107,14 +91,16 @@ module _ (ts : List Token) where
   unfolding take_value
   value_depth = refl
 
--- what the code says of a key's value: nothing, or all that it keeps of it
+-- what the code says of a key's value: all that it keeps of it
 module _ (s : List ℕ) (at key : ℕ) (h : Held) (p : Taken Value) where
-  pub says_missed : p ≡ missed → h.ok ≡ false → HeldAnyway s at key h p
-  says_missed e f numbers = rw e f
-
   pub says_held : (v : Value) (next n from len : ℕ) → p ≡ taking v (tokens (drop next s)) → h ≡ held_whole next n from len →
-      at < next → next ≤ length s → ((numbers : List ℕ) → HoldsValue s numbers key n from len v) → HeldAnyway s at key h p
-  says_held v next n from len e f low high holds numbers = rw (e, f) (refl, refl, (low, high), holds numbers)
+      at < next → next ≤ length s → ((numbers : List ℕ) → HoldsValue s numbers key n from len v) → HeldAnyway s at key (Some h) p
+  says_held v next n from len e f low high holds numbers = rw f (v, e, (low, high), holds numbers)
+
+-- where the array is not touched, it is kept
+pub kept_same : (o : Option Held) (key : ℕ) (xs : List ℕ) → KeptApart o key xs xs
+kept_same (Some h) key xs = λ k n first last other few. refl
+kept_same None key xs = tt
 
 -- what is kept of a value, by its key
 module _ (s numbers : List ℕ) (key n from len : ℕ) (v : Value) where
@@ -226,13 +212,13 @@ module _ (key : ℕ) (ts : List Token) where
 module _ (s old new : List ℕ) (at key : ℕ) (low : read_place ≤ key) (high : key ≤ execute_place) (room : length old ≡ list_room) where
   pub list_held : (ns : List ℕ) (len next : ℕ) → limited (take_numbers (tokens (drop at s))) ≡ taking ns (tokens (drop next s)) → len ≡ length ns →
       len ≤ use_limit → new ≡ splice (block_of key) ns old → Behind s at next →
-      HeldSays s at key new (held_whole next 0 (block_of key) len) (take_value key (tokens (drop at s)))
+      HeldSays s at key new (Some (held_whole next 0 (block_of key) len)) (take_value key (tokens (drop at s)))
   list_held ns len next e long short written behind =
       let within : block_of key + length ns ≤ length old = omega arith in
       let kept : ns ≡ take len (drop (block_of key) new) = rw (written, long) (sym (splice_part (block_of key) ns old within)) in
       let value = value_list (tokens (drop at s)) key low high
       ∙ made_taken (λ ms. leb (length ms) use_limit) figures (take_numbers (tokens (drop at s))) ns (tokens (drop next s)) e in
-      rw value (refl, refl, behind, holds_list s new key 0 (block_of key) len (figures ns) low high kept short)
+      (figures ns, value, behind, holds_list s new key 0 (block_of key) len (figures ns) low high kept short)
 
   pub list_apart : (ns : List ℕ) → length ns ≤ use_limit → new ≡ splice (block_of key) ns old → Apart key old new
   list_apart ns short written k n first last other few =
@@ -242,8 +228,6 @@ module _ (s old new : List ℕ) (at key : ℕ) (low : read_place ≤ key) (high 
       (λ e. let before : k < key = ltb-true k key e in splice_before (block_of key) ns old within (block_of k) n (omega arith))
       (λ e. let behind : key ≤ k = ltb-false k key e in ap (λ l. take n l) (splice_behind (block_of key) ns old within (block_of k) (omega arith))))
 
-  pub list_missed : (h : Held) → limited (take_numbers (tokens (drop at s))) ≡ missed → h.ok ≡ false →
-      HeldSays s at key new h (take_value key (tokens (drop at s)))
-  list_missed h e f =
-      says_missed s at key h (take_value key (tokens (drop at s)))
-      (value_list (tokens (drop at s)) key low high ∙ made_untaken (λ ms. leb (length ms) use_limit) figures (take_numbers (tokens (drop at s))) e) f new
+  pub list_missed : limited (take_numbers (tokens (drop at s))) ≡ missed → take_value key (tokens (drop at s)) ≡ missed
+  list_missed e =
+      value_list (tokens (drop at s)) key low high ∙ made_untaken (λ ms. leb (length ms) use_limit) figures (take_numbers (tokens (drop at s))) e

@@ -1,18 +1,12 @@
 -- Laws of an object with nothing behind it: what the reading of its members says of it. Assumes nothing.
-use Prim.Native.Nat.{ℕ}
-use mathlib.Core.Path.{◌≡◌, refl, sym, ◌∙◌}
-use mathlib.Core.List.{List, [], ◌∷◌}
-use mathlib.Core.Bool.{false}
-use lib.Dec.{eqb}
-use lib.ListN.{drop}
-use Rattle.lists.specs.Tests.{cases, clash}
-use Rattle.lists.specs.Each.{cons_clash}
+use Rattle.std.proofs.Common.{ℕ, ◌≡◌, refl, sym, ◌∙◌, List, [], ◌∷◌, false, eqb, drop}
+use Rattle.lists.specs.Tests.{cases}
 use Rattle.json_tokens.specs.Tokens.{Token, mark, text, no_token, opens_object, closes_object, tokens}
 use Rattle.json_rules.specs.Members.{Member, Taken, taking, missed, past, led_by, any_items, take_member, sole, members_of}
 use Rattle.json_rules.specs.Items.{taken_cases, missed_took}
-use Rattle.json_reading.specs.Answers.{is_marked, admitted, admitted_whole, DraftSays}
+use Rattle.json_reading.specs.Answers.{is_marked, admitted, admitted_whole, Drafted}
 use Rattle.json_reading.specs.declared.members.Draft.{Draft}
-use Rattle.json_reading.proofs.Turns.{members_in, members_missed, members_led, Answered}
+use Rattle.json_reading.proofs.Turns.{members_in, members_missed, members_led}
 
 -- the members of an object, or none
 abbrev any_members : List Token → Taken (List Member)
@@ -41,39 +35,24 @@ members_admitted ts =
 any_admitted : (ts : List Token) → admitted_whole (any_members ts) ≡ admitted (members_in ts)
 any_admitted ts = any_members_lem ts (λ same. rw same (members_admitted ts)) (λ rest none e. rw (e, none))
 
--- what is answered of an object: whether it is admitted, and what is kept of its members
-abbrev pub Whole : List ℕ → List ℕ → Draft → Taken (List Member) → Type 0
-Whole s numbers d p = (d.ok ≡ admitted_whole p) × DraftSays s numbers d p
-
-any_whole : {s numbers : List ℕ} {d : Draft} (ts : List Token) → Answered s numbers d (members_in ts) → Whole s numbers d (any_members ts)
-any_whole {d = d} ts h = (
-  h.0 ∙ sym (any_admitted ts),
-  λ ms rest e whole.
-      any_members_lem ts (λ same. h.1 ms rest (sym same ∙ e) whole)
-      (λ behind none empty. clash d.ok whole (h.0 ∙ rw none)),
-)
+any_drafted : {s numbers : List ℕ} (d : Draft) (ts : List Token) → Drafted s numbers d (members_in ts) → Drafted s numbers d (any_members ts)
+any_drafted d ts h = (h.0, any_members_lem ts (λ same. same ∙ h.1) (λ behind none empty. missed_took (sym none ∙ h.1)), h.2)
 
 -- nothing follows
-sole_ended : {s numbers : List ℕ} (d : Draft) (p : Taken (List Member)) → Whole s numbers d p → tokens (drop d.next s) ≡ []
-    → Whole s numbers d (sole p)
-sole_ended d (taking ms []) h ended = h
-sole_ended d (taking ms (k ∷ ts)) h ended = (
-  cases d.ok (λ whole. cons_clash ((h.1 ms (k ∷ ts) refl whole).next ∙ ended)) (λ failed. failed),
-  λ ls rest e. missed_took e,
-)
-sole_ended d missed h ended = h
+sole_ended : {s numbers : List ℕ} (d : Draft) (p : Taken (List Member)) → Drafted s numbers d p → tokens (drop d.next s) ≡ []
+    → Drafted s numbers d (sole p)
+sole_ended d p h ended = (h.0, rw (h.1, ended), h.2)
 
 -- something follows
-sole_followed : {s numbers : List ℕ} (d : Draft) (p : Taken (List Member)) (k : Token) (ts : List Token) (e : Draft) → Whole s numbers d p
-    → tokens (drop d.next s) ≡ k ∷ ts → e.ok ≡ false → Whole s numbers e (sole p)
-sole_followed d (taking ms []) k ts e h follows failed = (
-  cases (admitted_whole (taking ms []))
-      (λ yes. cons_clash (sym follows ∙ sym (h.1 ms [] refl (h.0 ∙ yes)).next))
-      (λ none. failed ∙ sym none),
-  λ ls rest told whole. clash e.ok whole failed,
-)
-sole_followed d (taking ms (l ∷ us)) k ts e h follows failed = (failed, λ ls rest told whole. clash e.ok whole failed)
-sole_followed d missed k ts e h follows failed = (failed, λ ls rest told whole. clash e.ok whole failed)
+sole_followed : {s numbers : List ℕ} (d : Draft) (p : Taken (List Member)) (k : Token) (ts : List Token) → Drafted s numbers d p
+    → tokens (drop d.next s) ≡ k ∷ ts → admitted_whole (sole p) ≡ false
+sole_followed d p k ts h follows = rw (h.1, follows)
+
+-- what is not admitted is not with nothing behind it
+sole_unadmitted : (p : Taken (List Member)) → admitted_whole p ≡ false → admitted_whole (sole p) ≡ false
+sole_unadmitted (taking ms []) e = e
+sole_unadmitted (taking ms (k ∷ ts)) e = refl
+sole_unadmitted missed e = refl
 
 unmarked : {A : Type 0} (b : ℕ) (more : List Token → Taken A) (ts : List Token) → is_marked b ts ≡ false → past b more ts ≡ missed
 unmarked b more [] e = refl
@@ -81,22 +60,24 @@ unmarked b more (mark c ∷ ts) e = rw e
 unmarked b more (text x ∷ ts) e = refl
 unmarked b more (no_token ∷ ts) e = refl
 
-module _ {s : List ℕ} where
-  -- no object begins
-  pub object_unopened : (numbers : List ℕ) (d : Draft) → is_marked opens_object (tokens s) ≡ false → d.ok ≡ false
-      → Whole s numbers d (members_of (tokens s))
-  unfolding members_of
-  object_unopened numbers d e failed =
-      rw (unmarked opens_object any_members (tokens s) e) (failed, λ ms rest told whole. clash d.ok whole failed)
+-- no object begins
+pub object_unopened : (ts : List Token) → is_marked opens_object ts ≡ false → admitted_whole (members_of ts) ≡ false
+unfolding members_of
+object_unopened ts e = rw (unmarked opens_object any_members ts e)
 
-  module _ (numbers : List ℕ) (ts : List Token) (opened : tokens s ≡ mark opens_object ∷ ts) (d : Draft) (read : Answered s numbers d (members_in ts)) where
+module _ (ts us : List Token) (opened : ts ≡ mark opens_object ∷ us) where
+  -- its members are not admitted
+  pub object_unadmitted : admitted (members_in us) ≡ false → admitted_whole (members_of ts) ≡ false
+  unfolding members_of
+  object_unadmitted e = rw opened (sole_unadmitted (any_members us) (any_admitted us ∙ e))
+
+  module _ {s numbers : List ℕ} (d : Draft) (read : Drafted s numbers d (members_in us)) where
     -- nothing stands behind the object
-    pub object_ended : tokens (drop d.next s) ≡ [] → Whole s numbers d (members_of (tokens s))
+    pub object_ended : tokens (drop d.next s) ≡ [] → Drafted s numbers d (members_of ts)
     unfolding members_of
-    object_ended ended = rw opened (sole_ended d (any_members ts) (any_whole ts read) ended)
+    object_ended ended = rw opened (sole_ended d (any_members us) (any_drafted d us read) ended)
 
     -- something stands behind it
-    pub object_followed : (e : Draft) (k : Token) (rest : List Token) → tokens (drop d.next s) ≡ k ∷ rest → e.ok ≡ false
-        → Whole s numbers e (members_of (tokens s))
+    pub object_followed : (k : Token) (rest : List Token) → tokens (drop d.next s) ≡ k ∷ rest → admitted_whole (members_of ts) ≡ false
     unfolding members_of
-    object_followed e k rest follows failed = rw opened (sole_followed d (any_members ts) k rest e (any_whole ts read) follows failed)
+    object_followed k rest follows = rw opened (sole_followed d (any_members us) k rest (any_drafted d us read) follows)

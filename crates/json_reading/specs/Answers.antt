@@ -1,6 +1,6 @@
 -- Working: What the code's answers say of the tokens from a position on. `json_read` of json_actions is what they lead to, by the contract of
 -- `read_json`.
-use Rattle.std.specs.Prelude.{ℕ, zero, suc, ◌+◌, ◌-◌, ◌*◌, ◌^◌, ◌≤◌, ◌<◌, ◌≡◌, List, [], ◌∷◌, ◌++◌, map, Bool, true, false, cond, ◌||◌, eqb, leb, length, take, drop, get_or, replicate}
+use Rattle.std.specs.Prelude.{ℕ, zero, suc, ◌+◌, ◌-◌, ◌*◌, ◌^◌, ◌≤◌, ◌<◌, ◌≡◌, List, [], ◌∷◌, ◌++◌, map, Bool, true, false, cond, ◌||◌, eqb, leb, length, take, drop, get_or, replicate, Option, Some, None}
 use Rattle.lists.specs.Lists.{any, every, All, counted, splice, distinct}
 use Rattle.decimals.specs.Decimals.{Parsed}
 use Rattle.actions.specs.Actions.{no_use, use_limit, flag_count}
@@ -10,38 +10,24 @@ use Rattle.json_rules.specs.Names.{key_names, id_place, actor_place, kind_place,
 use Rattle.json_rules.specs.Members.{Setting, Value, Member, Taken, taking, missed, made, named, take_text, is_exact, exact_of, is_full_set, id_length}
 use Rattle.json_rules.specs.Actions.{as_letters, as_figure, as_figures, as_settings, flags_of, used_with}
 use Rattle.json_rules.specs.Items.{key_count}
-use Rattle.json_reading.specs.declared.numbers.Exact.{Exact}
-use Rattle.json_reading.specs.declared.numbers.Exact.TheVariants.{Is, Not}
-use Rattle.json_reading.specs.declared.numbers.NumberAt.{NumberAt}
-use Rattle.json_reading.specs.declared.numbers.NumberAt.TheVariants.{Is as NumberIs, Not as NoNumber}
 use Rattle.json_reading.specs.declared.marks.Separator.{Separator}
-use Rattle.json_reading.specs.declared.marks.Separator.TheVariants.{More, Done, Broken}
-use Rattle.json_reading.specs.declared.marks.Passed.{Passed}
-use Rattle.json_reading.specs.declared.marks.Passed.TheVariants.{At, Not as NotPassed}
-use Rattle.json_reading.specs.declared.numbers.Numbers.{Numbers}
-use Rattle.json_reading.specs.declared.numbers.Numbers.TheVariants.{Are, Not as NoNumbers}
-use Rattle.json_reading.specs.declared.settings.SettingAt.{SettingAt}
-use Rattle.json_reading.specs.declared.settings.SettingAt.TheVariants.{Is as SettingIs, Not as NoSetting}
-use Rattle.json_reading.specs.declared.settings.Settings.{Settings}
-use Rattle.json_reading.specs.declared.settings.Settings.TheVariants.{Are as SettingsAre, Not as NoSettings}
-use Rattle.json_reading.specs.declared.members.Named.{Named}
-use Rattle.json_reading.specs.declared.members.Named.TheVariants.{At as NamedAt, Not as NotNamed}
+use Rattle.json_reading.specs.declared.marks.Separator.TheVariants.{More, Done}
 use Rattle.json_reading.specs.declared.held.Held.{Held}
 use Rattle.json_reading.specs.declared.members.Keyed.{Keyed}
 use Rattle.json_reading.specs.declared.members.Draft.{Draft}
 
 -- a text is one of our decimals and nothing else
-abbrev pub ExactSays : Exact → Parsed → Type 0
-ExactSays (Is n) p = (is_exact p ≡ true) × (exact_of p ≡ n)
-ExactSays Not p = is_exact p ≡ false
+abbrev pub ExactSays : Option ℕ → Parsed → Type 0
+ExactSays (Some n) p = (is_exact p ≡ true) × (exact_of p ≡ n)
+ExactSays None p = is_exact p ≡ false
 
 -- the position of s behind what was read from `at` on
 abbrev pub Behind : List ℕ → ℕ → ℕ → Type 0
 Behind s at next = (at < next) × (next ≤ length s)
 
-abbrev pub NumberSays : List ℕ → ℕ → NumberAt → Taken ℕ → Type 0
-NumberSays s at (NumberIs n next) p = (p ≡ taking n (tokens (drop next s))) × Behind s at next
-NumberSays s at NoNumber p = p ≡ missed
+abbrev pub NumberSays : List ℕ → ℕ → Option (ℕ × ℕ) → Taken ℕ → Type 0
+NumberSays s at (Some r) p = (p ≡ taking r.0 (tokens (drop r.1 s))) × Behind s at r.1
+NumberSays s at None p = p ≡ missed
 
 -- what follows an item: a comma, with the tokens behind it; the closing mark; or neither
 pub data Separation : Type 0 where
@@ -55,10 +41,10 @@ separation close (mark b ∷ ts) = cond (eqb b comma) (more ts) (cond (eqb b clo
 separation close (text x ∷ ts) = broken
 separation close (no_token ∷ ts) = broken
 
-abbrev pub SeparatorSays : List ℕ → ℕ → Separator → Separation → Type 0
-SeparatorSays s at (More next) p = (p ≡ more (tokens (drop next s))) × Behind s at next
-SeparatorSays s at (Done next) p = (p ≡ no_more (tokens (drop next s))) × Behind s at next
-SeparatorSays s at Broken p = p ≡ broken
+abbrev pub SeparatorSays : List ℕ → ℕ → Option Separator → Separation → Type 0
+SeparatorSays s at (Some (More next)) p = (p ≡ more (tokens (drop next s))) × Behind s at next
+SeparatorSays s at (Some (Done next)) p = (p ≡ no_more (tokens (drop next s))) × Behind s at next
+SeparatorSays s at None p = p ≡ broken
 
 -- whether some tokens begin with a mark
 abbrev pub is_marked : ℕ → List Token → Bool
@@ -67,49 +53,49 @@ is_marked b (mark c ∷ ts) = eqb c b
 is_marked b (text x ∷ ts) = false
 is_marked b (no_token ∷ ts) = false
 
-abbrev pub PassedSays : List ℕ → ℕ → ℕ → Passed → List Token → Type 0
-PassedSays s at b (At next) ts = (ts ≡ mark b ∷ tokens (drop next s)) × Behind s at next
-PassedSays s at b NotPassed ts = is_marked b ts ≡ false
+abbrev pub PassedSays : List ℕ → ℕ → ℕ → Option ℕ → List Token → Type 0
+PassedSays s at b (Some next) ts = (ts ≡ mark b ∷ tokens (drop next s)) × Behind s at next
+PassedSays s at b None ts = is_marked b ts ≡ false
 
 -- a list of at most 32 numbers
 abbrev pub limited : Taken (List ℕ) → Taken (List ℕ)
 limited p = made (λ ns. leb (length ns) use_limit) (λ ns. ns) p
 
 -- the numbers of a list, which stand in the array from `base` on
-abbrev pub NumbersSays : List ℕ → ℕ → ℕ → List ℕ → List ℕ → Numbers → Taken (List ℕ) → Type 0
-NumbersSays s at base old new (Are count next) p =
-    (ns : List ℕ) × (p ≡ taking ns (tokens (drop next s))) × (count ≡ length ns) × (count ≤ use_limit) × (new ≡ splice base ns old) × Behind s at next
-NumbersSays s at base old new NoNumbers p = p ≡ missed
+abbrev pub NumbersSays : List ℕ → ℕ → ℕ → List ℕ → List ℕ → Option (ℕ × ℕ) → Taken (List ℕ) → Type 0
+NumbersSays s at base old new (Some r) p =
+    (ns : List ℕ) × (p ≡ taking ns (tokens (drop r.1 s))) × (r.0 ≡ length ns) × (r.0 ≤ use_limit) × (new ≡ splice base ns old) × Behind s at r.1
+NumbersSays s at base old new None p = p ≡ missed
 
-abbrev pub SettingSays : List ℕ → ℕ → SettingAt → Taken Setting → Type 0
-SettingSays s at (SettingIs flag on next) p =
-    (p ≡ taking (record { flag = flag; set = on }) (tokens (drop next s))) × (flag < flag_count) × Behind s at next
-SettingSays s at NoSetting p = p ≡ missed
+abbrev pub SettingSays : List ℕ → ℕ → Option (ℕ × Bool × ℕ) → Taken Setting → Type 0
+SettingSays s at (Some r) p =
+    (p ≡ taking (record { flag = r.0; set = r.1 }) (tokens (drop r.2 s))) × (r.0 < flag_count) × Behind s at r.2
+SettingSays s at None p = p ≡ missed
 
 -- the flags' number, by whether each was seen and is set
 unfoldable pub flags_in : ℕ → List Bool → ℕ
 flags_in zero set = 0
 flags_in (suc i) set = flags_in i set + cond (get_or set i false) (2 ^ i) 0
 
-unfoldable pub flags_found : List Bool → List Bool → ℕ → Settings
-flags_found seen set next = cond (every (λ i. get_or seen i false) (counted 0 flag_count)) (SettingsAre (flags_in flag_count set) next) NoSettings
+unfoldable pub flags_found : List Bool → List Bool → ℕ → Option (ℕ × ℕ)
+flags_found seen set next = cond (every (λ i. get_or seen i false) (counted 0 flag_count)) (Some (flags_in flag_count set, next)) None
 
 -- the ten flags, each once
 abbrev pub full_set : Taken (List Setting) → Taken (List Setting)
 full_set p = made is_full_set (λ ss. ss) p
 
-abbrev pub SettingsSays : List ℕ → ℕ → Settings → Taken (List Setting) → Type 0
-SettingsSays s at (SettingsAre flags next) p =
-    (ss : List Setting) × (p ≡ taking ss (tokens (drop next s))) × (flags ≡ flags_of ss) × Behind s at next
-SettingsSays s at NoSettings p = p ≡ missed
+abbrev pub SettingsSays : List ℕ → ℕ → Option (ℕ × ℕ) → Taken (List Setting) → Type 0
+SettingsSays s at (Some r) p =
+    (ss : List Setting) × (p ≡ taking ss (tokens (drop r.1 s))) × (r.0 ≡ flags_of ss) × Behind s at r.1
+SettingsSays s at None p = p ≡ missed
 
 -- a key by its place, and its colon
 abbrev pub key_of : List Token → Taken ℕ
 key_of ts = named key_names (λ k rest. taking k rest) (take_text ts)
 
-abbrev pub NamedSays : List ℕ → ℕ → Named → Taken ℕ → Type 0
-NamedSays s at (NamedAt key next) p = (p ≡ taking key (tokens (drop next s))) × Behind s at next
-NamedSays s at NotNamed p = p ≡ missed
+abbrev pub NamedSays : List ℕ → ℕ → Option (ℕ × ℕ) → Taken ℕ → Type 0
+NamedSays s at (Some r) p = (p ≡ taking r.0 (tokens (drop r.1 s))) × Behind s at r.1
+NamedSays s at None p = p ≡ missed
 
 -- the keys that hold a text, and those whose code answers a number
 abbrev pub is_text_key : ℕ → Bool
@@ -133,15 +119,15 @@ pub record HoldsValue (s numbers : List ℕ) (key figure from len : ℕ) (v : Va
   pub flags : key ≡ flags_place → flags_of (as_settings v) ≡ figure
 
 abbrev pub held_whole : ℕ → ℕ → ℕ → ℕ → Held
-held_whole next figure from len = record { ok = true; next = next; figure = figure; from = from; len = len }
+held_whole next figure from len = record { next = next; figure = figure; from = from; len = len }
 
-abbrev pub HeldSays : List ℕ → ℕ → ℕ → List ℕ → Held → Taken Value → Type 0
-HeldSays s at key numbers h (taking v rest) =
-    (h.ok ≡ true) × (rest ≡ tokens (drop h.next s)) × Behind s at h.next × HoldsValue s numbers key h.figure h.from h.len v
-HeldSays s at key numbers h missed = h.ok ≡ false
+abbrev pub HeldSays : List ℕ → ℕ → ℕ → List ℕ → Option Held → Taken Value → Type 0
+HeldSays s at key numbers (Some h) p =
+    (v : Value) × (p ≡ taking v (tokens (drop h.next s))) × Behind s at h.next × HoldsValue s numbers key h.figure h.from h.len v
+HeldSays s at key numbers None p = p ≡ missed
 
 -- the same whatever stands in the array: the key holds no list
-abbrev pub HeldAnyway : List ℕ → ℕ → ℕ → Held → Taken Value → Type 0
+abbrev pub HeldAnyway : List ℕ → ℕ → ℕ → Option Held → Taken Value → Type 0
 HeldAnyway s at key h p = (numbers : List ℕ) → HeldSays s at key numbers h p
 
 -- the other keys' numbers are as they were
@@ -149,15 +135,20 @@ abbrev pub Apart : ℕ → List ℕ → List ℕ → Type 0
 Apart key old new =
     (k n : ℕ) → read_place ≤ k → k ≤ execute_place → (k ≡ key → ⊥) → n ≤ use_limit → take n (drop (block_of k) new) ≡ take n (drop (block_of k) old)
 
-abbrev pub KeptApart : Held → ℕ → List ℕ → List ℕ → Type 0
-KeptApart h key old new = h.ok ≡ true → Apart key old new
+abbrev pub KeptApart : Option Held → ℕ → List ℕ → List ℕ → Type 0
+KeptApart (Some h) key old new = Apart key old new
+KeptApart None key old new = Unit {0}
 
 -- a member: its key by its place, and what that holds
-abbrev pub KeyedSays : List ℕ → ℕ → List ℕ → Keyed → Taken Member → Type 0
-KeyedSays s at numbers k (taking m rest) =
-    (k.held.ok ≡ true) × (k.key ≡ m.key) × (k.key < key_count) × (rest ≡ tokens (drop k.held.next s)) × Behind s at k.held.next
-    × HoldsValue s numbers k.key k.held.figure k.held.from k.held.len m.value
-KeyedSays s at numbers k missed = k.held.ok ≡ false
+abbrev pub KeyedSays : List ℕ → ℕ → List ℕ → Option Keyed → Taken Member → Type 0
+KeyedSays s at numbers (Some k) p =
+    (v : Value) × (p ≡ taking (record { key = k.key; value = v }) (tokens (drop k.held.next s))) × (k.key < key_count) × Behind s at k.held.next
+    × HoldsValue s numbers k.key k.held.figure k.held.from k.held.len v
+KeyedSays s at numbers None p = p ≡ missed
+
+abbrev pub KeyedApart : Option Keyed → List ℕ → List ℕ → Type 0
+KeyedApart (Some k) old new = Apart k.key old new
+KeyedApart None old new = Unit {0}
 
 -- members are admitted where each key is there once
 abbrev pub keys_of : List Member → List ℕ
@@ -183,7 +174,6 @@ pub record KeptMembers (s numbers : List ℕ) (ms : List Member) (seen : List Bo
 -- nothing was read
 abbrev pub no_draft : Draft
 no_draft = record {
-  ok = false;
   next = 0;
   seen = replicate key_count false;
   figures = replicate key_count 0;
@@ -191,12 +181,17 @@ no_draft = record {
   lens = replicate key_count 0;
 }
 
-pub record Drafted (s numbers : List ℕ) (ms : List Member) (rest : List Token) (d : Draft) : Type 0 where
-  pub next : rest ≡ tokens (drop d.next s)
-  pub kept : KeptMembers s numbers ms d.seen d.figures d.froms d.lens
+-- what was read of some members, which are admitted; or that they are not
+abbrev pub Drafted : List ℕ → List ℕ → Draft → Taken (List Member) → Type 0
+Drafted s numbers d p = (ms : List Member) × (p ≡ taking ms (tokens (drop d.next s))) × KeptMembers s numbers ms d.seen d.figures d.froms d.lens
 
-abbrev pub DraftSays : List ℕ → List ℕ → Draft → Taken (List Member) → Type 0
-DraftSays s numbers d p = (ms : List Member) (rest : List Token) → p ≡ taking ms rest → d.ok ≡ true → Drafted s numbers ms rest d
+abbrev pub DraftSays : List ℕ → List ℕ → Option Draft → Taken (List Member) → Type 0
+DraftSays s numbers (Some d) p = Drafted s numbers d p
+DraftSays s numbers None p = admitted p ≡ false
+
+abbrev pub WholeSays : List ℕ → List ℕ → Option Draft → Taken (List Member) → Type 0
+WholeSays s numbers (Some d) p = Drafted s numbers d p
+WholeSays s numbers None p = admitted_whole p ≡ false
 
 -- the first seven keys were seen
 abbrev pub draft_full : List Bool → Bool

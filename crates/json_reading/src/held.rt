@@ -1,38 +1,24 @@
 // What a key of an action holds: an id, a number, a kind, a list of numbers, the flags, the one trust domain, the depth 0.
-ghost use Rattle.std.specs.Prelude.{◌≡◌, true, false, ◌<◌, length, drop};
+ghost use Rattle.std.specs.Prelude.{◌≡◌, true, ◌<◌, length, drop};
 ghost use Rattle.json_tokens.specs.Tokens.{tokens};
 ghost use Rattle.json_rules.specs.Members.{take_value};
 ghost use Rattle.json_rules.specs.Items.{key_count};
 ghost use Rattle.json_reading.specs.Answers.{is_text_key, is_figure_key, HeldSays, HeldAnyway, KeptApart, list_room, held_whole};
 
-use crate::marks::{Passed, pass_mark};
-use crate::numbers::{NumberAt, Numbers, read_number, read_numbers};
+use crate::marks::pass_mark;
+use crate::numbers::{read_number, read_numbers};
 use crate::places::{ACTOR, DOMAIN, EXECUTES, ID, KIND, READS, SETTINGS, kind_place};
-use crate::settings::{Settings, read_settings};
+use crate::settings::read_settings;
 use actions::Action;
 use json_tokens::{TokenAt, ZERO};
 
 // What a key holds, with the position behind it: a number; or where its bytes begin and how many there are; or how many numbers it has.
 #[derive(Clone, Copy)]
 pub(crate) struct Held {
-    pub(crate) ok: bool,
     pub(crate) next: usize,
     pub(crate) figure: u32,
     pub(crate) from: usize,
     pub(crate) len: usize,
-}
-
-// Nothing that a key may hold.
-pub(crate) fn not_held() -> Held
-    ensures { result.ok ≡ false }
-{
-    Held {
-        ok: false,
-        next: 0,
-        figure: 0,
-        from: 0,
-        len: 0,
-    }
 }
 
 // A number that a key holds.
@@ -40,7 +26,6 @@ fn held_number(figure: u32, next: usize) -> Held
     ensures { result ≡ held_whole next figure 0 0 }
 {
     Held {
-        ok: true,
         next,
         figure,
         from: 0,
@@ -49,7 +34,7 @@ fn held_number(figure: u32, next: usize) -> Held
 }
 
 // What the id, the kind or the trust domain holds at `at`: a text.
-fn read_text(s: &[u8], at: usize, key: usize) -> Held
+fn read_text(s: &[u8], at: usize, key: usize) -> Option<Held>
     requires { is_text_key key ≡ true }
     ensures { HeldAnyway s.now at key result (take_value key (tokens (drop at s.now))) }
 {
@@ -57,75 +42,65 @@ fn read_text(s: &[u8], at: usize, key: usize) -> Held
         TokenAt::Text(from, end) => {
             if key == ID {
                 if json_rules::is_id(&s[from..end]) {
-                    return Held {
-                        ok: true,
+                    return Some(Held {
                         next: end + 1,
                         figure: 0,
                         from,
                         len: end - from,
-                    };
+                    });
                 }
-                return not_held();
+                return None;
             }
             if key == KIND {
                 let kind = kind_place(&s[from..end]);
                 if kind <= rights::POLICY_MODIFY {
-                    return held_number(kind, end + 1);
+                    return Some(held_number(kind, end + 1));
                 }
-                return not_held();
+                return None;
             }
             if lists::is_same(b"default", &s[from..end]) {
-                return held_number(0, end + 1);
+                return Some(held_number(0, end + 1));
             }
-            not_held()
+            None
         }
-        TokenAt::Mark(_, _) => not_held(),
-        TokenAt::End => not_held(),
-        TokenAt::Bad => not_held(),
+        TokenAt::Mark(_, _) => None,
+        TokenAt::End => None,
+        TokenAt::Bad => None,
     }
 }
 
 // What the actor, the flags or the depth holds at `at`: a number.
-fn read_figure(s: &[u8], at: usize, key: usize) -> Held
+fn read_figure(s: &[u8], at: usize, key: usize) -> Option<Held>
     requires { is_figure_key key ≡ true }
     ensures { HeldAnyway s.now at key result (take_value key (tokens (drop at s.now))) }
 {
     if key == ACTOR {
-        return match read_number(s, at) {
-            NumberAt::Is(n, next) => held_number(n, next),
-            NumberAt::Not => not_held(),
-        };
+        let (n, next) = read_number(s, at)?;
+        return Some(held_number(n, next));
     }
     if key == SETTINGS {
-        return match read_settings(s, at) {
-            Settings::Are(flags, next) => held_number(flags, next),
-            Settings::Not => not_held(),
-        };
+        let (flags, next) = read_settings(s, at)?;
+        return Some(held_number(flags, next));
     }
-    match pass_mark(s, at, ZERO) {
-        Passed::At(next) => held_number(0, next),
-        Passed::Not => not_held(),
-    }
+    let next = pass_mark(s, at, ZERO)?;
+    Some(held_number(0, next))
 }
 
 // What a key holds at `at`; the numbers of a list go into the array, to the list's own places.
-pub(crate) fn read_value(s: &[u8], at: usize, key: usize, numbers: &mut [u32]) -> Held
+pub(crate) fn read_value(s: &[u8], at: usize, key: usize, numbers: &mut [u32]) -> Option<Held>
     requires { (key < key_count) × (length numbers.old ≡ list_room) }
     ensures held { HeldSays s.now at key numbers.new result (take_value key (tokens (drop at s.now))) }
     ensures kept { KeptApart result key numbers.old numbers.new }
 {
     if (READS <= key) & (key <= EXECUTES) {
         let base = (key - READS) * Action::USES;
-        return match read_numbers(s, at, numbers, base) {
-            Numbers::Are(len, next) => Held {
-                ok: true,
-                next,
-                figure: 0,
-                from: base,
-                len,
-            },
-            Numbers::Not => not_held(),
-        };
+        let (len, next) = read_numbers(s, at, numbers, base)?;
+        return Some(Held {
+            next,
+            figure: 0,
+            from: base,
+            len,
+        });
     }
     if (key == ID) | (key == KIND) | (key == DOMAIN) {
         return read_text(s, at, key);

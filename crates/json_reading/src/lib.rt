@@ -19,7 +19,7 @@ use actions::{Action, Usage};
 use json_rules::{ID_BYTES, JsonRead};
 use members::read_object;
 use places::{ACTOR, DOMAIN, EXECUTES, ID, KEYS, KIND, READS, SETTINGS, WRITES};
-use refusals::{Outcome, Refusal};
+use refusals::Refusal;
 use register::MOMENT_END;
 
 // How many numbers the three lists have room for, 32 each.
@@ -30,12 +30,10 @@ fn is_full(seen: [bool; KEYS], reads: usize, writes: usize, executes: usize) -> 
     requires { (reads ≤ use_limit) × (writes ≤ use_limit) × (executes ≤ use_limit) }
     ensures { result ≡ (draft_full seen && leb (reads + writes + executes) use_limit) }
 {
-    let mut i: usize = 0;
-    while i < DOMAIN {
-        if !seen[i] {
+    for there in &seen[..DOMAIN] {
+        if !*there {
             return false;
         }
-        i += 1;
     }
     reads + writes + executes <= Action::USES
 }
@@ -51,8 +49,7 @@ fn uses_of(numbers: &[u32], reads: usize, writes: usize, executes: usize) -> [Us
     };
     let mut uses = [none; Action::USES];
     let used = reads + writes + executes;
-    let mut i: usize = 0;
-    while i < used {
+    for i in 0..used {
         if i < reads {
             uses[i] = Usage {
                 resource: numbers[i],
@@ -69,7 +66,6 @@ fn uses_of(numbers: &[u32], reads: usize, writes: usize, executes: usize) -> [Us
                 right: rights::EXECUTE,
             };
         }
-        i += 1;
     }
     uses
 }
@@ -80,11 +76,7 @@ fn id_of(s: &[u8], from: usize, len: usize) -> [u8; ID_BYTES]
     ensures { result ≡ held_id (take len (drop from s.now)) }
 {
     let mut id = [0u8; ID_BYTES];
-    let mut i: usize = 0;
-    while i < len {
-        id[i] = s[from + i];
-        i += 1;
-    }
+    id[..len].copy_from_slice(&s[from..from + len]);
     id
 }
 
@@ -110,7 +102,7 @@ fn refused(why: Refusal) -> JsonRead
     let id = [0u8; ID_BYTES];
     JsonRead {
         action,
-        outcome: Outcome::Refused(why),
+        outcome: Err(why),
         kind: 0,
         len: 0,
         id,
@@ -125,10 +117,9 @@ pub fn read_json(text: &[u8], moment: u64) -> JsonRead
         return refused(Refusal::Range);
     }
     let mut numbers = [0u32; NUMBERS];
-    let draft = read_object(text, &mut numbers);
-    if !draft.ok {
+    let Some(draft) = read_object(text, &mut numbers) else {
         return refused(Refusal::JsonForm);
-    }
+    };
     let seen = draft.seen;
     let reads = draft.lens[READS];
     let writes = draft.lens[WRITES];
@@ -151,7 +142,7 @@ pub fn read_json(text: &[u8], moment: u64) -> JsonRead
     let id = id_of(text, draft.froms[ID], len);
     JsonRead {
         action,
-        outcome: Outcome::Accepted,
+        outcome: Ok(()),
         kind: draft.figures[KIND],
         len: len as u32,
         id,

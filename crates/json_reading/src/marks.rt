@@ -10,49 +10,41 @@ use json_tokens::{COMMA, TokenAt};
 pub(crate) enum Separator {
     More(usize),
     Done(usize),
-    Broken,
-}
-
-// The position behind a mark.
-#[derive(Clone, Copy)]
-pub(crate) enum Passed {
-    At(usize),
-    Not,
 }
 
 // What follows an item at `at`.
-pub(crate) fn read_separator(s: &[u8], at: usize, close: u8) -> Separator
+pub(crate) fn read_separator(s: &[u8], at: usize, close: u8) -> Option<Separator>
     ensures { SeparatorSays s.now at result (separation close (tokens (drop at s.now))) }
 {
     match json_tokens::next_token(s, at) {
         TokenAt::Mark(b, next) => {
             if b == COMMA {
-                return Separator::More(next);
+                return Some(Separator::More(next));
             }
             if b == close {
-                return Separator::Done(next);
+                return Some(Separator::Done(next));
             }
-            Separator::Broken
+            None
         }
-        TokenAt::Text(_, _) => Separator::Broken,
-        TokenAt::End => Separator::Broken,
-        TokenAt::Bad => Separator::Broken,
+        TokenAt::Text(_, _) => None,
+        TokenAt::End => None,
+        TokenAt::Bad => None,
     }
 }
 
-// Passes a mark at `at`.
-pub(crate) fn pass_mark(s: &[u8], at: usize, mark: u8) -> Passed
+// The position behind a mark that stands at `at`.
+pub(crate) fn pass_mark(s: &[u8], at: usize, mark: u8) -> Option<usize>
     ensures { PassedSays s.now at mark result (tokens (drop at s.now)) }
 {
     match json_tokens::next_token(s, at) {
         TokenAt::Mark(b, next) => {
             if b == mark {
-                return Passed::At(next);
+                return Some(next);
             }
-            Passed::Not
+            None
         }
-        TokenAt::Text(_, _) => Passed::Not,
-        TokenAt::End => Passed::Not,
-        TokenAt::Bad => Passed::Not,
+        TokenAt::Text(_, _) => None,
+        TokenAt::End => None,
+        TokenAt::Bad => None,
     }
 }

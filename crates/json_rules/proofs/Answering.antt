@@ -1,15 +1,8 @@
 -- What a reading answers where it does not accept, and texts with the same tokens. Assumes nothing.
-use Prim.Native.Nat.{ℕ, ◌≤◌, ◌<◌}
-use mathlib.Core.Path.{◌≡◌, refl, sym, ap, ◌∙◌}
-use mathlib.Core.Bool.{true, cond}
-use mathlib.Core.List.{List}
-use native.Mathlib.Omega.{arith}
-use borrow.Author.Tests.{lt-ltb, le-ltb, ltb-true, ltb-false}
-use lib.Dec.{ltb}
+use Rattle.std.proofs.Common.{Err, Ok, ℕ, ◌≤◌, ◌<◌, ◌≡◌, refl, sym, ap, ◌∙◌, true, cond, List, arith, lt-ltb, le-ltb, ltb-true, ltb-false, ltb}
 use Rattle.lists.specs.Tests.{cases}
 use Rattle.lists.specs.Lists.{All}
 use Rattle.register.specs.Limits.{moment_end}
-use Rattle.refusals.specs.declared.Outcome.TheVariants.{Accepted, Refused}
 use Rattle.refusals.specs.declared.Refusal.{Refusal}
 use Rattle.refusals.specs.declared.Refusal.TheVariants.{Range, JsonForm}
 use Rattle.json_tokens.specs.Tokens.{Token, tokens}
@@ -29,13 +22,13 @@ pub blanks_read : (ws : List (List ℕ)) (ts : List Token) (moment : ℕ) → Al
 blanks_read ws ts moment h k = read_tokens (spaced ws ts) (spelled_all ts) moment (tokens_spaced ws ts h k ∙ sym (tokens_spelled ts k))
 
 -- members are read whole, or refused
-members_refused : (moment : ℕ) (x : Taken (List Member)) (why : Refusal) → (read_members moment x).outcome ≡ Refused why
+members_refused : (moment : ℕ) (x : Taken (List Member)) (why : Refusal) → (read_members moment x).outcome ≡ Err why
     → (why ≡ JsonForm) × (read_members moment x ≡ unread JsonForm)
 members_refused moment (taking ms ts) why h =
     cases (is_full ms)
-    (λ full. let read : Accepted ≡ Refused why = ap (λ b. (cond b (read_whole moment ms) (unread JsonForm)).outcome) (sym full) ∙ h in
+    (λ full. let read : (Ok tt) ≡ Err why = ap (λ b. (cond b (read_whole moment ms) (unread JsonForm)).outcome) (sym full) ∙ h in
     let never : ◌≡◌ {A = ℕ} 0 1 = cc in absurd (omega arith))
-    (λ n. let read : Refused JsonForm ≡ Refused why = ap (λ b. (cond b (read_whole moment ms) (unread JsonForm)).outcome) (sym n) ∙ h in
+    (λ n. let read : Err JsonForm ≡ Err why = ap (λ b. (cond b (read_whole moment ms) (unread JsonForm)).outcome) (sym n) ∙ h in
     (cc, rw n))
 members_refused moment missed why h = (cc, refl)
 
@@ -48,14 +41,14 @@ pub in_time : (t : List ℕ) (moment : ℕ) → moment < moment_end → json_rea
 unfolding json_read
 in_time t moment h = rw (lt-ltb moment moment_end h)
 
-form_refused : (t : List ℕ) (moment : ℕ) (why : Refusal) → moment < moment_end → (json_read t moment).outcome ≡ Refused why
+form_refused : (t : List ℕ) (moment : ℕ) (why : Refusal) → moment < moment_end → (json_read t moment).outcome ≡ Err why
     → (why ≡ JsonForm) × (json_read t moment ≡ unread JsonForm)
 form_refused t moment why h e =
     let read = in_time t moment h in
     let refused = members_refused moment (members_of (tokens t)) why (sym (ap (λ (r : JsonRead). r.outcome) read) ∙ e) in
     (refused.0, read ∙ refused.1)
 
-pub read_refused : (t : List ℕ) (moment : ℕ) (why : Refusal) → (json_read t moment).outcome ≡ Refused why
+pub read_refused : (t : List ℕ) (moment : ℕ) (why : Refusal) → (json_read t moment).outcome ≡ Err why
     → (json_read t moment ≡ unread why) × (why ≡ cond (ltb moment moment_end) JsonForm Range)
 read_refused t moment why h =
     cases (ltb moment moment_end)

@@ -1,12 +1,7 @@
 -- The flags of a number, added up again, are the number. Assumes nothing.
-use Prim.Native.Nat.{ℕ, zero, suc, ◌+◌, ◌*◌, ◌/◌, ◌%◌, ◌^◌, ◌<◌}
-use mathlib.Core.Path.{◌≡◌, refl, sym, ap, ◌∙◌}
-use mathlib.Core.Bool.{Bool, ◌&&◌}
-use mathlib.Core.List.{List}
-use native.Mathlib.Omega.{arith}
-use native.Mathlib.Nat.{div-div-eq-div-mul, pow-suc, div-one}
-use borrow.Author.Tests.{eq-eqb, eqb-true, eqb-false}
-use lib.Dec.{eqb}
+use Rattle.std.proofs.Common.{ℕ, zero, suc, ◌+◌, ◌*◌, ◌/◌, ◌%◌, ◌^◌, ◌<◌, ◌≡◌, refl, sym, ap, ◌∙◌, Bool, ◌&&◌, List, arith, pow-suc, div-one, eq-eqb, eqb-true, eqb}
+use native.Mathlib.Nat.{div-div-eq-div-mul}
+use borrow.Author.Tests.{eqb-false}
 use Rattle.lists.specs.Tests.{cases, and_left, and_right, iff_same}
 use Rattle.lists.specs.Lists.{any, counted}
 use Rattle.lists.specs.Each.{any_map}

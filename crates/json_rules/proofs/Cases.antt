@@ -1,16 +1,11 @@
 -- The definitions of the builder's JSON on small texts, yes and no, computed. Assumes nothing.
-use Prim.Native.Nat.{ℕ}
-use mathlib.Core.Path.{◌≡◌, refl}
-use mathlib.Core.Bool.{true}
-use mathlib.Core.List.{List, [], ◌∷◌, ◌++◌}
-use lib.ListN.{replicate}
+use Rattle.std.proofs.Common.{Ok, ℕ, ◌≡◌, refl, true, List, [], ◌∷◌, ◌++◌, replicate}
 use Rattle.lists.specs.Bytes.{bytes}
 use Rattle.lists.specs.Lists.{dropping, same, distinct}
 use Rattle.decimals.specs.Decimals.{digits, digits_with, after, value, canonical, parse, digit_run}
 use Rattle.actions.specs.Actions.{no_use, govern_limit}
 use Rattle.actions.specs.declared.Usage.{Usage}
 use Rattle.actions.specs.declared.Action.{Action}
-use Rattle.refusals.specs.declared.Outcome.TheVariants.{Accepted}
 use Rattle.refusals.specs.declared.Refusal.TheVariants.{Range, JsonForm}
 use Rattle.json_tokens.specs.Tokens.{unblanked, quoted, closing, leading, tokens_with, tokens}
 use Rattle.json_tokens.specs.Spelling.{spelled, spelled_all}
@@ -75,7 +70,7 @@ abbrev case_rText : List ℕ
 case_rText = page_with ten_flags (bytes ",\"trust_domain\":\"default\",\"delegation_depth\":0}")
 
 abbrev case_rRead : JsonRead
-case_rRead = record { action = case_r; outcome = Accepted; kind = 0; len = 0; id = replicate id_length 0 }
+case_rRead = record { action = case_r; outcome = Ok tt; kind = 0; len = 0; id = replicate id_length 0 }
 
 case_r_written : json_text case_r [] 0 ≡ case_rText
 unfolding json_text members_from resources_with object_tokens member_tokens value_tokens number_tokens commaed spelled_all spelled digits digits_with
@@ -86,7 +81,7 @@ readings :
     × (json_read (printed_with (bytes "65535") (bytes "7")) 1999
     ≡ record {
       action = action_of 65535 0 1999 (use_of 7 1 ∷ replicate 31 no_use) 1;
-      outcome = Accepted;
+      outcome = Ok tt;
       kind = 1;
       len = 11;
       id = bytes "action-uuid" ++ replicate 53 0;

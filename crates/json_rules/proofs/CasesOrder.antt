@@ -1,12 +1,8 @@
 -- The order of the refusals of JSON: where two faults meet, the first test is told. All by computing.
 -- Assumes nothing.
-use Prim.Native.Nat.{ℕ}
-use mathlib.Core.Path.{◌≡◌, refl}
-use mathlib.Core.List.{[], ◌∷◌, map}
-use lib.ListN.{replicate}
+use Rattle.std.proofs.Common.{Result, Err, Ok, ℕ, ◌≡◌, refl, [], ◌∷◌, map, replicate}
+use Rattle.refusals.specs.declared.Refusal.{Refusal}
 use Rattle.refusals.specs.Refusals.{number_of}
-use Rattle.refusals.specs.declared.Outcome.{Outcome}
-use Rattle.refusals.specs.declared.Outcome.TheVariants.{Accepted, Refused}
 use Rattle.actions.specs.Actions.{action_fits}
 use Rattle.actions.specs.declared.Action.{Action}
 use Rattle.buffers.specs.Delivery.{delivered}
@@ -16,9 +12,9 @@ use Rattle.decimals.specs.Decimals.{digits, digits_with}
 use Rattle.json_rules.specs.Members.{is_id_text, members_of}
 use Rattle.json_rules.specs.Actions.{json_read, resources_with, members_from, commaed, number_tokens, value_tokens, member_tokens, object_tokens, json_text, json_fits, json_holds, json_written}
 
-abbrev told : Outcome → ℕ
-told Accepted = 0
-told (Refused why) = number_of why
+abbrev told : Result Unit Refusal → ℕ
+told (Ok _) = 0
+told (Err why) = number_of why
 
 -- reading: 24 of the empty text; 2 before 24
 read_told : map (λ moment. told (json_read [] moment).outcome) (4294967295 ∷ 4294967296 ∷ []) ≡ 24 ∷ 2 ∷ []

@@ -1,12 +1,5 @@
 -- A value that a key may hold, case by case. Assumes nothing.
-use Prim.Native.Nat.{ℕ, ◌<◌}
-use mathlib.Core.Path.{◌≡◌}
-use mathlib.Core.Bool.{Bool, true, ◌&&◌, ◌||◌}
-use mathlib.Core.List.{List}
-use native.Mathlib.Omega.{arith}
-use borrow.Author.Tests.{eqb-true}
-use lib.Dec.{eqb, leb, ltb}
-use lib.ListN.{length}
+use Rattle.std.proofs.Common.{ℕ, ◌<◌, ◌≡◌, Bool, true, ◌&&◌, ◌||◌, List, arith, eqb-true, eqb, leb, ltb, length}
 use Rattle.lists.specs.Tests.{cases, and_left, and_right, or_other}
 use Rattle.lists.specs.Lists.{every, same}
 use Rattle.register.specs.Limits.{id_limit}

@@ -1,12 +1,5 @@
 -- Names and their places: each name's place is its own, and what has a place is the name that stands there. Assumes nothing.
-use Prim.Native.Nat.{ℕ, ◌<◌}
-use mathlib.Core.Path.{◌≡◌, refl, sym}
-use mathlib.Core.Bool.{Bool, true}
-use mathlib.Core.List.{List, [], ◌∷◌}
-use native.Mathlib.Omega.{arith}
-use borrow.Author.Tests.{eqb-true}
-use lib.Dec.{eqb}
-use lib.ListN.{length, get_or}
+use Rattle.std.proofs.Common.{ℕ, ◌<◌, ◌≡◌, refl, sym, Bool, true, List, [], ◌∷◌, arith, eqb-true, eqb, length, get_or}
 use Rattle.lists.specs.Tests.{cases}
 use Rattle.lists.specs.Lists.{every, counted, same}
 use Rattle.lists.specs.Counts.{every_counted_sound}

@@ -1,10 +1,5 @@
 -- Two writings agree exactly where id, kind, actor, flags and ordered uses do. Assumes nothing.
-use Prim.Native.Nat.{ℕ, ◌-◌}
-use mathlib.Core.Path.{◌≡◌, sym, ap, ◌∙◌}
-use mathlib.Core.Bool.{true}
-use mathlib.Core.List.{List}
-use native.Mathlib.Omega.{arith}
-use lib.ListN.{length, take, replicate}
+use Rattle.std.proofs.Common.{ℕ, ◌-◌, ◌≡◌, sym, ap, ◌∙◌, true, List, arith, length, take, replicate}
 use lib.Seq.{take-append_seam}
 use Rattle.actions.specs.Actions.{no_use, use_limit, uses_of}
 use Rattle.actions.specs.declared.Action.{Action}

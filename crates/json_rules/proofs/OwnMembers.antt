@@ -1,12 +1,6 @@
 -- What a key takes is written as its tokens, and the key may hold it; so the members of some tokens are those whose tokens they are.
 -- Assumes nothing.
-use Prim.Native.Nat.{ℕ}
-use mathlib.Core.Path.{◌≡◌, refl, sym, ap, ◌∙◌}
-use mathlib.Core.Bool.{true, ◌&&◌}
-use mathlib.Core.List.{List, [], ◌∷◌, ◌++◌, map, append_assoc}
-use borrow.Author.Tests.{eqb-true, ltb-true}
-use lib.Dec.{eqb, leb, ltb}
-use lib.ListN.{length, get_or}
+use Rattle.std.proofs.Common.{ℕ, ◌≡◌, refl, sym, ap, ◌∙◌, true, ◌&&◌, List, [], ◌∷◌, ◌++◌, map, append_assoc, eqb-true, ltb-true, eqb, leb, ltb, length, get_or}
 use Rattle.lists.specs.Tests.{cases, and_both}
 use Rattle.lists.specs.Lists.{every, All, same}
 use Rattle.lists.specs.Each.{all_every}

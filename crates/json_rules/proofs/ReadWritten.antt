@@ -1,12 +1,6 @@
 -- Members that fit are read, and so is what was written. Assumes nothing.
-use Prim.Native.Nat.{ℕ, ◌^◌, ◌≤◌, ◌<◌}
-use mathlib.Core.Path.{◌≡◌, refl, sym, ap, ◌∙◌}
-use mathlib.Core.Bool.{true, not, ◌&&◌}
-use mathlib.Core.List.{List, [], ◌∷◌}
-use native.Mathlib.Omega.{arith}
-use borrow.Author.Tests.{ltb-true, leb-true, le-leb, lt-ltb}
-use lib.Dec.{eqb, leb, ltb}
-use lib.ListN.{length, length-map, length-take}
+use Rattle.std.proofs.Common.{Ok, ℕ, ◌^◌, ◌≤◌, ◌<◌, ◌≡◌, refl, sym, ap, ◌∙◌, true, not, ◌&&◌, List, [], ◌∷◌, arith, ltb-true, leb-true, le-leb, lt-ltb, eqb, leb, ltb, length, length-take}
+use lib.ListN.{length-map}
 use Rattle.lists.specs.Tests.{cases, and_left, and_right, and_both}
 use Rattle.lists.specs.Lists.{every, All, same, distinct}
 use Rattle.lists.specs.Each.{ands_out}
@@ -16,7 +10,6 @@ use Rattle.rights.specs.Rights.{is_right}
 use Rattle.actions.specs.Actions.{use_limit, govern_limit, flag_count, uses_of, governs_of, action_fits}
 use Rattle.actions.specs.declared.Usage.{Usage}
 use Rattle.actions.specs.declared.Action.{Action}
-use Rattle.refusals.specs.declared.Outcome.TheVariants.{Accepted}
 use Rattle.json_tokens.specs.Tokens.{tokens}
 use Rattle.json_tokens.specs.SpellingLaws.{tokens_spelled}
 use Rattle.json_rules.specs.Members.{Member, is_id_text, is_full_set}
@@ -109,13 +102,13 @@ full_written a id kind fine =
     rw (uses_in_written a id kind, le-leb (length (ordered (uses_of a))) use_limit (omega (arith, ordered_length (uses_of a), uses_few a fine.used)))
 
 whole_written : (a : Action) (id : List ℕ) (kind moment : ℕ) → Fine a id kind
-    → read_whole moment (members_from a id kind) ≡ record { action = ordered_at moment a; outcome = Accepted; kind = kind; len = length id; id = held_id id }
+    → read_whole moment (members_from a id kind) ≡ record { action = ordered_at moment a; outcome = Ok tt; kind = kind; len = length id; id = held_id id }
 unfolding action_in ordered_at members_from member_value
 whole_written a id kind moment fine = rw (uses_in_written a id kind, flags_written a.flags fine.flags)
 
 -- what was written is read at every moment as the action with its uses ordered
 pub read_written : (a : Action) (id : List ℕ) (kind moment : ℕ) → json_fits a id kind ≡ true → moment < moment_end
-    → json_read (json_text a id kind) moment ≡ record { action = ordered_at moment a; outcome = Accepted; kind = kind; len = length id; id = held_id id }
+    → json_read (json_text a id kind) moment ≡ record { action = ordered_at moment a; outcome = Ok tt; kind = kind; len = length id; id = held_id id }
 unfolding json_text
 read_written a id kind moment h before =
     let fine = fine_fits a id kind h in

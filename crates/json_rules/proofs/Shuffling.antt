@@ -1,11 +1,6 @@
 -- The order of the members, and of the flags, does not matter. Assumes nothing.
-use Prim.Native.Nat.{ℕ, zero, suc}
-use mathlib.Core.Path.{◌≡◌, refl, sym, ap, ◌∙◌}
-use mathlib.Core.Bool.{Bool, true, false, not, cond, ◌&&◌, ◌||◌}
-use mathlib.Core.List.{List, [], ◌∷◌, map}
-use borrow.Author.Tests.{eq-eqb, eqb-true, not-true}
-use lib.Dec.{eqb, leb, ltb}
-use lib.ListN.{length}
+use Rattle.std.proofs.Common.{ℕ, zero, suc, ◌≡◌, refl, sym, ap, ◌∙◌, Bool, true, false, not, cond, ◌&&◌, ◌||◌, List, [], ◌∷◌, map, eq-eqb, eqb-true, eqb, leb, ltb, length}
+use borrow.Author.Tests.{not-true}
 use Rattle.lists.specs.Tests.{cases, clash, and_left, and_right, or_left, eqb_turned}
 use Rattle.lists.specs.Lists.{any, All, counted, distinct}
 use Rattle.actions.specs.Actions.{use_limit, flag_count}

@@ -1,13 +1,7 @@
 -- A text all of whose tokens have a text is these texts, one behind the other, with runs of blanks
 -- between them: so an accepted text is a spelling of its members. Assumes nothing.
-use Prim.Native.Nat.{ℕ, zero, suc, ◌<◌}
-use mathlib.Core.Path.{◌≡◌, refl, sym, ap, ◌∙◌}
-use mathlib.Core.Bool.{true, cond}
-use mathlib.Core.List.{List, [], ◌∷◌, ◌++◌, append_assoc, flatten}
-use native.Mathlib.Omega.{arith}
-use borrow.Author.Tests.{eqb-true}
-use lib.Dec.{eqb}
-use lib.ListN.{length, take, drop, take-append-drop}
+use Rattle.std.proofs.Common.{ℕ, zero, suc, ◌<◌, ◌≡◌, refl, sym, ap, ◌∙◌, true, cond, List, [], ◌∷◌, ◌++◌, append_assoc, arith, eqb-true, eqb, length, take, drop, take-append-drop}
+use mathlib.Core.List.{flatten}
 use Rattle.lists.specs.Tests.{cases, clash}
 use Rattle.lists.specs.Lists.{All, same}
 use Rattle.lists.specs.Each.{cons_clash}

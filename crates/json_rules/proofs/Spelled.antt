@@ -1,12 +1,8 @@
 -- Members that fit, with runs of blanks around any token, are read; and an accepted text is such a
 -- spelling of its members. Assumes nothing.
-use Prim.Native.Nat.{ℕ, ◌<◌}
-use mathlib.Core.Path.{◌≡◌, ap, ◌∙◌}
-use mathlib.Core.Bool.{true}
-use mathlib.Core.List.{List}
+use Rattle.std.proofs.Common.{Ok, ℕ, ◌<◌, ◌≡◌, ap, ◌∙◌, true, List}
 use Rattle.lists.specs.Lists.{All}
 use Rattle.register.specs.Limits.{moment_end}
-use Rattle.refusals.specs.declared.Outcome.TheVariants.{Accepted}
 use Rattle.json_tokens.specs.Tokens.{tokens}
 use Rattle.json_tokens.specs.Spelling.{Spelt, blanks, spaced}
 use Rattle.json_tokens.specs.SpellingLaws.{tokens_spaced}
@@ -23,7 +19,7 @@ pub json_spelled : (ws : List (List ℕ)) (ms : List Member) (moment : ℕ) → 
 json_spelled ws ms moment blank fits full below =
     read_complete (spaced ws (object_tokens ms)) moment ms (tokens_spaced ws (object_tokens ms) blank (object_spelt ms fits)) fits full below
 
-pub json_spelling : (t : List ℕ) (moment : ℕ) → (json_read t moment).outcome ≡ Accepted
+pub json_spelling : (t : List ℕ) (moment : ℕ) → (json_read t moment).outcome ≡ Ok tt
     → (ws : List (List ℕ)) × (ms : List Member) × All (λ w. blanks w ≡ true) ws × All MemberFits ms × (is_full ms ≡ true) × (moment < moment_end)
     × (t ≡ spaced ws (object_tokens ms)) × (json_read t moment ≡ read_whole moment ms)
 json_spelling t moment h =

@@ -1,13 +1,7 @@
 -- The tokens of members that fit have a text each. Assumes nothing.
-use Prim.Native.Nat.{ℕ, zero, suc, ◌+◌, ◌/◌, ◌%◌, ◌<◌}
-use mathlib.Core.Path.{◌≡◌, refl, ap, ◌∙◌}
-use mathlib.Core.Bool.{Bool, true, false, not, cond, ◌&&◌, ◌||◌}
-use mathlib.Core.List.{List, [], ◌∷◌, ◌++◌, map}
-use native.Mathlib.Omega.{arith}
+use Rattle.std.proofs.Common.{ℕ, zero, suc, ◌+◌, ◌/◌, ◌%◌, ◌<◌, ◌≡◌, refl, ap, ◌∙◌, Bool, true, false, not, cond, ◌&&◌, ◌||◌, List, [], ◌∷◌, ◌++◌, map, arith, ne_eqb, ltb-true, eqb, leb, ltb, length, get_or}
 use native.Mathlib.Decide.{dec_lt}
-use borrow.Author.Tests.{ne_eqb, ltb-true, not-true}
-use lib.Dec.{eqb, leb, ltb}
-use lib.ListN.{length, get_or}
+use borrow.Author.Tests.{not-true}
 use Rattle.lists.specs.Tests.{and_right, or_left}
 use Rattle.lists.specs.Lists.{every, All, same}
 use Rattle.lists.specs.Each.{all_imp, all_append, all_map, every_all, all_every, each_all, every_at, every_append}

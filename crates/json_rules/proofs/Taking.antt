@@ -1,11 +1,5 @@
 -- What is written as tokens is taken again, whatever follows it. Assumes nothing.
-use Prim.Native.Nat.{ℕ, ◌≤◌}
-use mathlib.Core.Path.{◌≡◌, refl, sym, ap, ◌∙◌}
-use mathlib.Core.Bool.{true, false, cond}
-use mathlib.Core.List.{List, [], ◌∷◌, ◌++◌, map, append_assoc, append-nil}
-use borrow.Author.Tests.{eq-eqb, eqb-true, ltb-true, leb-true, le-leb}
-use lib.Dec.{eqb, leb, ltb}
-use lib.ListN.{length, get_or}
+use Rattle.std.proofs.Common.{ℕ, ◌≤◌, ◌≡◌, refl, sym, ap, ◌∙◌, true, false, cond, List, [], ◌∷◌, ◌++◌, map, append_assoc, append-nil, eq-eqb, eqb-true, ltb-true, leb-true, le-leb, eqb, leb, ltb, length, get_or}
 use Rattle.lists.specs.Tests.{cases}
 use Rattle.lists.specs.Lists.{every, All, same}
 use Rattle.lists.specs.Each.{every_all}

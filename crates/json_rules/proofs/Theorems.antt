@@ -1,16 +1,9 @@
 -- What is proved of the builder's JSON actions, over the definitions that the contracts of reading and writing cite. Assumes nothing.
-use Prim.Native.Nat.{ℕ, ◌≤◌, ◌<◌}
-use mathlib.Core.Path.{◌≡◌}
-use mathlib.Core.Bool.{true, cond}
-use mathlib.Core.List.{List, []}
-use mathlib.Core.Logic.{◌↔◌}
-use lib.Dec.{leb, ltb}
-use lib.ListN.{length, take}
+use Rattle.std.proofs.Common.{Err, Ok, ℕ, ◌≤◌, ◌<◌, ◌≡◌, true, cond, List, [], ◌↔◌, leb, ltb, length, take}
 use Rattle.lists.specs.Lists.{every, All}
 use Rattle.register.specs.Limits.{moment_end}
 use Rattle.actions.specs.declared.Usage.{Usage}
 use Rattle.actions.specs.declared.Action.{Action}
-use Rattle.refusals.specs.declared.Outcome.TheVariants.{Accepted, Refused}
 use Rattle.refusals.specs.declared.Refusal.{Refusal}
 use Rattle.refusals.specs.declared.Refusal.TheVariants.{Range, JsonForm}
 use Rattle.json_tokens.specs.Tokens.{Token, tokens}
@@ -32,13 +25,13 @@ pub json_complete : (t : List ℕ) (moment : ℕ) (ms : List Member) → tokens 
 json_complete = written.read_complete
 
 -- 1b. Nothing else is.
-pub json_sound : (t : List ℕ) (moment : ℕ) → (json_read t moment).outcome ≡ Accepted
+pub json_sound : (t : List ℕ) (moment : ℕ) → (json_read t moment).outcome ≡ Ok tt
     → (ms : List Member) × (tokens t ≡ object_tokens ms) × All MemberFits ms × (is_full ms ≡ true) × (moment < moment_end) × (json_read t moment ≡ read_whole moment ms)
 json_sound t moment h = let r = read.read_members_lem t moment h in (r.members, r.whole, r.fits, r.full, r.before, r.answer)
 
 -- 2a. Reading what was written, at the action's clock, gives the same id, kind and action, with its uses ordered by right.
 pub json_read_written : (a : Action) (id : List ℕ) (kind : ℕ) → json_fits a id kind ≡ true → json_holds a ≡ true
-    → json_read (json_text a id kind) a.now ≡ record { action = ordered_action a; outcome = Accepted; kind = kind; len = length id; id = held_id id }
+    → json_read (json_text a id kind) a.now ≡ record { action = ordered_action a; outcome = Ok tt; kind = kind; len = length id; id = held_id id }
 json_read_written a id kind fits holds = written.read_written a id kind a.now fits (written.fine_fits a id kind fits).now
 
 -- 2b. That order loses no use and brings none in.
@@ -50,12 +43,12 @@ pub json_order_kept : (us : List Usage) (b : ℕ) → b ≤ 2 → uses_with b (o
 json_order_kept = ordering.ordered_kept
 
 -- 3a. What was read is in range and has its place in the form, so that writing it is refused for no cause but 21.
-pub json_read_fits : (t : List ℕ) (moment : ℕ) → (json_read t moment).outcome ≡ Accepted → let r = json_read t moment in
+pub json_read_fits : (t : List ℕ) (moment : ℕ) → (json_read t moment).outcome ≡ Ok tt → let r = json_read t moment in
     (json_fits r.action (take r.len r.id) r.kind ≡ true) × (json_holds r.action ≡ true)
 json_read_fits t moment h = let back = read.written_read t moment h in (back.range, back.holds)
 
 -- 3b. Written and read again, it is the same.
-pub json_written_read : (t : List ℕ) (moment : ℕ) → (json_read t moment).outcome ≡ Accepted → let r = json_read t moment in
+pub json_written_read : (t : List ℕ) (moment : ℕ) → (json_read t moment).outcome ≡ Ok tt → let r = json_read t moment in
     json_read (json_text r.action (take r.len r.id) r.kind) moment ≡ r
 json_written_read t moment h = (read.written_read t moment h).again
 
@@ -83,7 +76,7 @@ pub json_blanks : (ws : List (List ℕ)) (ts : List Token) (moment : ℕ) → Al
 json_blanks = answering.blanks_read
 
 -- 7a. A refused reading is the action of zeros, no id and READ; it is 24 where the moment is below 2^32, else 2.
-pub json_refused : (t : List ℕ) (moment : ℕ) (why : Refusal) → (json_read t moment).outcome ≡ Refused why
+pub json_refused : (t : List ℕ) (moment : ℕ) (why : Refusal) → (json_read t moment).outcome ≡ Err why
     → (json_read t moment ≡ unread why) × (why ≡ cond (ltb moment moment_end) JsonForm Range)
 json_refused = answering.read_refused
 

@@ -1,12 +1,8 @@
 -- What is proved of the spelling of JSON actions: the texts that are read are the spellings of members
 -- that fit, and no others. Assumes nothing.
-use Prim.Native.Nat.{ℕ, ◌<◌}
-use mathlib.Core.Path.{◌≡◌}
-use mathlib.Core.Bool.{true}
-use mathlib.Core.List.{List}
+use Rattle.std.proofs.Common.{Ok, ℕ, ◌<◌, ◌≡◌, true, List}
 use Rattle.lists.specs.Lists.{All}
 use Rattle.register.specs.Limits.{moment_end}
-use Rattle.refusals.specs.declared.Outcome.TheVariants.{Accepted}
 use Rattle.json_tokens.specs.Spelling.{blanks, spaced}
 use Rattle.json_rules.specs.Members.{Member}
 use Rattle.json_rules.specs.Actions.{is_full, read_whole, json_read, object_tokens}
@@ -19,7 +15,7 @@ pub json_spelled : (ws : List (List ℕ)) (ms : List Member) (moment : ℕ) → 
 json_spelled = spelled.json_spelled
 
 -- 8b. Nothing else is: an accepted text is such a spelling, of the members that are answered.
-pub json_spelling : (t : List ℕ) (moment : ℕ) → (json_read t moment).outcome ≡ Accepted
+pub json_spelling : (t : List ℕ) (moment : ℕ) → (json_read t moment).outcome ≡ Ok tt
     → (ws : List (List ℕ)) × (ms : List Member) × All (λ w. blanks w ≡ true) ws × All MemberFits ms × (is_full ms ≡ true) × (moment < moment_end)
     × (t ≡ spaced ws (object_tokens ms)) × (json_read t moment ≡ read_whole moment ms)
 json_spelling = spelled.json_spelling

@@ -1,12 +1,6 @@
 -- What is read is in range, can be written, and is read again as the same. Assumes nothing.
-use Prim.Native.Nat.{ℕ, zero, suc, ◌-◌, ◌^◌, ◌<◌}
-use mathlib.Core.Path.{◌≡◌, refl, sym, ap, ◌∙◌}
-use mathlib.Core.Bool.{Bool, true, false, ◌&&◌, or-false}
-use mathlib.Core.List.{List, [], ◌∷◌, ◌++◌, map}
-use native.Mathlib.Omega.{arith}
-use borrow.Author.Tests.{eqb-true, lt-ltb, ltb-true, ltb-false}
-use lib.Dec.{eqb, leb, ltb}
-use lib.ListN.{length, take, replicate}
+use Rattle.std.proofs.Common.{Err, Ok, ℕ, zero, suc, ◌-◌, ◌^◌, ◌<◌, ◌≡◌, refl, sym, ap, ◌∙◌, Bool, true, false, ◌&&◌, List, [], ◌∷◌, ◌++◌, map, arith, eqb-true, lt-ltb, ltb-true, ltb-false, eqb, leb, ltb, length, take, replicate}
+use mathlib.Core.Bool.{or-false}
 use lib.Seq.{take-append_seam}
 use Rattle.lists.specs.Tests.{cases, clash, and_right, and_both}
 use Rattle.lists.specs.Lists.{any, every, All, counted, distinct}
@@ -16,7 +10,6 @@ use Rattle.register.specs.Limits.{id_limit, moment_end}
 use Rattle.rights.specs.Rights.{is_right}
 use Rattle.actions.specs.Actions.{no_use, use_limit, flag_count, uses_of, action_fits}
 use Rattle.actions.specs.declared.Usage.{Usage}
-use Rattle.refusals.specs.declared.Outcome.TheVariants.{Accepted, Refused}
 use Rattle.refusals.specs.declared.Refusal.{Refusal}
 use Rattle.refusals.specs.declared.Refusal.TheVariants.{Range, JsonForm}
 use Rattle.json_tokens.specs.Tokens.{tokens}
@@ -43,13 +36,13 @@ pub record Read (t : List ℕ) (moment : ℕ) : Type 0 where
   pub answer : json_read t moment ≡ read_whole moment members
 
 -- a refused reading is none that is accepted
-unread_clash : {A : Type 0} (r : JsonRead) (why : Refusal) → r ≡ unread why → r.outcome ≡ Accepted → A
+unread_clash : {A : Type 0} (r : JsonRead) (why : Refusal) → r ≡ unread why → r.outcome ≡ Ok tt → A
 unread_clash r why e h =
-    let refused : Refused why ≡ Accepted = sym (ap (λ (r : JsonRead). r.outcome) e) ∙ h in
+    let refused : Err why ≡ (Ok tt) = sym (ap (λ (r : JsonRead). r.outcome) e) ∙ h in
     let never : ◌≡◌ {A = ℕ} 0 1 = cc in
     absurd (omega arith)
 
-pub read_members_lem : (t : List ℕ) (moment : ℕ) → (json_read t moment).outcome ≡ Accepted → Read t moment
+pub read_members_lem : (t : List ℕ) (moment : ℕ) → (json_read t moment).outcome ≡ Ok tt → Read t moment
 read_members_lem t moment h =
     cases (ltb moment moment_end)
     (λ b. let before = ltb-true moment moment_end b in
@@ -204,7 +197,7 @@ pub record Back (moment : ℕ) (r : JsonRead) : Type 0 where
   pub holds : json_holds r.action ≡ true
   pub again : json_read (json_text r.action (take r.len r.id) r.kind) moment ≡ r
 
-pub written_read : (t : List ℕ) (moment : ℕ) → (json_read t moment).outcome ≡ Accepted → Back moment (json_read t moment)
+pub written_read : (t : List ℕ) (moment : ℕ) → (json_read t moment).outcome ≡ Ok tt → Back moment (json_read t moment)
 written_read t moment h =
     let read = read_members_lem t moment h in
     let ms = read.members in

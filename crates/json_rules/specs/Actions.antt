@@ -1,5 +1,5 @@
 -- Believed: The builder's JSON actions, in the words of 02's T-04: how a text is read as an action, and what the text of an action is.
-use Rattle.std.specs.Prelude.{ℕ, zero, suc, ◌+◌, ◌-◌, ◌/◌, ◌%◌, ◌^◌, List, [], ◌∷◌, ◌++◌, map, Bool, cond, ◌&&◌, length, get_or, replicate, eqb, leb, ltb}
+use Rattle.std.specs.Prelude.{ℕ, zero, suc, ◌+◌, ◌-◌, ◌/◌, ◌%◌, ◌^◌, List, [], ◌∷◌, ◌++◌, map, Bool, cond, ◌&&◌, length, get_or, replicate, eqb, leb, ltb, Err, Ok}
 use Rattle.lists.specs.Lists.{any, every, ands, counted, distinct}
 use Rattle.register.specs.Limits.{moment_end}
 use Rattle.rights.specs.Rights.{is_right}
@@ -7,7 +7,6 @@ use Rattle.decimals.specs.Decimals.{digits}
 use Rattle.actions.specs.Actions.{no_use, use_limit, govern_limit, flag_count, uses_of, action_fits, no_action}
 use Rattle.actions.specs.declared.Usage.{Usage}
 use Rattle.actions.specs.declared.Action.{Action}
-use Rattle.refusals.specs.declared.Outcome.TheVariants.{Accepted, Refused}
 use Rattle.refusals.specs.declared.Refusal.{Refusal}
 use Rattle.refusals.specs.declared.Refusal.TheVariants.{Range, JsonForm, JsonLacks}
 use Rattle.buffers.specs.Buffers.{put}
@@ -98,12 +97,12 @@ held_id x = x ++ replicate (id_length - length x) 0
 
 -- a refused reading: the action of zeros, no id, and READ
 abbrev pub unread : Refusal → JsonRead
-unread why = record { action = no_action; outcome = Refused why; kind = 0; len = 0; id = replicate id_length 0 }
+unread why = record { action = no_action; outcome = Err why; kind = 0; len = 0; id = replicate id_length 0 }
 
 abbrev pub read_whole : ℕ → List Member → JsonRead
 read_whole moment ms = record {
   action = action_in moment ms;
-  outcome = Accepted;
+  outcome = Ok tt;
   kind = as_figure (member_value kind_place ms);
   len = length (as_letters (member_value id_place ms));
   id = held_id (as_letters (member_value id_place ms));

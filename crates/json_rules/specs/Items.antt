@@ -1,8 +1,7 @@
 -- Laws: Taking things off the front of a list of tokens: each takes a token at least, so fuel does not matter to items. Assumes nothing.
-use Prim.Native.Nat.{ℕ, zero, suc, ◌≤◌, ◌<◌}
-use Rattle.std.specs.Prelude.{◌≡◌, List, [], ◌∷◌, ◌++◌, Bool, true, false, cond, ◌||◌, length, eqb, leb, ltb}
-use Rattle.std.proofs.Math.Path.{refl}
+use Rattle.std.specs.Prelude.{ℕ, zero, suc, ◌≤◌, ◌<◌, ◌≡◌, List, [], ◌∷◌, ◌++◌, Bool, true, false, cond, ◌||◌, length, eqb, leb, ltb}
 use Rattle.std.proofs.Common.{ap, ◌∙◌, append_assoc, arith}
+use Rattle.std.proofs.Math.Path.{refl}
 use Rattle.lists.specs.Tests.{cases}
 use Rattle.lists.specs.Lists.{same}
 use Rattle.rights.specs.Rights.{right_count}

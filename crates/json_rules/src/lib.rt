@@ -8,7 +8,7 @@ ghost use Rattle.json_rules.specs.Members.{is_id_text};
 
 use actions::Action;
 use json_tokens::QUOTE;
-use refusals::Outcome;
+use refusals::Refusal;
 
 // The byte that no text may have.
 const BACKSLASH: u8 = 92;
@@ -23,7 +23,7 @@ pub const JSON_TEXT: usize = 807;
 #[derive(Clone, Copy)]
 pub struct JsonRead {
     pub action: Action,
-    pub outcome: Outcome,
+    pub outcome: Result<(), Refusal>,
     pub kind: u32,
     pub len: u32,
     pub id: [u8; ID_BYTES],
@@ -36,13 +36,10 @@ pub fn is_id(id: &[u8]) -> bool
     if ID_BYTES < id.len() {
         return false;
     }
-    let mut i: usize = 0;
-    while i < id.len() {
-        let b = id[i];
-        if (b < 32) | (126 < b) | (b == QUOTE) | (b == BACKSLASH) {
+    for b in id {
+        if (*b < 32) | (126 < *b) | (*b == QUOTE) | (*b == BACKSLASH) {
             return false;
         }
-        i += 1;
     }
     true
 }

@@ -1,6 +1,6 @@
 -- The definitions of tokens on small texts, yes and no, computed. Assumes nothing.
-use mathlib.Core.Path.{◌≡◌, refl}
-use mathlib.Core.List.{[], ◌∷◌, flatten}
+use Rattle.std.proofs.Common.{◌≡◌, refl, [], ◌∷◌}
+use mathlib.Core.List.{flatten}
 use Rattle.lists.specs.Bytes.{bytes}
 use Rattle.lists.specs.Lists.{same}
 use Rattle.json_tokens.specs.Tokens.{mark, text, no_token, quote, opens_object, closes_object, colon, comma, zero_mark, true_mark, false_mark, unblanked, quoted, closing, leading, tokens_with, tokens}

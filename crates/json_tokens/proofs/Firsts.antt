@@ -1,12 +1,5 @@
 -- The first token at a position of a text, from what stands there. Assumes nothing.
-use Prim.Native.Nat.{ℕ, ◌+◌, ◌≤◌, ◌<◌}
-use mathlib.Core.Path.{◌≡◌, refl, ap, ◌∙◌}
-use mathlib.Core.List.{List, [], ◌∷◌}
-use mathlib.Core.Bool.{true, false}
-use native.Mathlib.Omega.{arith}
-use lib.ListN.{length, get_or, take, drop, drop_of_length-le, length-drop, length-take}
-use lib.Seq.{drop-drop}
-use borrow.Author.Tests.{eq-eqb, ne_eqb}
+use Rattle.std.proofs.Common.{ℕ, ◌+◌, ◌≤◌, ◌<◌, ◌≡◌, refl, ap, ◌∙◌, List, [], ◌∷◌, true, false, arith, length, get_or, take, drop, drop_of_length-le, length-drop, length-take, drop-drop, eq-eqb, ne_eqb}
 use Rattle.lists.specs.Loops.{drop_next}
 use Rattle.lists.specs.Lists.{same}
 use Rattle.lists.specs.Same.{same_sound}

@@ -1,12 +1,5 @@
 -- The definitions of tokens at a position of a text: what one byte more makes of them. Assumes nothing.
-use Prim.Native.Nat.{ℕ, suc, ◌+◌, ◌-◌, ◌≤◌, ◌<◌}
-use mathlib.Core.Path.{◌≡◌, ◌∙◌}
-use mathlib.Core.List.{List, [], ◌∷◌, ◌++◌, append_assoc, append-nil}
-use mathlib.Core.Bool.{true, false}
-use native.Mathlib.Omega.{arith}
-use lib.ListN.{length, get_or, drop, drop_of_length-le, length-drop}
-use lib.Seq.{take-suc, get_or-drop}
-use borrow.Author.Tests.{eq-eqb, ne_eqb}
+use Rattle.std.proofs.Common.{ℕ, suc, ◌+◌, ◌-◌, ◌≤◌, ◌<◌, ◌≡◌, ◌∙◌, List, [], ◌∷◌, ◌++◌, append_assoc, append-nil, true, false, arith, length, get_or, drop, drop_of_length-le, length-drop, take-suc, get_or-drop, eq-eqb, ne_eqb}
 use Rattle.lists.specs.Loops.{drop_next}
 use Rattle.json_tokens.specs.Tokens.{is_blank, quote, unblanked, quoted, closing}
 use Rattle.json_tokens.specs.Answers.{part}
@@ -17,9 +10,6 @@ part_next s at i h k =
     let count : i + 1 - at ≡ suc (i - at) = omega arith in
     let place : at + (i - at) ≡ i = omega arith in
     rw (count, take-suc (drop at s) (i - at) 0 (simp length-drop (omega arith)), get_or-drop, place)
-
-pub part_nil : (s : List ℕ) (at : ℕ) → part at at s ≡ []
-part_nil s at = let none : at - at ≡ 0 = omega arith in rw none
 
 module _ (s : List ℕ) (i : ℕ) where
   pub unblanked_blank : i < length s → is_blank (get_or s i 0) ≡ true → unblanked (drop i s) ≡ unblanked (drop (i + 1) s)

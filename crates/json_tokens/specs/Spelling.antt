@@ -1,6 +1,6 @@
 -- Believed: How tokens are spelled: each one's text, one behind the other, with blanks in front of any of them and at the end.
-use Rattle.std.specs.Prelude.{ℕ, ◌≡◌, Bool, true, not, cond, ◌||◌, eqb}
-use mathlib.Core.List.{List, [], ◌∷◌, ◌++◌, flatten}
+use Rattle.std.specs.Prelude.{ℕ, ◌≡◌, Bool, true, not, cond, ◌||◌, eqb, List, [], ◌∷◌, ◌++◌}
+use mathlib.Core.List.{flatten}
 use Rattle.lists.specs.Lists.{every}
 use Rattle.json_tokens.specs.Tokens.{Token, mark, text, no_token, is_blank, is_mark, quote, true_mark, false_mark, true_word, false_word}
 

@@ -1,7 +1,7 @@
 -- Laws: What spelled tokens read as: themselves, with any blanks between them. Assumes nothing.
-use Rattle.std.specs.Prelude.{ℕ, ◌≡◌, refl, true, false, not, ◌||◌, eqb}
-use Rattle.std.proofs.Common.{ap, ◌∙◌, eqb-true}
-use mathlib.Core.List.{List, [], ◌∷◌, ◌++◌, append_assoc, flatten}
+use Rattle.std.specs.Prelude.{ℕ, ◌≡◌, refl, true, false, not, ◌||◌, eqb, List, [], ◌∷◌, ◌++◌}
+use Rattle.std.proofs.Common.{ap, ◌∙◌, eqb-true, append_assoc}
+use mathlib.Core.List.{flatten}
 use Rattle.std.proofs.lemmas.Bool.{not-true}
 use Rattle.lists.specs.Tests.{cases, clash, and_left, and_right, or_other}
 use Rattle.lists.specs.Lists.{every, All, same}

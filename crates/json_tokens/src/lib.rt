@@ -62,14 +62,12 @@ fn blanks_end(s: &[u8], at: usize) -> usize
     requires { at ≤ length s.now }
     ensures { (unblanked (drop at s.now) ≡ drop result s.now) × (at ≤ result) × (result ≤ length s.now) }
 {
-    let mut i = at;
-    while i < s.len() {
+    for i in at..s.len() {
         if !is_blank(s[i]) {
             return i;
         }
-        i += 1;
     }
-    i
+    s.len()
 }
 
 // The position of the first quote from `at` on, or the end.
@@ -77,14 +75,12 @@ fn quote_at(s: &[u8], at: usize) -> usize
     requires { at ≤ length s.now }
     ensures { (quoted (drop at s.now) ≡ part at result s.now) × (closing (drop at s.now) ≡ drop result s.now) × (at ≤ result) × (result ≤ length s.now) }
 {
-    let mut i = at;
-    while i < s.len() {
+    for i in at..s.len() {
         if s[i] == QUOTE {
             return i;
         }
-        i += 1;
     }
-    i
+    s.len()
 }
 
 // Whether the bytes of `word` stand at `at`.
@@ -92,11 +88,7 @@ fn has_word(s: &[u8], at: usize, word: &[u8]) -> bool
     requires { at ≤ length s.now }
     ensures { result ≡ same word.now (take (length word.now) (drop at s.now)) }
 {
-    if s.len() - at < word.len() {
-        return false;
-    }
-    let end = at + word.len();
-    lists::is_same(word, &s[at..end])
+    s[at..].starts_with(word)
 }
 
 // The first token from `at` on.

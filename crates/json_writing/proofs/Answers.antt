@@ -1,14 +1,6 @@
 -- What writing an action answers and leaves, by what is found of it. Assumes nothing.
-use Prim.Native.Nat.{ℕ}
-use mathlib.Core.Path.{◌≡◌, refl}
-use mathlib.Core.List.{List}
-use mathlib.Core.Bool.{true, false}
-use native.Mathlib.Omega.{arith}
-use borrow.Author.Tests.{leb-false}
-use lib.Dec.{leb}
-use lib.ListN.{length}
+use Rattle.std.proofs.Common.{Err, ℕ, ◌≡◌, refl, List, true, false, arith, leb-false, leb, length}
 use Rattle.lists.specs.Tests.{cases}
-use Rattle.refusals.specs.declared.Outcome.TheVariants.{Refused}
 use Rattle.refusals.specs.declared.Refusal.{Refusal}
 use Rattle.refusals.specs.declared.Refusal.TheVariants.{Range, JsonLacks}
 use Rattle.actions.specs.declared.Action.{Action}
@@ -33,7 +25,7 @@ module _ (a : Action) (id : List ℕ) (kind : ℕ) (old : List ℕ) where
   json_held fits holds = rw (fits, holds) (refl, refl)
 
   -- a text that is not delivered: its length is 0, and nothing was put
-  undelivered : (t : List ℕ) (why : Refusal) → (delivered t old).outcome ≡ Refused why → ((delivered t old).length ≡ 0) × (put 0 t old ≡ old)
+  undelivered : (t : List ℕ) (why : Refusal) → (delivered t old).outcome ≡ Err why → ((delivered t old).length ≡ 0) × (put 0 t old ≡ old)
   unfolding delivered
   undelivered t why e =
       cases (leb (length t) (length old))
@@ -41,7 +33,7 @@ module _ (a : Action) (id : List ℕ) (kind : ℕ) (old : List ℕ) where
       (λ short. rw short (refl, (put_short 0 t old (omega (arith, leb-false (length t) (length old) short))).0))
 
   -- a refused write gives length 0 and leaves the buffer as it was
-  pub json_unwritten : (why : Refusal) → (json_written a id kind old).outcome ≡ Refused why
+  pub json_unwritten : (why : Refusal) → (json_written a id kind old).outcome ≡ Err why
       → ((json_written a id kind old).length ≡ 0) × (json_buffer a id kind old ≡ old)
   unfolding json_written json_buffer
   json_unwritten why e =

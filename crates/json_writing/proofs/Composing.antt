@@ -1,12 +1,7 @@
 -- The text of an action in range on a sheet of 807 bytes: its head and its tail fit one behind the other, and the sheet's front is then the text.
 -- Assumes nothing.
-use Prim.Native.Nat.{ℕ, ◌+◌, ◌≤◌}
-use mathlib.Core.Path.{◌≡◌, sym, ap, ◌∙◌}
-use mathlib.Core.List.{List, ◌++◌}
-use mathlib.Core.Bool.{Bool, true, ◌&&◌}
-use native.Mathlib.Omega.{arith}
-use lib.Dec.{leb, leb-suc-suc}
-use lib.ListN.{length, take, length-append}
+use Rattle.std.proofs.Common.{ℕ, ◌+◌, ◌≤◌, ◌≡◌, sym, ap, ◌∙◌, List, ◌++◌, Bool, true, ◌&&◌, arith, leb, length, take, length-append}
+use lib.Dec.{leb-suc-suc}
 use Rattle.lists.specs.Splices.{length_splice}
 use Rattle.lists.specs.Tests.{cases}
 use Rattle.lists.specs.Lists.{splice}

@@ -1,13 +1,9 @@
 -- Texts of parts that are put one behind the other: the last part of any of them, a flag and whether it is set, all flags.
 -- Assumes nothing.
-use Prim.Native.Nat.{ℕ, suc, ◌+◌, ◌≤◌}
-use mathlib.Core.Path.{◌≡◌, ◌∙◌}
-use mathlib.Core.List.{List, ◌++◌}
-use mathlib.Core.Bool.{Bool, cond}
-use lib.ListN.{length}
+use Rattle.std.proofs.Common.{ℕ, suc, ◌+◌, ◌≤◌, ◌≡◌, ◌∙◌, List, ◌++◌, Bool, cond, length, length-append}
 use Rattle.lists.specs.Lists.{splice}
 use Rattle.buffers.specs.Buffers.{put}
-use Rattle.buffers.specs.Laws.{Writing, put_fits, writing_start, writing_put, writing_next, writing_room, writing_left, writing_last, writing_done}
+use Rattle.buffers.specs.Laws.{Writing, put_fits, writing_start, writing_put, writing_next, writing_left, writing_last, writing_done}
 use Rattle.actions.specs.Actions.{flag_count}
 use Rattle.buffers.specs.Positions.{behind}
 use Rattle.json_tokens.specs.Tokens.{true_word, false_word}
@@ -40,16 +36,36 @@ flagging_start flags at old = writing_start at (flags_text flags) old
 
 module _ (flags : ℕ) {at : ℕ} {old : List ℕ} (i n : ℕ) {end : ℕ} {new : List ℕ} (room : at + length (flags_text flags) ≤ length old)
     (w : Flagging flags at old i (suc n) end new) where
-  -- the next flag fits
-  pub flagging_room : end + length (setting_text (flag_text i) flags i) ≤ length new
-  unfolding flags_from
-  flagging_room = writing_room (setting_text (flag_text i) flags i) (flags_from flags (suc i) n) room w
-
   -- the next flag is written
   pub flagging_next : {next : ℕ} {then : List ℕ} → next ≡ end + length (setting_text (flag_text i) flags i)
       → then ≡ splice end (setting_text (flag_text i) flags i) new → Flagging flags at old (suc i) n next then
   unfolding flags_from
   flagging_next place written = writing_next (setting_text (flag_text i) flags i) (flags_from flags (suc i) n) room w place written
+
+-- how long the ten flags are
+flags_more : (flags i n : ℕ) → length (flags_from flags i (suc n)) ≡ length (setting_text (flag_text i) flags i) + length (flags_from flags (suc i) n)
+unfolding flags_from
+flags_more flags i n = length-append (setting_text (flag_text i) flags i) (flags_from flags (suc i) n)
+
+abbrev setting_length : ℕ → ℕ → ℕ
+setting_length flags i = length (setting_text (flag_text i) flags i)
+
+pub flags_length : (flags : ℕ) → let l = setting_length flags in
+    length (flags_text flags) ≡ l 0 + (l 1 + (l 2 + (l 3 + (l 4 + (l 5 + (l 6 + (l 7 + (l 8 + (l 9 + 0)))))))))
+unfolding flags_from
+flags_length flags =
+    rw (
+      flags_more flags 0 9,
+      flags_more flags 1 8,
+      flags_more flags 2 7,
+      flags_more flags 3 6,
+      flags_more flags 4 5,
+      flags_more flags 5 4,
+      flags_more flags 6 3,
+      flags_more flags 7 2,
+      flags_more flags 8 1,
+      flags_more flags 9 0,
+    )
 
 -- behind the last flag nothing is left
 pub flagging_done : (flags : ℕ) {at : ℕ} {old : List ℕ} (i : ℕ) {end : ℕ} {new : List ℕ} → Flagging flags at old i 0 end new

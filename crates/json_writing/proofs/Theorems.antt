@@ -1,10 +1,5 @@
 -- What is proved of the writing of an action in the builder's form, over the definitions that the contract of `write_json` cites. Assumes nothing.
-use Prim.Native.Nat.{ℕ, ◌≤◌}
-use mathlib.Core.Path.{◌≡◌}
-use mathlib.Core.List.{List}
-use mathlib.Core.Bool.{true}
-use lib.ListN.{length}
-use Rattle.refusals.specs.declared.Outcome.TheVariants.{Refused}
+use Rattle.std.proofs.Common.{Err, ℕ, ◌≤◌, ◌≡◌, List, true, length}
 use Rattle.refusals.specs.declared.Refusal.{Refusal}
 use Rattle.actions.specs.declared.Action.{Action}
 use Rattle.json_rules.specs.Actions.{json_text, json_fits, json_written, json_buffer, json_limit}
@@ -17,6 +12,6 @@ module _ (a : Action) (id : List ℕ) (kind : ℕ) where
   json_length = laws.json_length a id kind
 
   -- 2. A refused write, for whatever reason, gives length 0 and leaves every byte of the buffer.
-  pub json_unwritten : (old : List ℕ) (why : Refusal) → (json_written a id kind old).outcome ≡ Refused why
+  pub json_unwritten : (old : List ℕ) (why : Refusal) → (json_written a id kind old).outcome ≡ Err why
       → ((json_written a id kind old).length ≡ 0) × (json_buffer a id kind old ≡ old)
   json_unwritten = answers.json_unwritten a id kind

@@ -15,7 +15,7 @@ ghost use Rattle.json_writing.specs.Pieces.{kind_text, opening_text, resources_t
 use actions::Action;
 use buffers::Written;
 use json_rules::JSON_TEXT;
-use refusals::{Outcome, Refusal};
+use refusals::Refusal;
 
 // Whether the form has a place for all of the action: no right above 2, nothing governed.
 fn has_place(a: Action) -> bool
@@ -24,14 +24,11 @@ fn has_place(a: Action) -> bool
     if a.governed != 0 {
         return false;
     }
-    let top = lists::least(a.used, Action::USES);
-    let mut i: usize = 0;
-    while i < top {
-        let u = a.uses[i];
+    let top = a.used.min(Action::USES);
+    for u in &a.uses[..top] {
         if rights::EXECUTE < u.right {
             return false;
         }
-        i += 1;
     }
     true
 }
@@ -93,18 +90,13 @@ fn put_resources(buf: &mut [u8], at: usize, a: Action, right: u32) -> usize
     ensures behind { result ≡ at + length (resources_text right (uses_of a)) }
     ensures written { buf.new ≡ splice at (resources_text right (uses_of a)) buf.old }
 {
-    let top = lists::least(a.used, Action::USES);
+    let top = a.used.min(Action::USES);
     let mut end = at;
     let mut first = true;
-    let mut i: usize = 0;
-    while i < top {
-        let u = a.uses[i];
+    for u in &a.uses[..top] {
         if u.right == right {
             end = put_resource(buf, end, first, u.resource);
             first = false;
-            i += 1;
-        } else {
-            i += 1;
         }
     }
     end
@@ -195,7 +187,7 @@ fn refused(why: Refusal) -> Written
     ensures { result ≡ unwritten why }
 {
     Written {
-        outcome: Outcome::Refused(why),
+        outcome: Err(why),
         length: 0,
     }
 }
@@ -214,6 +206,5 @@ pub fn write_json(a: Action, id: &[u8], kind: u32, buf: &mut [u8]) -> Written
     let mut sheet = [0u8; JSON_TEXT];
     let head_end = put_head(&mut sheet, a.actor, id, kind);
     let length = put_tail(&mut sheet, head_end, a);
-    let text: &[u8] = &sheet;
-    buffers::deliver(buf, &text[..length])
+    buffers::deliver(buf, &sheet[..length])
 }

@@ -1,18 +1,11 @@
 -- What the gate and the plan answer by what was filled from lent bytes is what they answer of the register that the bytes hold. Assumes nothing.
-use mathlib.Core.Path.{◌≡◌, refl, sym, ap, ◌∙◌}
-use mathlib.Core.Bool.{true, false}
-use mathlib.Core.List.{List, []}
-use Prim.Native.Nat.{ℕ, ◌≤◌, ◌<◌}
-use lib.ListN.{length, replicate}
+use Rattle.std.proofs.Common.{Result, Err, Ok, ◌≡◌, refl, sym, ap, ◌∙◌, true, false, List, [], ℕ, ◌≤◌, ◌<◌, length, replicate}
 use Rattle.register.specs.Register.{Shaped}
 use Rattle.register_bytes.specs.Bytes.{register_size, register_at, register_in}
 use Rattle.register_bytes.specs.Laws.{register_in_lem, register_shaped}
-use Rattle.soundness_rules.specs.Sound.{sound}
 use Rattle.soundness.specs.Opened.{Opened}
 use Rattle.soundness.specs.declared.Findings.{Findings}
 use Rattle.refusals.specs.Refusals.{outcome_of}
-use Rattle.refusals.specs.declared.Outcome.{Outcome}
-use Rattle.refusals.specs.declared.Outcome.TheVariants.{Accepted, Refused}
 use Rattle.refusals.specs.declared.Refusal.{Refusal}
 use Rattle.refusals.specs.declared.Refusal.TheVariants.{Unsound, Range}
 use Rattle.actions.specs.Actions.{action_limit}
@@ -67,11 +60,11 @@ module _ (bytes : List ℕ) (long : length bytes ≡ register_size) {s : List �
     many_planned p many e = e ∙ stop_many (register_in bytes) p (sym (held_sound bytes long opened) ∙ h) many
 
     module _ {counts : Counts} (of-counts : counts ≡ counts_of (register_at bytes)) where
-      tests_held : (a : Action) {outcome : Outcome} → outcome ≡ outcome_of (lent_tests found.actors.names counts.actors a)
+      tests_held : (a : Action) {outcome : Result Unit Refusal} → outcome ≡ outcome_of (lent_tests found.actors.names counts.actors a)
           → outcome_of (lent_tests found.actors.names (register_at bytes).actors.count a) ≡ outcome
       tests_held a e = sym (e ∙ ap (λ k. outcome_of (lent_tests found.actors.names k.actors a)) of-counts)
 
-      pub stopped_gated : (a : Action) {outcome : Outcome} (why : Refusal) → outcome ≡ outcome_of (lent_tests found.actors.names counts.actors a) → outcome ≡ Refused why
+      pub stopped_gated : (a : Action) {outcome : Result Unit Refusal} (why : Refusal) → outcome ≡ outcome_of (lent_tests found.actors.names counts.actors a) → outcome ≡ Err why
           → {v : Verdict} → v ≡ stopping why → v ≡ gated (register_in bytes) a
       stopped_gated a why asked is e =
           e
@@ -87,8 +80,8 @@ module _ (bytes : List ℕ) (long : length bytes ≡ register_size) {s : List �
             ap (λ k. lent_of k found lens ends s paths) of-counts
             ∙ lent_told (register_at bytes) shaped.claims opened.put opened.told lay.1 (of-ends ∙ ap (λ k. sheet_ends s found.ups k.claims) of-counts) lay.0
 
-        pub judged_gated : (a : Action) {outcome : Outcome} → outcome ≡ outcome_of (lent_tests found.actors.names counts.actors a) → outcome ≡ Accepted → {judged : UsesJudged}
-            → judged ≡ lent_judged (lent_of counts found lens ends s paths) a → {v : Verdict} → v ≡ verdict_told Accepted judged → v ≡ gated (register_in bytes) a
+        pub judged_gated : (a : Action) {outcome : Result Unit Refusal} → outcome ≡ outcome_of (lent_tests found.actors.names counts.actors a) → outcome ≡ Ok tt → {judged : UsesJudged}
+            → judged ≡ lent_judged (lent_of counts found lens ends s paths) a → {v : Verdict} → v ≡ verdict_told (Ok tt) judged → v ≡ gated (register_in bytes) a
         judged_gated a asked is {judged = judged} of-judged e =
             let by : lent_by (register_at bytes) s found ≡ lent_in (register_at bytes) = lent_told (register_at bytes) shaped.claims opened.put opened.told refl refl refl in
             e
@@ -101,11 +94,11 @@ module _ (bytes : List ℕ) (long : length bytes ≡ register_size) {s : List �
           stop_held =
               stop_found (register_at bytes) p (sym (found_sound (register_at bytes) shaped.claims opened.put opened.told) ∙ h) few lent_held of-stop
 
-          pub stopped_planned : (why : Refusal) → stop.outcome ≡ Refused why → {v : PlanVerdict} → v ≡ stopped why stop.position → v ≡ planned (register_in bytes) p
+          pub stopped_planned : (why : Refusal) → stop.outcome ≡ Err why → {v : PlanVerdict} → v ≡ stopped why stop.position → v ≡ planned (register_in bytes) p
           stopped_planned why is e =
               e ∙ found_halts (sheeted (register_at bytes)) p stop_held why is ∙ planned_sheeted (register_at bytes) shaped.claims p ∙ sym (ap (λ r. planned r p) (register_in_lem bytes long))
 
-          pub judged_planned : stop.outcome ≡ Accepted → {v : PlanVerdict}
+          pub judged_planned : stop.outcome ≡ Ok tt → {v : PlanVerdict}
               → v ≡ heldList (judgements_by (lent_of counts found lens ends s paths) false (actions_of p)) → v ≡ planned (register_in bytes) p
           judged_planned is e =
               planned_lent (register_at bytes) p shaped (told_runs (halt_of (sheeted (register_at bytes)) p) stop_held is) lent_held e

@@ -1,10 +1,6 @@
 -- What is found by what was filled from lent bytes is what is found of the register that they hold: of as many bytes as a register has, the one whose
 -- fields stand in them; of others, that of version 0, which is not sound. Assumes nothing.
-use mathlib.Core.Path.{◌≡◌, refl, sym, ap, ◌∙◌}
-use mathlib.Core.Bool.{Bool, false}
-use mathlib.Core.List.{List}
-use Prim.Native.Nat.{ℕ}
-use lib.ListN.{length, replicate}
+use Rattle.std.proofs.Common.{◌≡◌, refl, sym, ap, ◌∙◌, Bool, false, List, ℕ, length, replicate}
 use Rattle.register.specs.Register.{claims_of, Shaped}
 use Rattle.register.specs.declared.Register.{Register}
 use Rattle.register_bytes.specs.Bytes.{register_size, register_at, versionless, register_in}

@@ -1,9 +1,5 @@
 -- Claims taken apart into a sheet one after the other: what the loop knows, and what the sheet is after it. Assumes nothing.
-use mathlib.Core.Path.{◌≡◌, sym, ap, ◌∙◌}
-use mathlib.Core.List.{List}
-use Prim.Native.Nat.{ℕ, ◌+◌, ◌≤◌, ◌<◌, min}
-use native.Mathlib.Omega.{arith}
-use lib.ListN.{length, take, get_or}
+use Rattle.std.proofs.Common.{◌≡◌, sym, ap, ◌∙◌, List, ℕ, ◌+◌, ◌≤◌, ◌<◌, min, arith, length, take, get_or}
 use Rattle.register.specs.Limits.{claim_limit}
 use Rattle.register.specs.Register.{no_claim}
 use Rattle.register.specs.declared.Claim.{Claim}

@@ -22,8 +22,8 @@ ghost use Rattle.gate.specs.Judged.{counts_of};
 
 use actions::{Action, Plan, PlanVerdict, Verdict};
 use columns::{ActorColumns, ResourceColumns};
-use gate::Counts;
-use refusals::{Outcome, Refusal};
+use gate::{Counts, LentRegister};
+use refusals::Refusal;
 use register::{Claim, Register, Resource};
 use soundness::Findings;
 
@@ -53,19 +53,12 @@ const VERSION_AT: usize = CLAIM_COUNT_AT + WIDE;
 
 const REGISTER: usize = VERSION_AT + WIDE;
 
-// The number of four bytes.
-fn number_of(first: u8, second: u8, third: u8, fourth: u8) -> u32
-    ensures { result ≡ first + 256 * second + 65536 * third + 16777216 * fourth }
-{
-    (first as u32) + 256 * (second as u32) + 65536 * (third as u32) + 16777216 * (fourth as u32)
-}
-
 // The number at a place.
 fn number_at(bytes: &[u8], at: usize) -> u32
     requires { at + number_size ≤ length bytes.now }
     ensures { result ≡ number_in number_size at bytes.now }
 {
-    number_of(bytes[at], bytes[at + 1], bytes[at + 2], bytes[at + 3])
+    u32::from_le_bytes([bytes[at], bytes[at + 1], bytes[at + 2], bytes[at + 3]])
 }
 
 // The wide number at a place.
@@ -84,11 +77,7 @@ fn path_at(bytes: &[u8], at: usize) -> [u8; Register::PATH]
     ensures { result ≡ take path_limit (drop at bytes.now) }
 {
     let mut path = [0u8; Register::PATH];
-    let mut i: usize = 0;
-    while i < Register::PATH {
-        path[i] = bytes[at + i];
-        i += 1;
-    }
+    path.copy_from_slice(&bytes[at..at + Register::PATH]);
     path
 }
 
@@ -130,19 +119,16 @@ fn actors_in(bytes: &[u8], count: usize) -> ActorColumns
     requires { (length bytes.now ≡ register_size) × (count ≡ (register_at bytes.now).actors.count) }
     ensures { result ≡ actor_columns (actors_to (register_at bytes.now).actors).list }
 {
-    let top = lists::least(count, Register::ACTORS);
     let mut columns = ActorColumns {
         names: [0; Register::ACTORS],
         kinds: [0; Register::ACTORS],
         owners: [0; Register::ACTORS],
     };
-    let mut i: usize = 0;
-    while i < top {
+    for i in 0..count.min(Register::ACTORS) {
         let at = i * ACTOR;
         columns.names[i] = number_at(bytes, at);
         columns.kinds[i] = number_at(bytes, at + NUMBER);
         columns.owners[i] = number_at(bytes, at + 2 * NUMBER);
-        i += 1;
     }
     columns
 }
@@ -152,19 +138,16 @@ fn resources_in(bytes: &[u8], count: usize) -> ResourceColumns
     requires { (length bytes.now ≡ register_size) × (count ≡ (register_at bytes.now).resources.count) }
     ensures { result ≡ resource_columns (resources_to (register_at bytes.now).resources).list }
 {
-    let top = lists::least(count, Register::RESOURCES);
     let mut columns = ResourceColumns {
         reports: [0; Register::RESOURCES],
         keepers: [0; Register::RESOURCES],
         publics: [0; Register::RESOURCES],
     };
-    let mut i: usize = 0;
-    while i < top {
+    for i in 0..count.min(Register::RESOURCES) {
         let at = RESOURCES_AT + i * RESOURCE;
         columns.reports[i] = number_at(bytes, at);
         columns.publics[i] = number_at(bytes, at + NUMBER);
         columns.keepers[i] = number_at(bytes, at + 2 * NUMBER);
-        i += 1;
     }
     columns
 }
@@ -174,13 +157,10 @@ fn resources_alone(bytes: &[u8], count: usize) -> bool
     requires { (length bytes.now ≡ register_size) × (count ≡ (register_at bytes.now).resources.count) }
     ensures { result ≡ resources_alone (register_at bytes.now).resources }
 {
-    let top = lists::least(count, Register::RESOURCES);
     let mut fit = true;
-    let mut i: usize = 0;
-    while i < top {
+    for i in 0..count.min(Register::RESOURCES) {
         let o = resource_at(bytes, RESOURCES_AT + i * RESOURCE);
-        fit = fit & soundness::resource_fits(true, o);
-        i += 1;
+        fit &= soundness::resource_fits(true, o);
     }
     fit
 }
@@ -190,11 +170,7 @@ fn put_path(paths: &mut [u8], to: usize, bytes: &[u8], from: usize)
     requires { (to + path_limit ≤ length paths.old) × (from + path_limit ≤ length bytes.now) }
     ensures { paths.new ≡ paste paths.old to (take path_limit (drop from bytes.now)) path_limit }
 {
-    let mut i: usize = 0;
-    while i < Register::PATH {
-        paths[to + i] = bytes[from + i];
-        i += 1;
-    }
+    paths[to..to + Register::PATH].copy_from_slice(&bytes[from..from + Register::PATH]);
 }
 
 // Lays the paths of the resources that stand over the buffer of all paths, and answers their lengths, 0 behind them.
@@ -203,14 +179,11 @@ fn lay(paths: &mut [u8], bytes: &[u8], count: usize) -> [usize; Register::RESOUR
     ensures laid { paths.new ≡ laid_in paths.old (register_at bytes.now).resources }
     ensures lengths { result ≡ lens_of (register_at bytes.now).resources }
 {
-    let top = lists::least(count, Register::RESOURCES);
     let mut lens = [0usize; Register::RESOURCES];
-    let mut i: usize = 0;
-    while i < top {
+    for i in 0..count.min(Register::RESOURCES) {
         let at = RESOURCES_AT + i * RESOURCE;
         put_path(paths, i * Register::PATH, bytes, at + 4 * NUMBER);
         lens[i] = number_at(bytes, at + 3 * NUMBER) as usize;
-        i += 1;
     }
     lens
 }
@@ -220,11 +193,8 @@ fn put_claims(sheet: &mut [u32], bytes: &[u8], count: usize)
     requires { (length bytes.now ≡ register_size) × (length sheet.old ≡ sheet_limit) × (count ≡ (register_at bytes.now).claims.count) }
     ensures { sheet.new ≡ sheet_with sheet.old (claims_of (register_at bytes.now).claims) }
 {
-    let top = lists::least(count, Register::CLAIMS);
-    let mut i: usize = 0;
-    while i < top {
+    for i in 0..count.min(Register::CLAIMS) {
         columns::take_apart(sheet, i, claim_at(bytes, CLAIMS_AT + i * CLAIM));
-        i += 1;
     }
 }
 
@@ -293,11 +263,18 @@ pub fn gate(bytes: &[u8], a: Action) -> Verdict
     let ends = gate::claim_ends(&sheet, &found.ups, counts.claims);
     let outcome = gate::action_outcome(&found.actors.names, counts.actors, a);
     match outcome {
-        Outcome::Refused(why) => violations::stopped(why),
-        Outcome::Accepted => {
-            let judged = gate::judge_by(counts, found, &lens, &ends, &sheet, &paths, a);
-            let hops = judged.hops;
-            violations::decided(judged.violations, hops)
+        Err(why) => violations::stopped(why),
+        Ok(()) => {
+            let lent = LentRegister {
+                counts,
+                found: &found,
+                lens: &lens,
+                ends: &ends,
+                sheet: &sheet,
+                bytes: &paths,
+            };
+            let judged = lent.judge(a);
+            violations::decided(judged.violations, judged.hops)
         }
     }
 }
@@ -324,7 +301,17 @@ pub fn plan(bytes: &[u8], p: Plan) -> PlanVerdict
     let stop = plans::first_stop(&found.actors.names, counts.actors, p);
     let outcome = stop.outcome;
     match outcome {
-        Outcome::Refused(why) => plans::stopped(why, stop.position),
-        Outcome::Accepted => plans::judge_all(counts, found, &lens, &ends, &sheet, &paths, p),
+        Err(why) => plans::stopped(why, stop.position),
+        Ok(()) => {
+            let lent = LentRegister {
+                counts,
+                found: &found,
+                lens: &lens,
+                ends: &ends,
+                sheet: &sheet,
+                bytes: &paths,
+            };
+            plans::judge_all(lent, p)
+        }
     }
 }

@@ -1,7 +1,5 @@
 -- The definitions of lines on small texts, yes and no, computed. The key `n=` is 110 and 61, and 48 to 57 are the digits. Assumes nothing.
-use mathlib.Core.Path.{◌≡◌, refl}
-use mathlib.Core.Bool.{true, false}
-use mathlib.Core.List.{[], ◌∷◌}
+use Rattle.std.proofs.Common.{◌≡◌, refl, true, false, [], ◌∷◌}
 use Rattle.decimals.specs.Decimals.{digits_with, digits, digit_run, after, value, canonical, parse}
 use Rattle.lists.specs.Bytes.{bytes}
 use Rattle.refusals.specs.declared.Refusal.TheVariants.{Form, Count}

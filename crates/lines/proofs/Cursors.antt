@@ -1,19 +1,11 @@
 -- Where a reading stands behind each of the code's answers: as it was, behind the line, or failed at it. Assumes nothing.
-use Prim.Native.Nat.{ℕ, ◌+◌, ◌≤◌, ◌<◌}
-use mathlib.Core.Path.{◌≡◌, refl, ◌∙◌}
-use mathlib.Core.List.{List, []}
-use mathlib.Core.Bool.{Bool, true, false, ◌&&◌}
-use native.Mathlib.Omega.{arith}
-use lib.Dec.{leb}
-use lib.ListN.{length, drop, drop_of_length-le}
-use borrow.Author.Tests.{le-leb, leb-true}
-use Rattle.lists.specs.Tests.{and_left, and_right, clash}
+use Rattle.std.proofs.Common.{ℕ, ◌+◌, ◌≤◌, ◌<◌, Some, None, ◌≡◌, refl, ◌∙◌, List, [], Bool, true, false, ◌&&◌, arith, leb, length, drop, le-leb, leb-true}
+use Rattle.lists.specs.Tests.{and_left, and_right}
 use Rattle.decimals.specs.Walk.{drop_byte}
-use Rattle.register.specs.Limits.{human_kind, machine_kind}
 use Rattle.refusals.specs.declared.Refusal.{Refusal}
 use Rattle.refusals.specs.declared.Refusal.TheVariants.{Form}
-use Rattle.lines.specs.Lines.{Line, line, beyond, fault, parse_word, human_line, machine_line, parse_scope, held_path}
-use Rattle.lines.specs.Reading.{State, going, failed, LineForm, kind, parse_form, above_refusal, read_form, read_scope, closed}
+use Rattle.lines.specs.Lines.{Line, line, beyond, fault, parse_word, parse_scope, held_path}
+use Rattle.lines.specs.Reading.{going, failed, read_scope, closed}
 use Rattle.lines.specs.Answers.{FieldSays, PathSays, ScopeSays, state_of, read_word}
 use Rattle.lines.specs.declared.Cursor.{Cursor}
 use Rattle.lines.specs.declared.Scope.{Scope}
@@ -50,39 +42,12 @@ module _ (s : List ℕ) (c : Cursor) where
   state_fails : (why : Refusal) → state_of s (fails c why) ≡ failed why (c.line + 1)
   state_fails why = refl
 
-  -- a reading that failed, or whose text ends here, is closed as it is; trailing bytes fail it
-  pub closed_off : goes_on s c ≡ false → state_of s c ≡ closed (state_of s c)
-  closed_off h = rw (state_off h)
-
-  pub closed_end : goes_on s c ≡ true → length s ≤ c.at → state_of s c ≡ closed (state_of s c)
-  closed_end h k = rw (state_on h, drop_of_length-le s k)
-
+  -- trailing bytes fail a reading that is on
   pub closed_trailing : (d : Cursor) → goes_on s c ≡ true → c.at < length s → d ≡ fails c Form → state_of s d ≡ closed (state_of s c)
   closed_trailing d h k e = rw (state_on h, drop_byte s c.at k, e) (state_fails Form)
 
-  -- a number's reading, by what the text at the cursor begins with
-  module _ (f : LineForm) where
-    pub field_off : goes_on s c ≡ false → FieldSays s (record { value = 0; cursor = c }) (read_form f (state_of s c))
-    field_off h = rw (state_off h) (record { value = refl; state = state_off h })
-
-    module _ (h : goes_on s c ≡ true) where
-      pub field_behind : (n next : ℕ) (d : Cursor) → parse_form f (drop c.at s) ≡ line n (drop next s) → next ≤ length s → c.at < next →
-          d ≡ behind c next → FieldSays s (record { value = n; cursor = d }) (read_form f (state_of s c))
-      field_behind n next d e k b g = rw (state_on h, e, g) (record { value = refl; state = state_behind next h k b })
-
-      pub field_over : (d : Cursor) → parse_form f (drop c.at s) ≡ beyond → d ≡ fails c (above_refusal f) →
-          FieldSays s (record { value = 0; cursor = d }) (read_form f (state_of s c))
-      field_over d e g = rw (state_on h, e, g) (record { value = refl; state = state_fails (above_refusal f) })
-
-      pub field_fault : (d : Cursor) → parse_form f (drop c.at s) ≡ fault → d ≡ fails c Form →
-          FieldSays s (record { value = 0; cursor = d }) (read_form f (state_of s c))
-      field_fault d e g = rw (state_on h, e, g) (record { value = refl; state = state_fails Form })
-
-  -- the reading of a line of two words, by the same
+  -- the reading of a line of two words, by what the text at the cursor begins with
   module _ (first : List ℕ) (one : ℕ) (second : List ℕ) (other : ℕ) where
-    pub word_off : goes_on s c ≡ false → FieldSays s (record { value = 0; cursor = c }) (read_word first one second other (state_of s c))
-    word_off h = rw (state_off h) (record { value = refl; state = state_off h })
-
     module _ (h : goes_on s c ≡ true) where
       pub word_behind : (n next : ℕ) (d : Cursor) → parse_word first one second other (drop c.at s) ≡ line n (drop next s) → next ≤ length s →
           c.at < next → d ≡ behind c next → FieldSays s (record { value = n; cursor = d }) (read_word first one second other (state_of s c))
@@ -93,31 +58,23 @@ module _ (s : List ℕ) (c : Cursor) where
       word_fault d e g = rw (state_on h, e, g) (record { value = refl; state = state_fails Form })
 
   -- a path's reading, by the same
-  pub scope_off : (r : Scope) → goes_on s c ≡ false → r ≡ record { path = held_path []; len = 0; cursor = c } → ScopeSays s r (read_scope (state_of s c))
-  scope_off r h e = rw (state_off h, e) (record { path = refl; len = refl; state = state_off h })
-
   module _ (h : goes_on s c ≡ true) where
     pub scope_fault : (r : Scope) (d : Cursor) → parse_scope (drop c.at s) ≡ fault → d ≡ fails c Form →
         r ≡ record { path = held_path []; len = 0; cursor = d } → ScopeSays s r (read_scope (state_of s c))
     scope_fault r d e g k = rw (state_on h, e, k, g) (record { path = refl; len = refl; state = state_fails Form })
 
-    pub scope_behind : (at : ℕ) (p : PathRead) (d : Cursor) (read : Line (List ℕ)) → parse_scope (drop c.at s) ≡ read → PathSays s at p read →
-        p.ok ≡ true → c.at ≤ at → d ≡ behind c p.next → ScopeSays s (record { path = p.path; len = p.len; cursor = d }) (read_scope (state_of s c))
+    pub scope_behind : (at : ℕ) (p : PathRead) (d : Cursor) (read : Line (List ℕ)) → parse_scope (drop c.at s) ≡ read → PathSays s at (Some p) read →
+        c.at ≤ at → d ≡ behind c p.next → ScopeSays s (record { path = p.path; len = p.len; cursor = d }) (read_scope (state_of s c))
     unfolding PathSays
-    scope_behind at p d (line q rest) e says ok b g =
+    scope_behind at p d (line q rest) e says b g =
         rw (state_on h, e, g)
-        (record { path = says.1; len = says.2; state = state_behind p.next h says.4 (omega (arith, says.5)) ∙ rw says.3 })
-    scope_behind at p d beyond e says ok b g = absurd says
-    scope_behind at p d fault e says ok b g = clash p.ok ok says
+        (record { path = says.0; len = says.1; state = state_behind p.next h says.3 (omega (arith, says.4)) ∙ rw says.2 })
+    scope_behind at p d beyond e says b g = absurd says
+    scope_behind at p d fault e says b g = absurd says
 
 -- a path that was not read is none
-pub path_unread : (s : List ℕ) (at : ℕ) (p : PathRead) (read : Line (List ℕ)) → PathSays s at p read → p.ok ≡ false → read ≡ fault
+pub path_unread : (s : List ℕ) (at : ℕ) (read : Line (List ℕ)) → PathSays s at None read → read ≡ fault
 unfolding PathSays
-path_unread s at p (line q rest) says unread = clash p.ok says.0 unread
-path_unread s at p beyond says unread = absurd says
-path_unread s at p fault says unread = refl
-
--- an actor's kind is one of two words
-pub kind_word : (st : State) → read_word human_line human_kind machine_line machine_kind st ≡ read_form kind st
-kind_word (going t l) = refl
-kind_word (failed why l) = refl
+path_unread s at (line q rest) says = absurd says
+path_unread s at beyond says = absurd says
+path_unread s at fault says = refl

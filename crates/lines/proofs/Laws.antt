@@ -1,13 +1,11 @@
 -- Laws: The two laws of each line: its text reads as its value, whatever follows, and whatever reads as a value is that value's text and what follows
 -- it. And how great and how long what is read can be. Assumes nothing.
-use Rattle.std.specs.Prelude.{ℕ, ◌+◌, ◌≤◌, ◌<◌, ◌≡◌, List, [], ◌∷◌, ◌++◌, Bool, ◌||◌, ltb, leb, length}
+use Rattle.std.proofs.Common.{ℕ, ◌+◌, ◌≤◌, ◌<◌, ◌≡◌, List, [], ◌∷◌, ◌++◌, Bool, ◌||◌, ltb, leb, length, sym, ap, ◌∙◌, append_assoc, append-nil, arith, length-append, eq-eqb, ne_eqb, le-leb, le-ltb, lt-ltb, eqb-true, leb-true, ltb-true, ltb-false}
 use Rattle.std.proofs.Math.Path.{refl}
-use Rattle.std.proofs.Common.{sym, ap, ◌∙◌, append_assoc, append-nil, arith, length-append}
 use Rattle.std.proofs.Math.Bool.{true, false, cond}
 use Rattle.std.proofs.Math.Dec.{eqb}
 use Rattle.std.proofs.Math.ListN.{drop}
 use Rattle.std.proofs.Math.Seq.{drop-append_seam}
-use borrow.Author.Tests.{eq-eqb, ne_eqb, le-leb, le-ltb, lt-ltb, eqb-true, leb-true, ltb-true, ltb-false}
 use Rattle.lists.specs.Tests.{cases, and_left, and_right, and_both, or_other}
 use Rattle.lists.specs.Lists.{every}
 use Rattle.register.specs.Limits.{human_kind, machine_kind, path_limit, path_byte_least, path_byte_greatest, ranged}

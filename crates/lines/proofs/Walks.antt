@@ -1,45 +1,24 @@
 -- The definitions of lines at a position of a text: what one byte more, or one answer more, makes of them. Assumes nothing.
-use Prim.Native.Nat.{ℕ, ◌+◌, ◌-◌, ◌≤◌, ◌<◌}
-use mathlib.Core.Path.{◌≡◌, refl, ap, ◌∙◌}
-use mathlib.Core.List.{List, [], ◌∷◌, ◌++◌}
-use mathlib.Core.Bool.{Bool, true, false, cond}
-use native.Mathlib.Omega.{arith}
-use lib.Dec.{eqb}
-use lib.ListN.{length, get_or, drop, replicate, drop_of_length-le, length-append, length-drop}
-use lib.Seq.{drop-drop}
-use borrow.Author.Tests.{eq-eqb, ne_eqb, le-leb, lt-leb, lt-ltb, le-ltb}
+use Rattle.std.proofs.Common.{ℕ, ◌+◌, ◌-◌, ◌≤◌, ◌<◌, nat_eq, Some, None, ◌&&◌, ◌≡◌, refl, ap, ◌∙◌, List, [], ◌∷◌, ◌++◌, Bool, true, false, cond, arith, eqb, length, get_or, drop, replicate, drop_of_length-le, length-append, length-drop, drop-drop, eq-eqb, ne_eqb, le-leb, lt-ltb, le-ltb}
+use Rattle.std.specs.List.{starts_with}
+use borrow.Author.Tests.{lt-leb}
 use Rattle.register.specs.Limits.{path_limit, path_byte_least, path_byte_greatest}
 use Rattle.decimals.specs.Decimals.{Parsed, got, large, bad, parse}
 use Rattle.decimals.specs.Walk.{drop_byte}
 use Rattle.lines.specs.Lines.{line_feed, Line, line, beyond, fault, begins, ended, parse_limited, at_least, decimal_line, parse_word, scope_key, path_on, parse_scope}
 use Rattle.lines.specs.Answers.{PathSays}
 use Rattle.lines.proofs.Laws.{begins_split, limited_read, decimal_line_length}
-use Rattle.lines.specs.declared.PathRead.{PathRead}
 
--- a key that is longer than the text
-pub begins_long : (key t : List ℕ) → length t < length key → begins key t ≡ false
+-- a text begins with a key where as many bytes at its front are the key's
+pub begins_starts : (key t : List ℕ) → starts_with nat_eq t key ≡ begins key t
 unfolding begins
-begins_long [] t h = absurd (omega arith)
-begins_long (k ∷ key) [] h = refl
-begins_long (k ∷ key) (b ∷ t) h = rw (begins_long key t (omega arith)) (go (eqb k b))
+begins_starts [] t = refl
+begins_starts (k ∷ key) [] = refl
+begins_starts (k ∷ key) (b ∷ t) = rw (begins_starts key t) (go (eqb k b) (begins key t))
   where
-    go : (x : Bool) → cond x false false ≡ false
-    go true = refl
-    go false = refl
-
-module _ (key s : List ℕ) (i j : ℕ) where
-  pub begins_same : i < length key → j < length s → get_or key i 0 ≡ get_or s j 0 →
-      begins (drop i key) (drop j s) ≡ begins (drop (i + 1) key) (drop (j + 1) s)
-  unfolding begins
-  begins_same h k e = rw (drop_byte key i h, drop_byte s j k, eq-eqb _ _ e)
-
-  pub begins_other : i < length key → j < length s → (get_or key i 0 ≡ get_or s j 0 → ⊥) → begins (drop i key) (drop j s) ≡ false
-  unfolding begins
-  begins_other h k e = rw (drop_byte key i h, drop_byte s j k, ne_eqb _ _ e)
-
-  pub begins_done : length key ≤ i → begins (drop i key) (drop j s) ≡ true
-  unfolding begins
-  begins_done h = rw (drop_of_length-le key h)
+    go : (x y : Bool) → (x && y) ≡ cond x y false
+    go true y = refl
+    go false y = refl
 
 -- a key that stands at a position is within the text
 pub begins_within : (key s : List ℕ) (at : ℕ) → at ≤ length s → begins key (drop at s) ≡ true → at + length key ≤ length s
@@ -167,11 +146,11 @@ module _ (path s : List ℕ) (i : ℕ) where
     path_next e f g k = rw (drop_byte s i h, ne_eqb _ _ e, le-ltb _ _ f, le-ltb _ _ g, lt-ltb _ _ k)
 
 -- the answers of a path's reading
-pub says_no_path : (s : List ℕ) (at : ℕ) (r : PathRead) (p : Line (List ℕ)) → p ≡ fault → r.ok ≡ false → PathSays s at r p
+pub says_no_path : (s : List ℕ) (at : ℕ) (p : Line (List ℕ)) → p ≡ fault → PathSays s at None p
 unfolding PathSays
-says_no_path s at r p e h = rw e h
+says_no_path s at p e = rw e tt
 
 pub says_path : (s path held : List ℕ) (at n next : ℕ) (p : Line (List ℕ)) → p ≡ line path (drop next s) → length path ≡ n →
-    held ≡ path ++ replicate (path_limit - n) 0 → next ≤ length s → at < next → PathSays s at (record { ok = true; path = held; len = n; next = next }) p
+    held ≡ path ++ replicate (path_limit - n) 0 → next ≤ length s → at < next → PathSays s at (Some (record { path = held; len = n; next = next })) p
 unfolding PathSays
-says_path s path held at n next p e len b h k = rw (e, b, ← len) (refl, refl, refl, refl, h, k)
+says_path s path held at n next p e len b h k = rw (e, b, ← len) (refl, refl, refl, h, k)

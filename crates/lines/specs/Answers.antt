@@ -1,13 +1,13 @@
 -- Working: What the code's answers say of a text: where a cursor stands, and what was read. The contracts of reading tie them to `read_form` and
 -- `read_scope`.
-use Rattle.std.specs.Prelude.{ℕ, ◌≤◌, ◌<◌, ◌+◌, ◌≡◌, List, true, false, cond, ◌&&◌, length, drop, leb}
+use Rattle.std.specs.Prelude.{ℕ, ◌≤◌, ◌<◌, ◌+◌, ◌≡◌, List, cond, ◌&&◌, Option, Some, None, length, drop, leb}
 use Rattle.refusals.specs.declared.Refusal.TheVariants.{Form}
 use Rattle.lines.specs.Lines.{Line, line, beyond, fault, parse_word, action_step, action_step_line, plan_step, plan_step_line, held_path}
 use Rattle.lines.specs.Reading.{Read, failed, State, going, taken}
 use Rattle.lines.specs.declared.LineRead.{LineRead}
 use Rattle.lines.specs.declared.LineRead.TheVariants.{Value, Over, Fault}
 use Rattle.lines.specs.declared.PathRead.{PathRead}
-use Rattle.lines.specs.declared.Field.{Field}
+use Rattle.lines.specs.declared.Reading.{Reading}
 use Rattle.lines.specs.declared.Scope.{Scope}
 use Rattle.lines.specs.declared.Cursor.{Cursor}
 
@@ -32,13 +32,16 @@ LineSays s at Over p = p ≡ beyond
 LineSays s at Fault p = p ≡ fault
 
 -- the code's answer for a path that begins at a position of s
-unfoldable pub PathSays : List ℕ → ℕ → PathRead → Line (List ℕ) → Type 0
-PathSays s at r (line p rest) = (r.ok ≡ true) × (r.path ≡ held_path p) × (r.len ≡ length p) × (rest ≡ drop r.next s) × (r.next ≤ length s) × (at < r.next)
-PathSays s at r beyond = ⊥
-PathSays s at r fault = r.ok ≡ false
+unfoldable pub PathSays : List ℕ → ℕ → Option PathRead → Line (List ℕ) → Type 0
+PathSays s at (Some r) (line p rest) = (r.path ≡ held_path p) × (r.len ≡ length p) × (rest ≡ drop r.next s) × (r.next ≤ length s) × (at < r.next)
+PathSays s at (Some r) beyond = ⊥
+PathSays s at (Some r) fault = ⊥
+PathSays s at None (line p rest) = ⊥
+PathSays s at None beyond = ⊥
+PathSays s at None fault = Unit {0}
 
 -- the code's answer for a number and for a path, and where the reading of s then stands
-pub record FieldSays (s : List ℕ) (r : Field) (read : Read ℕ) : Type 0 where
+pub record FieldSays (s : List ℕ) (r : Reading ℕ) (read : Read ℕ) : Type 0 where
   pub value : r.value ≡ read.value
   pub state : state_of s r.cursor ≡ read.state
 

@@ -29,10 +29,10 @@ pub struct Cursor {
     pub refusal: Refusal,
 }
 
-// A number that was read, 0 where the reading failed, and where it then stands.
+// What was read, a number 0 where the reading failed, and where the reading then stands.
 #[derive(Clone, Copy)]
-pub struct Field {
-    pub value: u32,
+pub struct Reading<T> {
+    pub value: T,
     pub cursor: Cursor,
 }
 
@@ -52,10 +52,9 @@ pub enum LineRead {
     Fault,
 }
 
-// A path with the position behind its LF. An enum holds no array, so the answer whether there is one stands beside it.
+// A path with the position behind its LF.
 #[derive(Clone, Copy)]
 pub struct PathRead {
-    pub ok: bool,
     pub path: [u8; Register::PATH],
     pub len: usize,
     pub next: usize,
@@ -85,10 +84,9 @@ pub fn refused(c: Cursor, refusal: Refusal) -> Cursor
     ensures { result ≡ record { at = c.at; line = c.line; on = false; refusal = refusal } }
 {
     Cursor {
-        at: c.at,
-        line: c.line,
         on: false,
         refusal,
+        ..c
     }
 }
 
@@ -96,13 +94,7 @@ pub fn refused(c: Cursor, refusal: Refusal) -> Cursor
 pub fn goes_on(s: &[u8], c: Cursor) -> bool
     ensures { result ≡ (c.on && (leb c.at (length s.now) && leb c.line c.at)) }
 {
-    if !c.on {
-        return false;
-    }
-    if s.len() < c.at {
-        return false;
-    }
-    c.line <= c.at
+    c.on && c.at <= s.len() && c.line <= c.at
 }
 
 // Whether the bytes of `key` stand at `at`.
@@ -110,17 +102,7 @@ fn has_key(s: &[u8], at: usize, key: &[u8]) -> bool
     requires { at ≤ length s.now }
     ensures { result ≡ begins key.now (drop at s.now) }
 {
-    if s.len() - at < key.len() {
-        return false;
-    }
-    let mut i: usize = 0;
-    while i < key.len() {
-        if key[i] != s[at + i] {
-            return false;
-        }
-        i += 1;
-    }
-    true
+    s[at..].starts_with(key)
 }
 
 // The line of `key`, which ends with '=', with a number up to `greatest`.
@@ -133,18 +115,14 @@ fn read_limited(s: &[u8], at: usize, key: &[u8], greatest: u32) -> LineRead
     }
     match decimals::read_number(s, at + key.len(), greatest) {
         Number::Value(n, next) => {
-            if next < s.len() {
-                if s[next] == LINE_FEED {
-                    return LineRead::Value(n, next + 1);
-                }
+            if next < s.len() && s[next] == LINE_FEED {
+                return LineRead::Value(n, next + 1);
             }
             LineRead::Fault
         }
         Number::Large(next) => {
-            if next < s.len() {
-                if s[next] == LINE_FEED {
-                    return LineRead::Over;
-                }
+            if next < s.len() && s[next] == LINE_FEED {
+                return LineRead::Over;
             }
             LineRead::Fault
         }
@@ -175,10 +153,10 @@ fn failing(c: Cursor, refusal: Refusal) -> Cursor
     ensures { result ≡ record { at = c.at; line = c.line + 1; on = false; refusal = refusal } }
 {
     Cursor {
-        at: c.at,
         line: c.line + 1,
         on: false,
         refusal,
+        ..c
     }
 }
 
@@ -190,40 +168,40 @@ pub fn read_decimal(
     least: u32,
     greatest: u32,
     above: Refusal,
-) -> Field
+) -> Reading<u32>
     ensures { FieldSays s.now result (read_form (decimal key.now least greatest above) (state_of s.now c)) }
 {
     if !goes_on(s, c) {
-        return Field {
+        return Reading {
             value: 0,
             cursor: c,
         };
     }
     match read_ranged(s, c.at, key, least, greatest) {
-        LineRead::Value(value, next) => {
-            let cursor = behind(next, c.line + 1);
-            Field { value, cursor }
-        }
-        LineRead::Over => {
-            let cursor = failing(c, above);
-            Field { value: 0, cursor }
-        }
-        LineRead::Fault => {
-            let cursor = failing(c, Refusal::Form);
-            Field { value: 0, cursor }
-        }
+        LineRead::Value(value, next) => Reading {
+            value,
+            cursor: behind(next, c.line + 1),
+        },
+        LineRead::Over => Reading {
+            value: 0,
+            cursor: failing(c, above),
+        },
+        LineRead::Fault => Reading {
+            value: 0,
+            cursor: failing(c, Refusal::Form),
+        },
     }
 }
 
 // The next line of `key`, with a number from the least to the greatest.
-pub fn read_number(s: &[u8], c: Cursor, key: &[u8], least: u32, greatest: u32) -> Field
+pub fn read_number(s: &[u8], c: Cursor, key: &[u8], least: u32, greatest: u32) -> Reading<u32>
     ensures { FieldSays s.now result (read_form (number key.now least greatest) (state_of s.now c)) }
 {
     read_decimal(s, c, key, least, greatest, Refusal::Form)
 }
 
 // The next line of `key`, with a count up to its limit.
-pub fn read_count(s: &[u8], c: Cursor, key: &[u8], limit: u32) -> Field
+pub fn read_count(s: &[u8], c: Cursor, key: &[u8], limit: u32) -> Reading<u32>
     ensures { FieldSays s.now result (read_form (count key.now limit) (state_of s.now c)) }
 {
     read_decimal(s, c, key, 0, limit, Refusal::Count)
@@ -237,33 +215,36 @@ fn read_word<'a>(
     one: u32,
     second: &'a [u8],
     other: u32,
-) -> Field
+) -> Reading<u32>
     requires { (0 < length first.now) × (0 < length second.now) }
     ensures { FieldSays s.now result (read_word first.now one second.now other (state_of s.now c)) }
 {
     if !goes_on(s, c) {
-        return Field {
+        return Reading {
             value: 0,
             cursor: c,
         };
     }
     if has_key(s, c.at, first) {
-        let cursor = behind(c.at + first.len(), c.line + 1);
-        return Field { value: one, cursor };
-    }
-    if has_key(s, c.at, second) {
-        let cursor = behind(c.at + second.len(), c.line + 1);
-        return Field {
-            value: other,
-            cursor,
+        return Reading {
+            value: one,
+            cursor: behind(c.at + first.len(), c.line + 1),
         };
     }
-    let cursor = failing(c, Refusal::Form);
-    Field { value: 0, cursor }
+    if has_key(s, c.at, second) {
+        return Reading {
+            value: other,
+            cursor: behind(c.at + second.len(), c.line + 1),
+        };
+    }
+    Reading {
+        value: 0,
+        cursor: failing(c, Refusal::Form),
+    }
 }
 
 // The next line, with an actor's kind.
-pub fn read_kind(s: &[u8], c: Cursor) -> Field
+pub fn read_kind(s: &[u8], c: Cursor) -> Reading<u32>
     ensures { FieldSays s.now result (read_form kind (state_of s.now c)) }
 {
     read_word(
@@ -277,7 +258,7 @@ pub fn read_kind(s: &[u8], c: Cursor) -> Field
 }
 
 // The next line, with what a step of a plan is.
-pub fn read_step(s: &[u8], c: Cursor) -> Field
+pub fn read_step(s: &[u8], c: Cursor) -> Reading<u32>
     ensures { FieldSays s.now result (read_step (state_of s.now c)) }
 {
     read_word(
@@ -290,50 +271,29 @@ pub fn read_step(s: &[u8], c: Cursor) -> Field
     )
 }
 
-// No path.
-fn no_path() -> PathRead
-    ensures { result.ok ≡ false }
-{
-    PathRead {
-        ok: false,
-        path: [0; Register::PATH],
-        len: 0,
-        next: 0,
-    }
-}
-
 // The path from `at` up to LF.
-fn read_path(s: &[u8], at: usize) -> PathRead
+fn read_path(s: &[u8], at: usize) -> Option<PathRead>
     requires { at ≤ length s.now }
     ensures { PathSays s.now at result (path_on [] (drop at s.now)) }
 {
     let mut path = [0u8; Register::PATH];
     let mut len: usize = 0;
-    let mut i = at;
-    while i < s.len() {
+    for i in at..s.len() {
         let b = s[i];
         if b == LINE_FEED {
-            return PathRead {
-                ok: true,
+            return Some(PathRead {
                 path,
                 len,
                 next: i + 1,
-            };
+            });
         }
-        if b < PATH_BYTE_LEAST {
-            return no_path();
-        }
-        if PATH_BYTE_GREATEST < b {
-            return no_path();
-        }
-        if Register::PATH <= len {
-            return no_path();
+        if b < PATH_BYTE_LEAST || PATH_BYTE_GREATEST < b || Register::PATH <= len {
+            return None;
         }
         path[len] = b;
         len += 1;
-        i += 1;
     }
-    no_path()
+    None
 }
 
 // A path that was not read.
@@ -357,16 +317,16 @@ pub fn read_scope(s: &[u8], c: Cursor) -> Scope
     if !has_key(s, c.at, b"scope=") {
         return no_scope(failing(c, Refusal::Form));
     }
-    let read = read_path(s, c.at + 6);
-    if !read.ok {
-        return no_scope(failing(c, Refusal::Form));
-    }
-    let path = read.path;
-    let cursor = behind(read.next, c.line + 1);
-    Scope {
-        path,
-        len: read.len,
-        cursor,
+    match read_path(s, c.at + 6) {
+        Some(read) => {
+            let path = read.path;
+            Scope {
+                path,
+                len: read.len,
+                cursor: behind(read.next, c.line + 1),
+            }
+        }
+        None => no_scope(failing(c, Refusal::Form)),
     }
 }
 

@@ -1,8 +1,8 @@
 -- Laws: What some or every element of a list passing a test, or each of them having a property, says and follows from. Assumes nothing.
-use Rattle.std.specs.Prelude.{◌≡◌, refl, Bool, true, false, ◌||◌, ◌&&◌, ℕ, zero, suc, ◌<◌, length, take, get_or}
+use Rattle.std.specs.Prelude.{◌≡◌, refl, Bool, true, false, ◌||◌, ◌&&◌, ℕ, zero, suc, ◌<◌, length, take, get_or, List, [], ◌∷◌, ◌++◌, map, reverse}
 use Rattle.std.proofs.Common.{ap, sym, ◌∙◌, arith}
 use Rattle.std.proofs.Math.Bool.{and_assoc, and_comm, and-true, or_comm, or-false}
-use mathlib.Core.List.{List, [], ◌∷◌, ◌++◌, map, map-append, reverse, reverse-cons}
+use mathlib.Core.List.{map-append, reverse-cons}
 use Rattle.lists.specs.Tests.{cases, clash, and_left, and_right, and_both, and_middle, or_left, or_right, or_middle}
 use Rattle.lists.specs.Lists.{any, every, ands, Each, All}
 

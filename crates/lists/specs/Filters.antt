@@ -1,10 +1,10 @@
 -- Laws: Lists that drop the elements that a test takes, where the test looks at what stands behind an element too; and lists of the elements that
 -- pass a test. Assumes nothing.
-use Rattle.std.specs.Prelude.{◌≡◌, Bool, true, false, not, ◌≤◌, length}
+use Rattle.std.specs.Prelude.{◌≡◌, Bool, true, false, not, ◌≤◌, length, List, [], ◌∷◌, ◌++◌, map, reverse}
+use Rattle.std.proofs.Common.{ap, sym, ◌∙◌, arith, append-nil}
 use Rattle.std.proofs.Math.Path.{refl}
-use Rattle.std.proofs.Common.{ap, sym, ◌∙◌, arith}
 use Rattle.std.proofs.Math.Bool.{not-not}
-use mathlib.Core.List.{List, [], ◌∷◌, ◌++◌, map, reverse, reverse-cons, append-nil}
+use mathlib.Core.List.{reverse-cons}
 use Rattle.std.proofs.lemmas.Bool.{not-false}
 use Rattle.lists.specs.Tests.{cases}
 use Rattle.lists.specs.Each.{each_all, cons_clash}

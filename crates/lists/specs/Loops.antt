@@ -39,3 +39,9 @@ module _ {A B : Type 0} {g : ℕ → List A → B} {k : ℕ} {l : List A} {n : �
     -- after the loop nothing is left
     pub done : n ≤ i → e ≡ g i []
     done h = let past : length (take k l) ≤ i = omega arith in s.ahead ∙ rw (drop_of_length-le (take k l) past)
+
+-- the same loop where it goes over the part of l that ends at `top`
+module _ {A B : Type 0} {g : ℕ → List A → B} {k : ℕ} {l : List A} (top : ℕ) where
+  pub turn_part : {i : ℕ} {e : B} → Loop g k l (length (take top l)) i e → (d : A) → i < length (take top l)
+      → e ≡ g i (get_or (take top l) i d ∷ drop (i + 1) (take k l))
+  turn_part {i} s d h = let below : i < top = omega (arith, length-take top l) in rw (get_or-take top l i d) (turn s d h)

@@ -1,10 +1,7 @@
--- Laws: Two lists of numbers are the same exactly when they are equal; and looked through from the front, place by place. Assumes nothing.
-use Rattle.std.specs.Prelude.{◌≡◌, refl, true, false, List, [], ◌∷◌, ℕ, ◌+◌, ◌≤◌, ◌<◌, eqb, length, get_or, drop}
-use Rattle.std.proofs.Common.{ap}
-use Rattle.std.proofs.Math.ListN.{drop_of_length-le}
-use borrow.Author.Tests.{eq-eqb, ne_eqb, eqb-true}
-use Rattle.lists.specs.Tests.{cases, and_left, and_right}
-use Rattle.lists.specs.Loops.{drop_next}
+-- Laws: Two lists of numbers are the same exactly when they are equal. Assumes nothing.
+use Rattle.std.specs.Prelude.{◌≡◌, refl, true, List, [], ◌∷◌, ℕ, eqb}
+use Rattle.std.proofs.Common.{eq-eqb, eqb-true}
+use Rattle.lists.specs.Tests.{and_left, and_right}
 use Rattle.lists.specs.Lists.{same}
 
 -- two lists are the same exactly when they are equal
@@ -22,20 +19,3 @@ pub same_complete : (p : List ℕ) → same p p ≡ true
 unfolding same
 same_complete [] = refl
 same_complete (b ∷ p) = rw (eq-eqb b b refl) (same_complete p)
-
--- lists of different lengths are not the same
-pub same_lengths : (p q : List ℕ) → (length p ≡ length q → ⊥) → same p q ≡ false
-same_lengths p q h = cases (same p q) (λ e. absurd (h (ap length (same_sound p q e)))) (λ e. e)
-
-module _ (a b : List ℕ) (i : ℕ) where
-  pub same_next : i < length a → i < length b → get_or a i 0 ≡ get_or b i 0 → same (drop i a) (drop i b) ≡ same (drop (i + 1) a) (drop (i + 1) b)
-  unfolding same
-  same_next h k e = rw (drop_next a i 0 h, drop_next b i 0 k, eq-eqb _ _ e)
-
-  pub same_other : i < length a → i < length b → (get_or a i 0 ≡ get_or b i 0 → ⊥) → same (drop i a) (drop i b) ≡ false
-  unfolding same
-  same_other h k e = rw (drop_next a i 0 h, drop_next b i 0 k, ne_eqb _ _ e)
-
-  pub same_done : length a ≤ i → length b ≤ i → same (drop i a) (drop i b) ≡ true
-  unfolding same
-  same_done h k = rw (drop_of_length-le a h, drop_of_length-le b k)

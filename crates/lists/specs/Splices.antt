@@ -1,9 +1,7 @@
 -- Laws: A list with another written over it from a place on: how long it is, and how two such writings join, for any element. Assumes nothing.
-use Rattle.std.specs.Prelude.{ℕ, ◌+◌, ◌-◌, ◌≤◌, ◌<◌, ◌≡◌, refl, set}
+use Rattle.std.specs.Prelude.{ℕ, ◌+◌, ◌-◌, ◌≤◌, ◌<◌, ◌≡◌, refl, set, List, [], ◌∷◌, ◌++◌}
+use Rattle.std.proofs.Common.{◌∙◌, add-zero, add_assoc, add-one, length-drop, take-append-drop, take_at, drop_at, append_assoc, arith}
 use Rattle.std.proofs.Math.Path.{sym, ap}
-use Rattle.std.proofs.Common.{◌∙◌, add-zero, add_assoc, add-one, length-drop, take-append-drop, take_at, drop_at}
-use mathlib.Core.List.{List, [], ◌∷◌, ◌++◌, append_assoc}
-use native.Mathlib.Omega.{arith}
 use Rattle.std.proofs.Math.ListN.{length, take, drop, length-append, length-take}
 use Rattle.std.proofs.lemmas.List.{set_split, take-append-le, drop-append-le}
 use Rattle.std.proofs.Math.Seq.{drop-append-add, drop-drop}

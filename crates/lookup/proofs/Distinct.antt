@@ -1,15 +1,5 @@
 -- The first places of a column are told to be distinct one by one: a number is sought among those before it. Assumes nothing.
-use mathlib.Core.Path.{◌≡◌, refl, sym, ◌∙◌}
-use mathlib.Core.Bool.{Bool, not, ◌&&◌}
-use mathlib.Core.List.{List}
-use Prim.Native.Nat.{ℕ, ◌+◌, ◌≤◌, ◌<◌, min}
-use native.Mathlib.Numerals.{add-one}
-use native.Mathlib.Omega.{arith}
-use borrow.Author.Tests.{eq-eqb, ne_eqb, leb-true, leb-false}
-use lib.Dec.{eqb, leb}
-use lib.ListN.{length, take, get_or}
-use lib.Seq.{take-suc, take_all}
-use Rattle.lists.specs.Tests.{cases}
+use Rattle.std.proofs.Common.{◌≡◌, refl, sym, Bool, not, ◌&&◌, List, ℕ, ◌+◌, ◌≤◌, ◌<◌, add-one, arith, eq-eqb, ne_eqb, eqb, length, take, get_or, take-suc}
 use Rattle.lists.specs.Lists.{any, distinct}
 use Rattle.lists.specs.Distinct.{distinct_more}
 use Rattle.columns.specs.Columns.{latest_place}
@@ -32,12 +22,3 @@ pub distinct_next : (column : List ℕ) (n none : ℕ) → n < length column →
 distinct_next column n none inside past place sought apart told =
     rw (add-one n, take-suc column n 0, told, sought, none_told column n none (get_or column n 0) past)
     (sym (distinct_more (take n column) (get_or column n 0)))
-
--- past the end of a column there is nothing to take
-pub take_within : (n : ℕ) (column : List ℕ) → take (min n (length column)) column ≡ take n column
-take_within n column =
-    cases (leb n (length column))
-    (λ t. let least : min n (length column) ≡ n = omega (arith, leb-true n (length column) t) in rw least)
-    (λ t. let past : length column < n = leb-false n (length column) t in
-    let least : min n (length column) ≡ length column = omega arith in
-    rw least (take_all (length column) column (omega arith) ∙ sym (take_all n column (omega arith))))

@@ -1,16 +1,12 @@
 -- A loop that fills an array of places from the front, each with f of the place. Assumes nothing.
-use mathlib.Core.Path.{◌≡◌, ap, ◌∙◌}
-use mathlib.Core.List.{List, [], ◌∷◌, ◌++◌, map, map-append}
-use Prim.Native.Nat.{ℕ, ◌+◌, ◌-◌, ◌≤◌, ◌<◌, min}
-use native.Mathlib.Nat.{zero-add}
-use native.Mathlib.Numerals.{add-one}
-use native.Mathlib.Omega.{arith}
-use lib.ListN.{length, set, replicate, length-map}
+use Rattle.std.proofs.Common.{◌≡◌, ap, ◌∙◌, List, [], ◌∷◌, ◌++◌, map, ℕ, ◌+◌, ◌≤◌, ◌<◌, zero-add, add-one, arith, length, set}
+use mathlib.Core.List.{map-append}
+use lib.ListN.{length-map}
 use Rattle.lists.specs.Counts.{counted_length, counted_last}
 use Rattle.lists.specs.Fills.{put_first}
 use Rattle.lists.specs.Lists.{counted}
 use Rattle.register.specs.Limits.{claim_limit}
-use Rattle.lookup.specs.Finding.{tabled, asked, shared}
+use Rattle.lookup.specs.Finding.{tabled}
 
 -- the first i places, of top that are to be filled, hold f of the place
 pub record Filling (f : ℕ → ℕ) (top i : ℕ) (places : List ℕ) : Type 0 where
@@ -19,9 +15,6 @@ pub record Filling (f : ℕ → ℕ) (top i : ℕ) (places : List ℕ) : Type 0 
   pub filled : places ≡ tabled f i
 
 module _ {f : ℕ → ℕ} {top : ℕ} where
-  pub empty : {places : List ℕ} → top ≤ claim_limit → places ≡ replicate claim_limit claim_limit → Filling f top 0 places
-  empty h e = record { within = omega arith; room = h; filled = e }
-
   module _ {i : ℕ} {places : List ℕ} (s : Filling f top i places) where
     pub fill : (x : ℕ) → i < top → x ≡ f i → Filling f top (i + 1) (set places i x)
     fill x h e =
@@ -36,15 +29,3 @@ module _ {f : ℕ → ℕ} {top : ℕ} where
 
     pub full : top ≤ i → places ≡ tabled f top
     full h = let same : i ≡ top = omega arith in s.filled ∙ ap (λ n. tabled f n) same
-
--- one place more is filled, so less is left
-pub less : (top i : ℕ) → i < top → top - (i + 1) < top - i
-less top i h = omega arith
-
--- as many places as two lists have are asked of each of them
-module _ (m : ℕ) (wanted other : List ℕ) (top : ℕ) (most : top ≡ min m (min claim_limit (min (length wanted) (length other)))) where
-  pub asked_first : asked (shared m wanted other) wanted ≡ top
-  asked_first = omega arith
-
-  pub asked_second : asked (shared m wanted other) other ≡ top
-  asked_second = omega arith

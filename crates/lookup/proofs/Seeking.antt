@@ -1,20 +1,11 @@
 -- A table of a column's places by buckets: how it grows by a place, and how a number is sought in it. Assumes nothing.
-use mathlib.Core.Path.{◌≡◌, refl, sym, ap, ◌∙◌}
-use mathlib.Core.Bool.{true, false, ◌&&◌}
-use mathlib.Core.List.{List, map}
-use Prim.Native.Nat.{ℕ, suc, ◌+◌, ◌-◌, ◌≤◌, ◌<◌, min}
-use native.Mathlib.Numerals.{add-one}
-use native.Mathlib.Omega.{arith}
-use borrow.Author.Tests.{eq-eqb, ltb-true, ltb-false, eqb-true, eqb-false}
-use lib.Dec.{eqb, ltb}
-use lib.ListN.{length, get_or, set, replicate, length-set, length-replicate, get_or-replicate}
-use lib.Seq.{get_or-set_same, get_or-set_other}
+use Rattle.std.proofs.Common.{Option, ℕ, None, Some, ◌≡◌, refl, sym, ap, ◌∙◌, true, false, ◌&&◌, List, map, suc, ◌+◌, ◌-◌, ◌≤◌, ◌<◌, min, add-one, arith, eq-eqb, ltb-true, ltb-false, eqb-true, eqb, ltb, length, get_or, set, replicate, length-set, get_or-set_same, get_or-set_other}
+use borrow.Author.Tests.{eqb-false}
+use lib.ListN.{length-replicate, get_or-replicate}
 use Rattle.lists.specs.Tests.{cases, and_left, and_right, and_both, clash}
 use Rattle.register.specs.Limits.{claim_limit}
 use Rattle.columns.specs.Columns.{latest_place}
 use Rattle.columns.specs.Laws.{place_none, place_hit, place_miss, place_within, place_found_lem}
-use Rattle.columns.specs.declared.Place.{Place}
-use Rattle.columns.specs.declared.Place.TheVariants.{At, Nowhere}
 use Rattle.lookup.specs.Tables.{bucket_count, bucket_of, link_of, latest_in, Indexing, Sought}
 use Rattle.lookup.proofs.Buckets.{bucket_at, bucket_hit, bucket_miss, bucket_skip, bucket_none}
 
@@ -68,15 +59,6 @@ module _ {column : List ℕ} {n : ℕ} {heads nexts : List ℕ} (s : Indexing co
         chained = chained_next;
       }
 
--- the table of the first n has every place below one of them
-pub sought_below : {column heads nexts : List ℕ} {n below : ℕ} → Indexing column (min n (min claim_limit (length column))) heads nexts
-    → below ≤ n → n ≤ claim_limit → Sought column below heads nexts
-sought_below {column} {heads} {nexts} {n} {below} s h room = record { count = min n (min claim_limit (length column)); reached = omega arith; indexing = s }
-
--- and the table of some places has every place below the next one
-pub sought_all : {column heads nexts : List ℕ} {n : ℕ} → Indexing column n heads nexts → Sought column n heads nexts
-sought_all {column} {heads} {nexts} {n} s = record { count = n; reached = omega arith; indexing = s }
-
 -- a number is sought from a link on: the link is the latest place of its bucket among the first places of the table, and what is
 -- sought below a place stands among them
 pub record Seeking (column heads nexts : List ℕ) (below x link : ℕ) : Type 0 where
@@ -89,21 +71,21 @@ pub record Seeking (column heads nexts : List ℕ) (below x link : ℕ) : Type 0
   pub same : latest_place column below x ≡ latest_place column (min below bound) x
 
 -- which place a link is of
-link_place : (p : Place) (j : ℕ) → suc j ≡ link_of p → p ≡ At j
-link_place (At k) j e = let same : k ≡ j = omega arith in ap At same
-link_place Nowhere j e = absurd (omega arith)
+link_place : (p : Option ℕ) (j : ℕ) → suc j ≡ link_of p → p ≡ Some j
+link_place (Some k) j e = let same : k ≡ j = omega arith in ap Some same
+link_place None j e = absurd (omega arith)
 
-link_none : (p : Place) → 0 ≡ link_of p → p ≡ Nowhere
-link_none (At k) e = absurd (omega arith)
-link_none Nowhere e = refl
+link_none : (p : Option ℕ) → 0 ≡ link_of p → p ≡ None
+link_none (Some k) e = absurd (omega arith)
+link_none None e = refl
 
 -- the link to a bucket's latest place below n is at most n
 link_small : (column : List ℕ) (n b : ℕ) → link_of (latest_in column n b) ≤ n
 link_small column n b = within (latest_in column n b) (place_found_lem (map bucket_of column) b n)
   where
-    within : (p : Place) → ((k : ℕ) → p ≡ At k → (k < n) × (k < length (map bucket_of column)) × (get_or (map bucket_of column) k 0 ≡ b)) → link_of p ≤ n
-    within (At k) h = omega (arith, (h k refl).0)
-    within Nowhere h = omega arith
+    within : (p : Option ℕ) → ((k : ℕ) → p ≡ Some k → (k < n) × (k < length (map bucket_of column)) × (get_or (map bucket_of column) k 0 ≡ b)) → link_of p ≤ n
+    within (Some k) h = omega (arith, (h k refl).0)
+    within None h = omega arith
 
 module _ {column heads nexts : List ℕ} {below x : ℕ} where
   pub seeking_start : (s : Sought column below heads nexts) → Seeking column heads nexts below x (get_or heads (bucket_of x) 0)
@@ -120,7 +102,7 @@ module _ {column heads nexts : List ℕ} {below x : ℕ} where
       }
 
   module _ {at : ℕ} (s : Seeking column heads nexts below x (suc at)) where
-    found : latest_in column s.bound (bucket_of x) ≡ At at
+    found : latest_in column s.bound (bucket_of x) ≡ Some at
     found = link_place (latest_in column s.bound (bucket_of x)) at s.linked
 
     -- a link leads to a place of the table
@@ -134,7 +116,7 @@ module _ {column heads nexts : List ℕ} {below x : ℕ} where
         s.same ∙ bucket_skip bucket_of column x s.bound at found (min below s.bound) (omega arith) (omega arith)
 
     -- what is sought stands at a place that is below and holds it
-    pub seeking_hit : ltb at below && eqb (get_or column at 0) x ≡ true → latest_place column below x ≡ At at
+    pub seeking_hit : ltb at below && eqb (get_or column at 0) x ≡ true → latest_place column below x ≡ Some at
     seeking_hit t =
         let under : at < below = ltb-true at below (and_left (ltb at below) (eqb (get_or column at 0) x) t) in
         let here : get_or column at 0 ≡ x = eqb-true (get_or column at 0) x (and_right (ltb at below) (eqb (get_or column at 0) x) t) in
@@ -174,6 +156,6 @@ module _ {column heads nexts : List ℕ} {below x : ℕ} where
   pub seeking_linked : {link : ℕ} → (link ≡ 0 → ⊥) → Seeking column heads nexts below x link → Seeking column heads nexts below x (suc (link - 1))
   seeking_linked {link} e s = let one : link ≡ suc (link - 1) = omega arith in rw (← one) s
 
-  pub seeking_done : Seeking column heads nexts below x 0 → latest_place column below x ≡ Nowhere
+  pub seeking_done : Seeking column heads nexts below x 0 → latest_place column below x ≡ None
   seeking_done s =
       s.same ∙ bucket_none bucket_of column x s.bound (link_none (latest_in column s.bound (bucket_of x)) s.linked) (min below s.bound) (omega arith)

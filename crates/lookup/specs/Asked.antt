@@ -1,5 +1,5 @@
 -- Laws: Things with distinct ids: what is asked of the one numbered x is asked of what stands at its place. Assumes nothing.
-use Rattle.std.specs.Prelude.{◌≡◌, Bool, true, false, ◌&&◌, ◌||◌, List, [], ◌∷◌, map, ℕ, zero, suc, ◌≤◌, ◌<◌, eqb, ltb, length, take, get_or}
+use Rattle.std.specs.Prelude.{◌≡◌, Bool, true, false, ◌&&◌, ◌||◌, List, [], ◌∷◌, map, ℕ, zero, suc, ◌≤◌, ◌<◌, eqb, ltb, length, take, get_or, Option, None, Some}
 use Rattle.std.proofs.Common.{sym, ap, ◌∙◌, arith, eqb-true, ltb-true, ltb-false, take-suc, take_all}
 use Rattle.std.proofs.Math.Bool.{or-false}
 use Rattle.std.proofs.lemmas.List.{map-append, length-map}
@@ -11,13 +11,11 @@ use Rattle.lists.specs.Each.{any_map, none_weaken, any_append}
 use Rattle.lists.specs.Distinct.{LastApart, last_apart}
 use Rattle.columns.specs.Columns.{latest_place}
 use Rattle.columns.specs.Laws.{place_none, place_hit, place_miss, place_past}
-use Rattle.columns.specs.declared.Place.{Place}
-use Rattle.columns.specs.declared.Place.TheVariants.{At, Nowhere}
 
 -- what is asked of the thing at a place, and of nothing where there is none
-abbrev pub asked_at : {A : Type 0} → A → List A → (A → Bool) → Place → Bool
-asked_at d l q (At j) = q (get_or l j d)
-asked_at d l q Nowhere = false
+abbrev pub asked_at : {A : Type 0} → A → List A → (A → Bool) → Option ℕ → Bool
+asked_at d l q (Some j) = q (get_or l j d)
+asked_at d l q None = false
 
 last_hit : (a b c : Bool) → a ≡ false → b ≡ true → a || ((b && c) || false) ≡ c
 last_hit a b c h k = rw (h, k) (or-false c)

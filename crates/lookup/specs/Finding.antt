@@ -1,18 +1,16 @@
 -- Working: Where many numbers stand in a column, by places as numbers; the claims' limit says nowhere. What they say of each number is `places_at` and
 -- `earlier_at` of Laws.
-use Rattle.std.specs.Prelude.{ℕ, ◌-◌, min, List, ◌++◌, map, length, get_or, replicate, take}
+use Rattle.std.specs.Prelude.{ℕ, ◌-◌, min, List, ◌++◌, map, length, get_or, replicate, take, Option, None, Some}
 use Rattle.lists.specs.Lists.{counted, distinct}
 use Rattle.register.specs.Limits.{claim_limit}
 use Rattle.columns.specs.Columns.{latest_place}
-use Rattle.columns.specs.declared.Place.{Place}
-use Rattle.columns.specs.declared.Place.TheVariants.{At, Nowhere}
 use Rattle.lookup.specs.declared.Found.{Found}
 use Rattle.lookup.specs.declared.Both.{Both}
 
 -- a place as a number; `none` says nowhere
-abbrev pub place_number : ℕ → Place → ℕ
-place_number none (At j) = j
-place_number none Nowhere = none
+abbrev pub place_number : ℕ → Option ℕ → ℕ
+place_number none (Some j) = j
+place_number none None = none
 
 -- an array whose first places hold f of the place, and those behind them nowhere
 abbrev pub tabled : (ℕ → ℕ) → ℕ → List ℕ

@@ -1,10 +1,8 @@
 -- Working: A table of a column's places by buckets: a link is 0 for none, else a place and 1. What is found by it is the latest place in the column
 -- (`seeking_hit`, `seeking_done`).
-use Rattle.std.specs.Prelude.{ℕ, suc, ◌%◌, ◌≤◌, ◌<◌, min, ◌≡◌, List, map, length, get_or}
+use Rattle.std.specs.Prelude.{ℕ, suc, ◌%◌, ◌≤◌, ◌<◌, min, ◌≡◌, List, map, length, get_or, Option, None, Some}
 use Rattle.register.specs.Limits.{claim_limit}
 use Rattle.columns.specs.Columns.{latest_place}
-use Rattle.columns.specs.declared.Place.{Place}
-use Rattle.columns.specs.declared.Place.TheVariants.{At, Nowhere}
 
 -- how many buckets there are
 abbrev pub bucket_count : ℕ
@@ -15,12 +13,12 @@ abbrev pub bucket_of : ℕ → ℕ
 bucket_of x = x % bucket_count
 
 -- a place as a link
-abbrev pub link_of : Place → ℕ
-link_of (At j) = suc j
-link_of Nowhere = 0
+abbrev pub link_of : Option ℕ → ℕ
+link_of (Some j) = suc j
+link_of None = 0
 
 -- the latest place below n at which a number of bucket b stands
-abbrev pub latest_in : List ℕ → ℕ → ℕ → Place
+abbrev pub latest_in : List ℕ → ℕ → ℕ → Option ℕ
 latest_in column n b = latest_place (map bucket_of column) n b
 
 -- of the first n of a column, each bucket's head links to its latest place, and each place to the latest before it in its bucket

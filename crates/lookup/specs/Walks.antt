@@ -1,7 +1,7 @@
 -- Working: The chain from a number up as places: the latest place of the number, and from there up by the places of the parents. It is shaped for the
 -- code; what it is in 01's words is proved here, of the claims of a sheet (`up_from_natural`, `above_natural`) and of a sound register (`sheet_chain`).
 -- Assumes nothing.
-use Rattle.std.specs.Prelude.{◌≡◌, refl, true, List, [], ◌∷◌, map, ℕ, ◌≤◌, ◌<◌, length, take, get_or}
+use Rattle.std.specs.Prelude.{◌≡◌, refl, true, List, [], ◌∷◌, map, ℕ, ◌≤◌, ◌<◌, length, take, get_or, Option, None, Some}
 use Rattle.std.proofs.Common.{sym, ap, ◌∙◌, arith, get_or-take}
 use Rattle.std.proofs.Math.Path.{fun_ext}
 use Rattle.register.specs.Limits.{claim_limit}
@@ -12,8 +12,6 @@ use Rattle.soundness_rules.specs.Sound.{world_of, sound}
 use Rattle.soundness_rules.proofs.Registers.{sound_out}
 use Rattle.soundness_rules.proofs.Places.{claim_numbered}
 use Rattle.columns.specs.Columns.{claim_id, parent_of, latest_place, chain_places, places_up}
-use Rattle.columns.specs.declared.Place.{Place}
-use Rattle.columns.specs.declared.Place.TheVariants.{At, Nowhere}
 use Rattle.columns.specs.Laws.{place_cases, place_found_lem, chain_places_at, chain_places_nowhere, chain_natural}
 use Rattle.columns.specs.Sheet.{sheet_limit, sheet_of, column_of, claim_at, claims_in, id_column, parent_column}
 use Rattle.columns.specs.SheetLaws.{column_length, column_natural, claims_in_at, sheet_long, sheet_claims}
@@ -21,9 +19,9 @@ use Rattle.lookup.specs.Finding.{earlier_places}
 use Rattle.lookup.specs.Laws.{places_up_natural}
 
 -- the places from one up: none where there is no place to begin at
-abbrev pub up_from : List ℕ → Place → List ℕ
-up_from ups (At j) = j ∷ places_up ups j
-up_from ups Nowhere = []
+abbrev pub up_from : List ℕ → Option ℕ → List ℕ
+up_from ups (Some j) = j ∷ places_up ups j
+up_from ups None = []
 
 -- the first n claims of a sheet, none of which has the number 0
 module _ (s : List ℕ) (long : length s ≡ sheet_limit) (n : ℕ) (few : n ≤ claim_limit) (numbered : (j : ℕ) → j < n → (claim_at s j).id ≡ 0 → ⊥) where

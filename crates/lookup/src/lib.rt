@@ -54,7 +54,7 @@ fn tabulate(column: &[u32], n: usize) -> Table
     ensures indexing { Indexing column.now (min n (min claim_limit (length column.now))) result.heads result.nexts }
     ensures distinct { result.distinct ≡ distinct (take (min n claim_limit) column.now) }
 {
-    let count = lists::least(n, lists::least(Register::CLAIMS, column.len()));
+    let count = n.min(Register::CLAIMS).min(column.len());
     let mut table = Table {
         heads: [0; BUCKETS],
         nexts: [0; Register::CLAIMS],
@@ -62,35 +62,35 @@ fn tabulate(column: &[u32], n: usize) -> Table
     };
     // Beside the table while it is made: within it, it would be read and written anew each turn.
     let mut distinct = true;
-    let mut i: usize = 0;
-    while i < count {
-        let before = seek(&table.heads, &table.nexts, column, i, column[i]);
-        distinct = distinct & (before == NOWHERE);
+    for i in 0..count {
+        let before = table.seek(column, i, column[i]);
+        distinct &= before == NOWHERE;
         let bucket = bucket_of(column[i]);
         table.nexts[i] = table.heads[bucket];
         table.heads[bucket] = (i + 1) as u16;
-        i += 1;
     }
     table.distinct = distinct;
     table
 }
 
-// The latest place below `below` at which a column holds `x`, by a table that has all of these places; `NOWHERE` where there is
-// none.
-fn seek<'a>(heads: &'a [u16], nexts: &'a [u16], column: &'a [u32], below: usize, x: u32) -> u16
-    requires { Sought column.now below heads.now nexts.now }
-    ensures { result ≡ place_number claim_limit (latest_place column.now below x) }
-{
-    let mut link = heads[bucket_of(x)];
-    while link != 0 {
-        let place = link - 1;
-        let at = place as usize;
-        if (at < below) & (column[at] == x) {
-            return place;
+impl Table {
+    // The latest place below `below` at which a column holds `x`, by a table that has all of these places; `NOWHERE` where there is
+    // none.
+    fn seek(&self, column: &[u32], below: usize, x: u32) -> u16
+        requires { Sought column.now below self.now.heads self.now.nexts }
+        ensures { result ≡ place_number claim_limit (latest_place column.now below x) }
+    {
+        let mut link = self.heads[bucket_of(x)];
+        while link != 0 {
+            let place = link - 1;
+            let at = place as usize;
+            if (at < below) & (column[at] == x) {
+                return place;
+            }
+            link = self.nexts[at];
         }
-        link = nexts[at];
+        NOWHERE
     }
-    NOWHERE
 }
 
 // The latest place of each of the first `m` wanted numbers among the first `n` of a column; `NOWHERE` where there is
@@ -98,17 +98,15 @@ fn seek<'a>(heads: &'a [u16], nexts: &'a [u16], column: &'a [u32], below: usize,
 pub fn places_of<'a>(column: &'a [u32], n: usize, wanted: &'a [u32], m: usize) -> Found
     ensures { result ≡ places_found column.now n wanted.now m }
 {
-    let below = lists::least(n, Register::CLAIMS);
+    let below = n.min(Register::CLAIMS);
     let table = tabulate(column, below);
-    let top = lists::least(m, lists::least(Register::CLAIMS, wanted.len()));
+    let top = m.min(Register::CLAIMS).min(wanted.len());
     let mut found = Found {
         places: [NOWHERE; Register::CLAIMS],
         distinct: table.distinct,
     };
-    let mut i: usize = 0;
-    while i < top {
-        found.places[i] = seek(&table.heads, &table.nexts, column, below, wanted[i]);
-        i += 1;
+    for i in 0..top {
+        found.places[i] = table.seek(column, below, wanted[i]);
     }
     found
 }
@@ -118,16 +116,14 @@ pub fn places_of<'a>(column: &'a [u32], n: usize, wanted: &'a [u32], m: usize) -
 pub fn earlier_places<'a>(column: &'a [u32], wanted: &'a [u32], m: usize) -> Found
     ensures { result ≡ earlier_found column.now wanted.now m }
 {
-    let top = lists::least(m, lists::least(Register::CLAIMS, wanted.len()));
+    let top = m.min(Register::CLAIMS).min(wanted.len());
     let table = tabulate(column, top);
     let mut found = Found {
         places: [NOWHERE; Register::CLAIMS],
         distinct: table.distinct,
     };
-    let mut i: usize = 0;
-    while i < top {
-        found.places[i] = seek(&table.heads, &table.nexts, column, i, wanted[i]);
-        i += 1;
+    for i in 0..top {
+        found.places[i] = table.seek(column, i, wanted[i]);
     }
     found
 }
@@ -142,20 +138,17 @@ pub fn both_places<'a>(
 ) -> Both
     ensures { result ≡ both_places column.now n wanted.now other.now m }
 {
-    let below = lists::least(n, Register::CLAIMS);
+    let below = n.min(Register::CLAIMS);
     let table = tabulate(column, below);
-    let long = lists::least(wanted.len(), other.len());
-    let top = lists::least(m, lists::least(Register::CLAIMS, long));
+    let top = m.min(Register::CLAIMS).min(wanted.len()).min(other.len());
     let mut places = Both {
         first: [NOWHERE; Register::CLAIMS],
         second: [NOWHERE; Register::CLAIMS],
         distinct: table.distinct,
     };
-    let mut i: usize = 0;
-    while i < top {
-        places.first[i] = seek(&table.heads, &table.nexts, column, below, wanted[i]);
-        places.second[i] = seek(&table.heads, &table.nexts, column, below, other[i]);
-        i += 1;
+    for i in 0..top {
+        places.first[i] = table.seek(column, below, wanted[i]);
+        places.second[i] = table.seek(column, below, other[i]);
     }
     places
 }

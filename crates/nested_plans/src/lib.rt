@@ -8,29 +8,25 @@
 #![tactic(auto)]
 
 ghost use Rattle.std.specs.Prelude.{◌≡◌, false, ◌≤◌, replicate};
-ghost use Rattle.gate.specs.Judged.{lent_of};
+ghost use Rattle.gate.specs.Judged.{lent_from};
 ghost use Rattle.plans.specs.Stops.{halt_by};
 ghost use Rattle.plans.specs.Judgements.{judgements_by};
 ghost use Rattle.steps.specs.Steps.{text_action_limit};
 ghost use Rattle.steps.specs.Judging.{stopped_plan, text_verdict, plan_text_judged};
 ghost use Rattle.step_reading.specs.Finding.{action_at, actions_at};
 
-use actions::{Action, Judged, Judgement};
-use gate::Counts;
-use refusals::{Outcome, Refusal};
+use actions::{Action, Judgement};
+use gate::{Counts, LentRegister};
+use refusals::Refusal;
 use register::Register;
-use soundness::Findings;
 use step_reading::Places;
 use steps::{PlanTextVerdict, TEXT_ACTIONS};
 
 // The places of the verdicts with none in them yet: each holds the permission, which is not counted.
-fn no_verdicts() -> [Judged; TEXT_ACTIONS]
-    ensures { result ≡ replicate text_action_limit (record { what = Judgement.Permitted }) }
+fn no_verdicts() -> [Judgement; TEXT_ACTIONS]
+    ensures { result ≡ replicate text_action_limit Judgement.Permitted }
 {
-    let none = Judged {
-        what: Judgement::Permitted,
-    };
-    [none; TEXT_ACTIONS]
+    [Judgement::Permitted; TEXT_ACTIONS]
 }
 
 // A stopped plan: no verdicts.
@@ -39,7 +35,7 @@ fn stopped(why: Refusal, line: usize, position: usize) -> PlanTextVerdict
 {
     let list = no_verdicts();
     PlanTextVerdict {
-        outcome: Outcome::Refused(why),
+        outcome: Err(why),
         line,
         position,
         list,
@@ -51,44 +47,27 @@ fn stopped(why: Refusal, line: usize, position: usize) -> PlanTextVerdict
 fn action_at(text: &[u8], at: usize) -> Action
     ensures { result ≡ action_at text.now at }
 {
-    let form = action_reading::read_lines(text, lines::behind(at, 0));
-    form.action
+    action_reading::read_lines(text, lines::behind(at, 0)).action
 }
 
 // The verdicts on the actions that begin at these places of the text, by what is lent.
-fn judge_places<'a>(
-    counts: Counts,
-    found: Findings,
-    lens: &'a [usize],
-    ends: &'a [u64],
-    sheet: &'a [u32],
-    bytes: &'a [u8],
-    text: &'a [u8],
-    p: Places,
-) -> PlanTextVerdict
+fn judge_places(lent: LentRegister<'_>, text: &[u8], p: Places) -> PlanTextVerdict
     requires { p.count ≤ text_action_limit }
-    ensures { result ≡ text_verdict (halt_by found.actors.names counts.actors 0 (actions_at text.now p)) (judgements_by (lent_of counts found lens.now ends.now sheet.now bytes.now) false (actions_at text.now p)) }
+    ensures { result ≡ text_verdict (halt_by lent.entry.found.now.actors.names lent.entry.counts.actors 0 (actions_at text.now p)) (judgements_by (lent_from lent.entry) false (actions_at text.now p)) }
 {
     let mut list = no_verdicts();
     let mut flagged = false;
-    let mut i: usize = 0;
-    while i < p.count {
+    for i in 0..p.count {
         let a = action_at(text, p.list[i]);
-        let outcome = gate::action_outcome(&found.actors.names, counts.actors, a);
-        match outcome {
-            Outcome::Refused(why) => {
-                return stopped(why, 0, i);
-            }
-            Outcome::Accepted => {
-                let what = plans::judge(counts, found, lens, ends, sheet, bytes, a, flagged);
-                list[i] = Judged { what };
-                flagged = flagged | (a.flags != 0);
-                i += 1;
-            }
+        if let Err(why) = gate::action_outcome(&lent.found.actors.names, lent.counts.actors, a) {
+            return stopped(why, 0, i);
         }
+        let what = plans::judge(lent, a, flagged);
+        list[i] = what;
+        flagged |= a.flags != 0;
     }
     PlanTextVerdict {
-        outcome: Outcome::Accepted,
+        outcome: Ok(()),
         line: 0,
         position: 0,
         list,
@@ -101,26 +80,29 @@ pub fn plan_text(r: Register, text: &[u8]) -> PlanTextVerdict
     ensures { result ≡ plan_text_judged r text.now }
 {
     let places = step_reading::read_text(text);
-    let cursor = places.cursor;
-    if !lines::goes_on(text, cursor) {
-        let why = cursor.refusal;
-        return stopped(why, cursor.line, 0);
+    if !lines::goes_on(text, places.cursor) {
+        return stopped(places.cursor.refusal, places.cursor.line, 0);
     }
-    let actors = r.actors;
-    let o = r.resources;
-    let k = r.claims;
     let mut sheet = [0u32; columns::SHEET];
-    let found = soundness::examine(&mut sheet, r.version, actors, o, k);
+    let found = soundness::examine(&mut sheet, r.version, r.actors, r.resources, r.claims);
     if !found.sound {
         return stopped(Refusal::Unsound, 0, 0);
     }
     let mut bytes = [0u8; coverage::BYTES];
-    let lens = coverage::lay(&mut bytes, o);
+    let lens = coverage::lay(&mut bytes, r.resources);
     let counts = Counts {
-        actors: actors.count,
-        resources: o.count,
-        claims: k.count,
+        actors: r.actors.count,
+        resources: r.resources.count,
+        claims: r.claims.count,
     };
     let ends = gate::claim_ends(&sheet, &found.ups, counts.claims);
-    judge_places(counts, found, &lens, &ends, &sheet, &bytes, text, places)
+    let lent = LentRegister {
+        counts,
+        found: &found,
+        lens: &lens,
+        ends: &ends,
+        sheet: &sheet,
+        bytes: &bytes,
+    };
+    judge_places(lent, text, places)
 }

@@ -1,15 +1,6 @@
 -- A claim's hop count and whether it lives, by what is remarked on the parent that stands at the place that is lent: in a sound register these are its hop
 -- count and whether it is live among all claims. Assumes nothing.
-use mathlib.Core.Path.{◌≡◌, ap, sym, ◌∙◌}
-use mathlib.Core.Bool.{true, ◌&&◌, cond}
-use mathlib.Core.List.{List, [], ◌∷◌, map}
-use Prim.Native.Nat.{ℕ, suc, ◌+◌, ◌<◌, ◌≤◌}
-use native.Mathlib.Numerals.{add-one}
-use native.Mathlib.Omega.{arith}
-use borrow.Author.Tests.{lt-ltb, le-ltb}
-use lib.Dec.{ltb}
-use lib.ListN.{length, get_or, take, drop}
-use lib.Seq.{take-take}
+use Rattle.std.proofs.Common.{◌≡◌, ap, sym, ◌∙◌, true, ◌&&◌, cond, List, [], ◌∷◌, map, ℕ, suc, ◌+◌, ◌<◌, ◌≤◌, add-one, arith, lt-ltb, le-ltb, ltb, length, get_or, take, drop, take-take}
 use Rattle.lists.specs.Lists.{every}
 use Rattle.register.specs.Limits.{claim_limit, hop_limit}
 use Rattle.register.specs.Register.{claims_of}

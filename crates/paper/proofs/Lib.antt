@@ -1,5 +1,3 @@
-pub mod Cutting
-pub mod Looking
 pub mod Opening
 pub mod Entering
 pub mod Filling

@@ -1,14 +1,6 @@
 -- A cell after one claim more: what its number tells is the entry of the definition. Assumes nothing.
-use mathlib.Core.Path.{◌≡◌, refl, ap, sym, ◌∙◌}
-use mathlib.Core.Bool.{Bool, true, false, not, ◌&&◌, cond}
-use mathlib.Core.List.{List, [], ◌∷◌, ◌++◌, map, map-append}
-use Prim.Native.Nat.{ℕ, ◌+◌, ◌<◌, ◌≤◌}
-use native.Mathlib.Numerals.{add-one}
-use native.Mathlib.Omega.{arith}
-use borrow.Author.Tests.{lt-ltb, le-ltb, leb-true, leb-false}
-use lib.Dec.{eqb, ltb, leb}
-use lib.ListN.{length, take}
-use lib.Seq.{take-suc, get_or-take}
+use Rattle.std.proofs.Common.{Option, ℕ, Some, ◌≡◌, refl, ap, sym, ◌∙◌, Bool, true, false, not, ◌&&◌, cond, List, [], ◌∷◌, ◌++◌, map, ◌+◌, ◌<◌, ◌≤◌, add-one, arith, lt-ltb, le-ltb, leb-true, leb-false, eqb, ltb, leb, length, take, take-suc, get_or-take}
+use mathlib.Core.List.{map-append}
 use Rattle.lists.specs.Tests.{cases, clash}
 use Rattle.lists.specs.Lists.{ands, any}
 use Rattle.rights.specs.Rights.{has_right}
@@ -22,14 +14,12 @@ use Rattle.register.specs.declared.Register.{Register}
 use Rattle.soundness_rules.specs.Sound.{sound}
 use Rattle.columns.specs.Columns.{resource_id, resources_to, latest_place}
 use Rattle.columns.specs.Laws.{place_cases}
-use Rattle.columns.specs.declared.Place.{Place}
-use Rattle.columns.specs.declared.Place.TheVariants.{At}
 use Rattle.lookup.specs.Walks.{sheet_few}
 use Rattle.gate_rules.specs.Gate.{contains}
-use Rattle.coverage_table.specs.Table.{Entry, nothing, openly, claimed, is_open, open_entry, speaks, keeps_off, entry_after}
+use Rattle.coverage_table.specs.Table.{Entry, nothing, openly, claimed, open_entry, speaks, keeps_off, entry_after}
 use Rattle.coverage_table.specs.Hearing.{remark_among, heard}
 use Rattle.coverage_table.proofs.Walking.{heard_next, resource_stands, entered_natural}
-use Rattle.paper.specs.Cells.{cell_at, first_number, resource_at, number_over, OpenCells, RowsEntered, EnteredFrom, ClaimEntered}
+use Rattle.paper.specs.Cells.{cell_at, first_number, resource_at, number_over, RowsEntered, EnteredFrom, ClaimEntered}
 use Rattle.paper.specs.Paper.{claim_stands, CellTells, entry_by, Filled}
 use Rattle.paper.specs.Laws.{row_stands, row_found, row_absent, claims_counted, claim_in_lem}
 
@@ -98,16 +88,6 @@ module _ (r : Register) (i : ℕ) (few : i ≤ claim_limit) (c : Claim) (stands 
       (λ has. kept (rw (has, away)) (rw away))
       (λ lacks. kept (rw lacks) (rw away)))
 
--- before the first claim
-pub filled_start : (r : Register) (moment x : ℕ) (cells : List ℕ) → OpenCells r.resources cells → Filled r moment x 0 cells
-filled_start r moment x cells opened = record {
-  long = opened.long;
-  tells = λ row b within right. let o : Resource = resource_at r.resources row in
-      cases (is_open o b)
-      (λ t. tells_same r 0 (open_entry o b) openly (cell_at cells row b) 1 (rw t) (opened.opens row b within right ∙ rw t) refl)
-      (λ t. tells_same r 0 (open_entry o b) nothing (cell_at cells row b) 0 (rw t) (opened.opens row b within right ∙ rw t) refl);
-}
-
 module _ (r : Register) (whole : sound r ≡ true) (room : length r.claims.list ≡ claim_limit) (moment x i : ℕ) (within : i < r.claims.count) where
   abbrev all : List Claim
   all = latest (claims_of r.claims)
@@ -146,18 +126,18 @@ module _ (r : Register) (whole : sound r ≡ true) (room : length r.claims.list 
     reports = map resource_id (resources_to r.resources).list
 
     -- the claim is entered where its resource stands
-    spot_found : {A : Type 0} → ((spot : ℕ) → latest_place reports r.resources.count claim.resource ≡ At spot → A) → A
+    spot_found : {A : Type 0} → ((spot : ℕ) → latest_place reports r.resources.count claim.resource ≡ Some spot → A) → A
     spot_found f =
         place_cases (latest_place reports r.resources.count claim.resource) f
         (λ q. clash (any (λ o. eqb claim.resource o.id) (resources_of r.resources))
         (resource_stands r whole claim (claim_in_lem r whole room i within)) (row_absent r whole space claim.resource q))
 
-    entered_at : (cells next : List ℕ) (p : Place) (spot : ℕ) → p ≡ At spot → EnteredFrom cells r.resources claim i next p
+    entered_at : (cells next : List ℕ) (p : Option ℕ) (spot : ℕ) → p ≡ Some spot → EnteredFrom cells r.resources claim i next p
         → RowsEntered cells r.resources spot claim.rights i next
     entered_at cells next p spot q entered = rw q at entered
 
     entry_entered : live moment all claim && eqb claim.holder x ≡ true → (spot row b : ℕ) (e : Entry)
-        → latest_place reports r.resources.count claim.resource ≡ At spot → row < r.resources.count
+        → latest_place reports r.resources.count claim.resource ≡ Some spot → row < r.resources.count
         → entry_after r x (resource_at r.resources row) b (remark_among moment all claim) e
         ≡ cond ((has_right claim.rights b && contained (path_of (resource_at r.resources spot)) (path_of (resource_at r.resources row)))
         && not (keeps_off e (reached (path_of (resource_at r.resources spot)) (path_of (resource_at r.resources row)))))

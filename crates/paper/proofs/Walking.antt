@@ -1,13 +1,7 @@
 -- The walk through the claims has come to place i. Assumes nothing.
-use mathlib.Core.Path.{◌≡◌, refl, ap, sym, ◌∙◌}
-use mathlib.Core.Bool.{Bool, true, false, ◌&&◌, cond}
-use mathlib.Core.List.{List, map}
-use Prim.Native.Nat.{ℕ, ◌+◌, ◌<◌, ◌≤◌}
-use native.Mathlib.Omega.{arith}
-use borrow.Author.Tests.{eqb-true, eqb-false, ne_eqb, ltb-true}
-use lib.Dec.{eqb, ltb}
-use lib.ListN.{length, get_or, set, replicate, length-set, length-map, length-replicate, get_or-eq_default}
-use lib.Seq.{get_or-set_same, get_or-set_other}
+use Rattle.std.proofs.Common.{◌≡◌, refl, ap, sym, ◌∙◌, Bool, true, false, ◌&&◌, cond, List, map, ℕ, ◌+◌, ◌<◌, ◌≤◌, arith, eqb-true, ne_eqb, ltb-true, eqb, ltb, length, get_or, set, length-set, get_or-set_same, get_or-set_other}
+use borrow.Author.Tests.{eqb-false}
+use lib.ListN.{length-map, get_or-eq_default}
 use Rattle.lists.specs.Tests.{cases, and_right}
 use Rattle.register.specs.Limits.{resource_limit, claim_limit, hop_limit}
 use Rattle.register.specs.Register.{claims_of, no_resource}
@@ -19,17 +13,14 @@ use Rattle.columns.specs.Columns.{resource_id, resources_to}
 use Rattle.columns.specs.Laws.{up_to_length}
 use Rattle.columns.specs.Sheet.{claim_at}
 use Rattle.lookup.specs.Walks.{sheet_few, sheet_at}
-use Rattle.paper.specs.Cells.{cell_limit, OpenCells, ClaimEntered}
-use Rattle.paper.specs.Paper.{claim_stands, Filled, Walkable, Written}
+use Rattle.paper.specs.Cells.{cell_limit, ClaimEntered}
+use Rattle.paper.specs.Paper.{claim_stands, Filled, Walkable}
 use Rattle.paper.proofs.Chaining.{ups_long, up_cases, hops_few, hops_next, lives_next}
-use Rattle.paper.proofs.Turning.{filled_start, filled_passed, filled_entered, entered_long}
+use Rattle.paper.proofs.Turning.{filled_passed, filled_entered, entered_long}
 
 and_second : (a b : Bool) → b ≡ false → a && b ≡ false
 and_second true b e = e
 and_second false b e = refl
-
-filled_at : (r : Register) (moment x i n : ℕ) (cells : List ℕ) → i ≡ n → Filled r moment x i cells → Filled r moment x n cells
-filled_at r moment x i n cells same f = rw (← same) f
 
 -- the remarks on the claims before place i
 pub record Remarked (r : Register) (moment i : ℕ) (hops : List ℕ) (lives : List Bool) : Type 0 where
@@ -48,39 +39,8 @@ pub record Walking (r : Register) (sheet ups reports : List ℕ) (actor owner mo
   pub long : length theirs ≡ cell_limit
   pub owners : (actor ≡ owner → ⊥) → Filled r moment owner i theirs
 
--- before the first claim
-pub walking_start : {r : Register} {sheet ups reports : List ℕ} {actor owner moment : ℕ} {cells : List ℕ} → Walkable r sheet ups reports → length r.claims.list ≡ claim_limit
-    → length r.resources.list ≡ resource_limit → OpenCells r.resources cells
-    → Walking r sheet ups reports actor owner moment 0 cells cells (replicate claim_limit 0) (replicate claim_limit false)
-walking_start {r} {sheet} {ups} {reports} {actor} {owner} {moment} {cells} known room space opened = record {
-  known = known;
-  room = room;
-  space = space;
-  within = omega arith;
-  remarked = record {
-    hops_long = length-replicate {A = ℕ} claim_limit 0;
-    lives_long = length-replicate {A = Bool} claim_limit false;
-    hops_told = λ j h. absurd (omega (arith, h));
-    lives_told = λ j h. absurd (omega (arith, h));
-  };
-  actors = filled_start r moment actor cells opened;
-  long = opened.long;
-  owners = λ other. filled_start r moment owner cells opened;
-}
-
 module _ {r : Register} {sheet ups reports : List ℕ} {actor owner moment i : ℕ} {own theirs hops : List ℕ} {lives : List Bool}
     (s : Walking r sheet ups reports actor owner moment i own theirs hops lives) where
-  -- after the last claim
-  pub walking_done : r.claims.count ≤ i → Written r moment actor owner (record { hops = hops; lives = lives; own = own; theirs = theirs })
-  walking_done h =
-      let same : i ≡ r.claims.count = omega (arith, h, s.within) in
-      record {
-        hops = λ j below. s.remarked.hops_told j (omega (arith, h, below));
-        lives = λ j below. s.remarked.lives_told j (omega (arith, h, below));
-        own = filled_at r moment actor i r.claims.count own same s.actors;
-        theirs = λ other. filled_at r moment owner i r.claims.count theirs same (s.owners other);
-      }
-
   pub reports_long : length reports ≡ resource_limit
   reports_long =
       ap length s.known.ids

@@ -1,18 +1,14 @@
 -- Working: The cells of a table as numbers of one list, seventeen to a resource, and what comes of them when a claim is entered. They are shaped for the
 -- code; what a number says of its cell is `CellTells` of Paper.
-use Rattle.std.specs.Prelude.{◌≡◌, Bool, ◌&&◌, cond, List, [], ℕ, ◌+◌, ◌*◌, ◌<◌, ltb, length, get_or}
+use Rattle.std.specs.Prelude.{◌≡◌, Bool, ◌&&◌, cond, List, [], ℕ, ◌+◌, ◌*◌, ◌<◌, ltb, length, get_or, Option, None, Some}
 use Rattle.rights.specs.Rights.{right_count, has_right}
 use Rattle.paths.specs.Containment.{reach_between}
-use Rattle.paths.specs.declared.Reach.{Reach}
-use Rattle.paths.specs.declared.Reach.TheVariants.{Outside, Inside}
 use Rattle.register.specs.Limits.{resource_limit, claim_limit}
 use Rattle.register.specs.Register.{path_of}
 use Rattle.register.specs.declared.Resource.{Resource}
 use Rattle.register.specs.declared.Resources.{Resources}
 use Rattle.register.specs.declared.Claim.{Claim}
 use Rattle.columns.specs.Columns.{latest_place}
-use Rattle.columns.specs.declared.Place.{Place}
-use Rattle.columns.specs.declared.Place.TheVariants.{At, Nowhere}
 use Rattle.coverage_table.specs.Table.{is_open}
 
 -- how many cells a table has: one for each of 64 resources and 17 rights
@@ -54,9 +50,9 @@ pub record RowEntered (before : List ℕ) (row rights place far : ℕ) (after : 
   pub elsewhere : (other b : ℕ) → b < right_count → (other ≡ row → ⊥) → cell_at after other b ≡ cell_at before other b
 
 -- a cell after a claim whose path contains the row's or not
-abbrev pub number_over : Reach → ℕ → ℕ → ℕ → ℕ → ℕ
-number_over Outside rights b place n = n
-number_over (Inside far) rights b place n = number_after (has_right rights b) far place n
+abbrev pub number_over : Option ℕ → ℕ → ℕ → ℕ → ℕ → ℕ
+number_over None rights b place n = n
+number_over (Some far) rights b place n = number_after (has_right rights b) far place n
 
 -- a claim on the resource at `spot` entered in every row
 pub record RowsEntered (before : List ℕ) (k : Resources) (spot rights place : ℕ) (after : List ℕ) : Type 0 where
@@ -65,14 +61,14 @@ pub record RowsEntered (before : List ℕ) (k : Resources) (spot rights place : 
       → cell_at after row b ≡ number_over (reach_between (path_of (resource_at k spot)) (path_of (resource_at k row))) rights b place (cell_at before row b)
 
 -- a claim entered in every row, its resource found at a place or nowhere
-abbrev pub EnteredFrom : List ℕ → Resources → Claim → ℕ → List ℕ → Place → Type 0
-EnteredFrom before k c place after (At spot) = RowsEntered before k spot c.rights place after
-EnteredFrom before k c place after Nowhere = after ≡ before
+abbrev pub EnteredFrom : List ℕ → Resources → Claim → ℕ → List ℕ → Option ℕ → Type 0
+EnteredFrom before k c place after (Some spot) = RowsEntered before k spot c.rights place after
+EnteredFrom before k c place after None = after ≡ before
 
 abbrev pub ClaimEntered : List ℕ → List ℕ → Resources → Claim → ℕ → List ℕ → Type 0
 ClaimEntered before reports k c place after = EnteredFrom before k c place after (latest_place reports k.count c.resource)
 
 -- what stands in the cell of a right, in the row of a resource that was found at a place; 0 where there is no such cell
-abbrev pub cell_in : List ℕ → ℕ → Place → ℕ
-cell_in cells b (At row) = cond (ltb row resource_limit && ltb b right_count) (cell_at cells row b) 0
-cell_in cells b Nowhere = 0
+abbrev pub cell_in : List ℕ → ℕ → Option ℕ → ℕ
+cell_in cells b (Some row) = cond (ltb row resource_limit && ltb b right_count) (cell_at cells row b) 0
+cell_in cells b None = 0

@@ -1,5 +1,5 @@
 -- Laws: What stands in the cell of a use says of the paper what the definition's table says of the use. Assumes nothing.
-use Rattle.std.specs.Prelude.{◌≡◌, refl, true, false, List, [], ◌∷◌, ◌++◌, map, ℕ, suc, ◌<◌, eqb, ltb, length, take, drop}
+use Rattle.std.specs.Prelude.{◌≡◌, refl, true, false, List, [], ◌∷◌, ◌++◌, map, ℕ, suc, ◌<◌, eqb, ltb, length, take, drop, Option, None, Some}
 use Rattle.std.proofs.Common.{sym, ap, ◌∙◌, arith, eqb-true, eq-eqb, lt-ltb, ltb-true, length-take, get_or-take, take-take}
 use Rattle.std.proofs.Math.ListN.{get_or-map}
 use Rattle.std.proofs.Math.Seq.{split_at}
@@ -15,8 +15,6 @@ use Rattle.register.specs.declared.Register.{Register}
 use Rattle.soundness_rules.specs.Sound.{sound}
 use Rattle.soundness_rules.proofs.Registers.{sound_out}
 use Rattle.columns.specs.Columns.{resource_id, resources_to, latest_place}
-use Rattle.columns.specs.declared.Place.{Place}
-use Rattle.columns.specs.declared.Place.TheVariants.{At, Nowhere}
 use Rattle.columns.specs.Laws.{up_to_at, up_to_first, place_found_lem, nowhere_none, among_natural}
 use Rattle.actions.specs.declared.Usage.{Usage}
 use Rattle.gate_rules.specs.Gate.{first_of}
@@ -50,7 +48,7 @@ module _ (r : Register) (whole : sound r ≡ true) (room : length r.resources.li
   reports_of = map resource_id (resources_to r.resources).list
 
   -- where a number is found stands the resource that has it
-  pub row_found : (x row : ℕ) → latest_place reports_of r.resources.count x ≡ At row → (row < r.resources.count) × ((resource_at r.resources row).id ≡ x)
+  pub row_found : (x row : ℕ) → latest_place reports_of r.resources.count x ≡ Some row → (row < r.resources.count) × ((resource_at r.resources row).id ≡ x)
   row_found x row q =
       let found = place_found_lem reports_of x r.resources.count row q in (
         found.0,
@@ -60,7 +58,7 @@ module _ (r : Register) (whole : sound r ≡ true) (room : length r.resources.li
       )
 
   -- what is found nowhere does not stand
-  pub row_absent : (x : ℕ) → latest_place reports_of r.resources.count x ≡ Nowhere → any (λ o. eqb x o.id) (resources_of r.resources) ≡ false
+  pub row_absent : (x : ℕ) → latest_place reports_of r.resources.count x ≡ None → any (λ o. eqb x o.id) (resources_of r.resources) ≡ false
   row_absent x q =
       ap (any (λ o. eqb x o.id)) (sym (up_to_first no_resource r.resources.count r.resources.list))
       ∙ sym (among_natural resource_id x r.resources.count (resources_to r.resources).list)
@@ -92,10 +90,10 @@ module _ (r : Register) (whole : sound r ≡ true) (room : length r.resources.li
     entries o b = entry_by r moment x o b r.claims.count
 
     -- what is looked up in the table, by the place of the used resource
-    looked_up_at : (cells : List ℕ) → Filled r moment x r.claims.count cells → (u : Usage) (p : Place)
+    looked_up_at : (cells : List ℕ) → Filled r moment x r.claims.count cells → (u : Usage) (p : Option ℕ)
         → latest_place reports_of r.resources.count u.resource ≡ p
         → CellTells r r.claims.count (looked_up (table_by entries (resources_of r.resources)) u) (cell_in cells u.right p)
-    looked_up_at cells f u (At row) q =
+    looked_up_at cells f u (Some row) q =
         let found = row_found u.resource row q in
         let first = first_row u.resource row found.0 found.1 in
         let inside : ltb row resource_limit ≡ true = lt-ltb row resource_limit (omega (arith, found.0, (sound_out r whole).limits.resource_count)) in
@@ -105,7 +103,7 @@ module _ (r : Register) (whole : sound r ≡ true) (room : length r.resources.li
         (f.tells row u.right found.0 (ltb-true u.right right_count right)))
         (λ past.
         rw (lookup_past entries (resources_of r.resources) u (resource_at r.resources row) first past, inside, past) refl)
-    looked_up_at cells f u Nowhere q =
+    looked_up_at cells f u None q =
         rw (lookup_absent entries (resources_of r.resources) u (first_none (λ o. eqb u.resource o.id) (resources_of r.resources) (row_absent u.resource q))) refl
 
     -- the number in the cell of a use tells what is looked up in the table

@@ -16,8 +16,6 @@ ghost use Rattle.paper.specs.Cells.{cell_limit, OpenCells, RowEntered, RowsEnter
 ghost use Rattle.paper.specs.Paper.{Walkable, Written};
 
 use actions::Usage;
-use columns::Place;
-use paths::Reach;
 use register::{Claim, Register, Resource, Resources};
 
 // How many cells a table has: one for each of 64 resources and 17 rights.
@@ -45,29 +43,21 @@ fn open_cells(k: Resources) -> [u16; CELLS]
     ensures { OpenCells k result }
 {
     let mut cells = [NOTHING; CELLS];
-    let mut row: usize = 0;
-    while row < k.count {
+    for row in 0..k.count {
         if k.list[row].public == 1 {
             cells[row * rights::COUNT] = PUBLIC;
-            row += 1;
-        } else {
-            row += 1;
         }
     }
     cells
 }
 
 // Whether the path of one resource contains that of another, and how far it reaches.
-fn reach(outer: Resource, inner: Resource) -> Reach
+fn reach(outer: Resource, inner: Resource) -> Option<usize>
     ensures { (result ≡ reach_between (path_of outer) (path_of inner)) × (length (path_of outer) ≤ path_limit) }
 {
-    let long = lists::least(outer.len as usize, Register::PATH);
-    let wide = lists::least(inner.len as usize, Register::PATH);
-    let p = outer.path;
-    let q = inner.path;
-    let s: &[u8] = &p;
-    let t: &[u8] = &q;
-    paths::contains(&s[..long], &t[..wide])
+    let long = (outer.len as usize).min(Register::PATH);
+    let wide = (inner.len as usize).min(Register::PATH);
+    paths::contains(&outer.path[..long], &inner.path[..wide])
 }
 
 // Enters a claim in the row of a resource whose path its own contains: at each right that it has, unless a claim with a path as long or longer
@@ -78,14 +68,10 @@ fn enter_row(cells: &mut [u16], row: usize, rights: u32, place: usize, far: usiz
 {
     let first = (CLAIM + Register::CLAIMS * far) as u16;
     let mine = (CLAIM + Register::CLAIMS * far + place) as u16;
-    let mut right: usize = 0;
-    while right < rights::COUNT {
+    for right in 0..rights::COUNT {
         let at = row * rights::COUNT + right;
         if rights::has(rights, right as u32) & (cells[at] < first) {
             cells[at] = mine;
-            right += 1;
-        } else {
-            right += 1;
         }
     }
 }
@@ -96,17 +82,11 @@ fn enter_rows(cells: &mut [u16], k: Resources, spot: usize, rights: u32, place: 
     ensures { RowsEntered cells.old k spot rights place cells.new }
 {
     let outer = k.list[spot];
-    let mut row: usize = 0;
-    while row < k.count {
+    for row in 0..k.count {
         let inner = k.list[row];
         match reach(outer, inner) {
-            Reach::Outside => {
-                row += 1;
-            }
-            Reach::Inside(far) => {
-                enter_row(cells, row, rights, place, far);
-                row += 1;
-            }
+            None => {}
+            Some(far) => enter_row(cells, row, rights, place, far),
         }
     }
 }
@@ -118,8 +98,8 @@ fn enter_claim(cells: &mut [u16], reports: &[u32], k: Resources, c: Claim, place
 {
     let claimed = columns::latest_place(reports, k.count, c.resource);
     match claimed {
-        Place::At(spot) => enter_rows(cells, k, spot, c.rights, place),
-        Place::Nowhere => {}
+        Some(spot) => enter_rows(cells, k, spot, c.rights, place),
+        None => {}
     }
 }
 
@@ -158,8 +138,7 @@ pub fn walk<'a>(
     let mut theirs = own;
     let mut hops = [0u16; Register::CLAIMS];
     let mut lives = [false; Register::CLAIMS];
-    let mut i: usize = 0;
-    while i < r.claims.count {
+    for i in 0..r.claims.count {
         let c = columns::claim_at(sheet, i);
         let up = ups[i] as usize;
         hops[i] = hops_over(&hops, i, up);
@@ -167,12 +146,8 @@ pub fn walk<'a>(
         lives[i] = live;
         if live & (c.holder == actor) {
             enter_claim(&mut own, reports, o, c, i);
-            i += 1;
         } else if live & (c.holder == owner) {
             enter_claim(&mut theirs, reports, o, c, i);
-            i += 1;
-        } else {
-            i += 1;
         }
     }
     Page {
@@ -189,7 +164,7 @@ pub fn cell_in<'a>(cells: &'a [u16], reports: &'a [u32], m: usize, u: Usage) -> 
 {
     let used = columns::latest_place(reports, m, u.resource);
     match used {
-        Place::At(row) => {
+        Some(row) => {
             if Register::RESOURCES <= row {
                 return NOTHING;
             }
@@ -202,6 +177,6 @@ pub fn cell_in<'a>(cells: &'a [u16], reports: &'a [u32], m: usize, u: Usage) -> 
             }
             cells[at]
         }
-        Place::Nowhere => NOTHING,
+        None => NOTHING,
     }
 }

@@ -1,8 +1,6 @@
 -- The definitions of path containment on small paths, yes and no, computed. The bytes of `a`, `b` and `x` are 97, 98 and 120.
 -- Assumes nothing.
-use mathlib.Core.Path.{◌≡◌, refl}
-use mathlib.Core.Bool.{true, false}
-use mathlib.Core.List.{[], ◌∷◌}
+use Rattle.std.proofs.Common.{◌≡◌, refl, true, false, [], ◌∷◌}
 use Rattle.lists.specs.Lists.{same}
 use Rattle.paths.specs.Containment.{slash, dot, is_empty, joined, components, climbing, trimmed, starting, slashed, contained, reached}
 use Rattle.paths.specs.Readings.{written, unslashed}

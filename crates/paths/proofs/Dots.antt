@@ -1,13 +1,7 @@
 -- Climbing, a byte at a time. A component that so far consists of d dots stands for its path by those d dots in front of what is
 -- left, and three dots stand for every beginning that cannot become `..` any more. Assumes nothing.
-use mathlib.Core.Path.{◌≡◌, refl, sym}
-use mathlib.Core.Bool.{◌&&◌, ◌||◌, cond}
-use mathlib.Core.List.{List, [], ◌∷◌, ◌++◌}
-use Prim.Native.Nat.{ℕ, zero, suc, ◌+◌, ◌≤◌}
-use native.Mathlib.Omega.{arith}
-use lib.Dec.{eqb, ltb}
-use lib.ListN.{replicate}
-use borrow.Author.Tests.{ne_eqb, eqb-true, eqb-false, ltb-true}
+use Rattle.std.proofs.Common.{◌≡◌, refl, sym, ◌&&◌, ◌||◌, cond, List, [], ◌∷◌, ◌++◌, ℕ, zero, suc, ◌+◌, ◌≤◌, arith, eqb, ltb, replicate, ne_eqb, eqb-true, ltb-true}
+use borrow.Author.Tests.{eqb-false}
 use Rattle.lists.specs.Tests.{cases, and_right}
 use Rattle.lists.specs.Lists.{same}
 use Rattle.paths.specs.Containment.{slash, dot, components, climbing}

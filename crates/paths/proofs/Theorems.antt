@@ -1,10 +1,6 @@
 -- What is proved of path containment, over the definitions of specs/Containment. The contract of `paths::contains` says that its
 -- answer is `contained`, and with a yes `reached`. Assumes nothing.
-use mathlib.Core.Path.{◌≡◌}
-use mathlib.Core.Bool.{true, false, not}
-use mathlib.Core.List.{List, [], ◌∷◌, ◌++◌}
-use Prim.Native.Nat.{ℕ, ◌≤◌}
-use lib.ListN.{length, replicate}
+use Rattle.std.proofs.Common.{◌≡◌, true, false, not, List, [], ◌∷◌, ◌++◌, ℕ, ◌≤◌, length, replicate}
 use Rattle.lists.specs.Lists.{every, same}
 use Rattle.lists.specs.Same.{same_sound, same_complete}
 use Rattle.paths.specs.Containment.{slash, is_empty, components, climbing, trimmed, contained, reached, reach_between, is_inside, length_of}

@@ -1,21 +1,15 @@
 -- Containment by the tests that the code makes, in their order: an empty outer path, the inner path's length, what follows from the outer
 -- path's trimmed length on, how inner starts, and `..` components last. Assumes nothing.
-use mathlib.Core.Path.{◌≡◌, refl, ◌∙◌}
-use mathlib.Core.Bool.{true, false, not, ◌&&◌, ◌||◌, and-true, and-false}
-use mathlib.Core.List.{List, [], ◌∷◌}
-use Prim.Native.Nat.{ℕ, ◌-◌, ◌≤◌, ◌<◌}
-use native.Mathlib.Omega.{arith}
-use lib.ListN.{length, take, drop, length-drop}
-use lib.Seq.{length-take-le, take_all}
+use Rattle.std.proofs.Common.{None, Some, ◌≡◌, refl, ◌∙◌, true, false, not, ◌&&◌, ◌||◌, List, [], ◌∷◌, ℕ, ◌≤◌, ◌<◌, arith, length, take, drop, length-take-le}
+use mathlib.Core.Bool.{and-true, and-false}
 use Rattle.lists.specs.Tests.{cases}
 use Rattle.paths.specs.Containment.{is_empty, slashed, climbing, trimmed, starting, contained, reach_between}
 use Rattle.paths.specs.Trimming.{reach_beneath}
 use Rattle.paths.proofs.Laws.{contained_parts, beneath_clean, reached_yes}
-use Rattle.paths.specs.declared.Reach.TheVariants.{Outside, Inside}
 use Rattle.paths.specs.Lent.{beneath}
 use Rattle.paths.proofs.Walks.{starting_short}
 
-pub outer_empty : (p q : List ℕ) → length p ≡ 0 → reach_beneath p q ≡ Inside 0
+pub outer_empty : (p q : List ℕ) → length p ≡ 0 → reach_beneath p q ≡ Some 0
 unfolding trimmed
 outer_empty [] q none = refl
 outer_empty (b ∷ p) q none = absurd (omega arith)
@@ -24,35 +18,17 @@ not_empty : (p : List ℕ) → (length p ≡ 0 → ⊥) → is_empty p ≡ false
 not_empty [] some = absurd (some refl)
 not_empty (b ∷ p) some = refl
 
--- what follows the first n bytes, as it is lent
-tail : (q : List ℕ) (n : ℕ) → n ≤ length q → take (length q - n) (drop n q) ≡ drop n q
-tail q n long = take_all (length q - n) (drop n q) (omega (arith, length-drop n q))
-
 -- an outer path that is not empty, n bytes of it left when it is trimmed
 module _ (p q : List ℕ) (n : ℕ) (some : length p ≡ 0 → ⊥) (trim : take n p ≡ trimmed p) (short : n ≤ length p) where
   judged : is_empty p || beneath (trimmed p) q ≡ starting (take n p) q && (is_empty (drop n q) || slashed (drop n q))
   judged = rw (not_empty p some, ← trim, length-take-le n p short)
 
-  away : is_empty p || beneath (trimmed p) q ≡ false → reach_beneath p q ≡ Outside
+  away : is_empty p || beneath (trimmed p) q ≡ false → reach_beneath p q ≡ None
   away none = rw none
 
   -- an inner path that is shorter does not start with them
-  pub too_short : length q < n → reach_beneath p q ≡ Outside
+  pub too_short : length q < n → reach_beneath p q ≡ None
   too_short less = away (judged ∙ rw (starting_short (take n p) q (omega (arith, length-take-le n p short))))
-
-  module _ (long : n ≤ length q) where
-    pub apart : is_empty (take (length q - n) (drop n q)) || slashed (take (length q - n) (drop n q)) ≡ false → reach_beneath p q ≡ Outside
-    apart other = away (judged ∙ rw (rw (tail q n long) at other) (and-false (starting (take n p) q)))
-
-    module _ (parted : is_empty (take (length q - n) (drop n q)) || slashed (take (length q - n) (drop n q)) ≡ true) where
-      by_start : is_empty p || beneath (trimmed p) q ≡ starting (take n p) q
-      by_start = judged ∙ rw (rw (tail q n long) at parted) (and-true (starting (take n p) q))
-
-      pub other_start : starting (take n p) q ≡ false → reach_beneath p q ≡ Outside
-      other_start other = away (by_start ∙ other)
-
-      pub same_start : starting (take n p) q ≡ true → reach_beneath p q ≡ Inside n
-      same_start same = rw (by_start, same, ← trim, length-take-le n p short)
 
 -- where inner stands is settled: it is left whether it has a `..` component
 module _ (p q : List ℕ) where
@@ -65,28 +41,28 @@ module _ (p q : List ℕ) where
       contained_parts p q
       ∙ rw here (and-true (not (climbing p) && not (climbing q)) ∙ clean_same here)
 
-  outside : contained p q ≡ false → reach_between p q ≡ Outside
+  outside : contained p q ≡ false → reach_between p q ≡ None
   outside none = rw none
 
   -- inner stands elsewhere
-  pub elsewhere : reach_beneath p q ≡ Outside → reach_between p q ≡ Outside
+  pub elsewhere : reach_beneath p q ≡ None → reach_between p q ≡ None
   elsewhere told =
       cases (is_empty p || beneath (trimmed p) q)
-      (λ here. let clash : Inside (length (trimmed p)) ≡ Outside = rw here at told in cc)
+      (λ here. let clash : Some (length (trimmed p)) ≡ None = rw here at told in cc)
       (λ none. outside (contained_parts p q ∙ rw none (and-false (not (climbing p) && not (climbing q)))))
 
-  module _ (n : ℕ) (told : reach_beneath p q ≡ Inside n) where
-    pub climbs_out : climbing q ≡ true → reach_between p q ≡ Outside
+  module _ (n : ℕ) (told : reach_beneath p q ≡ Some n) where
+    pub climbs_out : climbing q ≡ true → reach_between p q ≡ None
     climbs_out climbs =
         cases (is_empty p || beneath (trimmed p) q)
         (λ here. outside (stands here ∙ rw climbs))
-        (λ none. let clash : Outside ≡ Inside n = rw none at told in cc)
+        (λ none. let clash : None ≡ Some n = rw none at told in cc)
 
-    pub stays_in : climbing q ≡ false → reach_between p q ≡ Inside n
+    pub stays_in : climbing q ≡ false → reach_between p q ≡ Some n
     stays_in clean =
         cases (is_empty p || beneath (trimmed p) q)
         (λ here.
         let held : contained p q ≡ true = stands here ∙ rw clean in
-        let long : Inside (length (trimmed p)) ≡ Inside n = rw here at told in
+        let long : Some (length (trimmed p)) ≡ Some n = rw here at told in
         rw (held, reached_yes p q held) long)
-        (λ none. let clash : Outside ≡ Inside n = rw none at told in cc)
+        (λ none. let clash : None ≡ Some n = rw none at told in cc)

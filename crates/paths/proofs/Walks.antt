@@ -1,15 +1,9 @@
 -- The definitions at a place of a path: what one byte more of a walk makes of them. Assumes nothing.
-use mathlib.Core.Path.{◌≡◌, refl, ap, ◌∙◌}
-use mathlib.Core.Bool.{true, false, ◌&&◌, ◌||◌, cond, and-false, or-false}
-use mathlib.Core.List.{List, [], ◌∷◌, ◌++◌}
-use Prim.Native.Nat.{ℕ, suc, ◌+◌, ◌-◌, ◌≤◌, ◌<◌}
-use native.Mathlib.Omega.{arith}
-use lib.Dec.{eqb, ltb}
-use lib.ListN.{length, take, drop, get_or, replicate, drop_of_length-le, length-drop}
-use lib.Seq.{take-suc}
+use Rattle.std.proofs.Common.{◌≡◌, refl, ap, ◌∙◌, true, false, ◌&&◌, ◌||◌, cond, List, [], ◌∷◌, ◌++◌, ℕ, suc, ◌+◌, ◌-◌, ◌≤◌, ◌<◌, arith, eqb, ltb, length, take, drop, get_or, replicate, drop_of_length-le, length-drop, take-suc}
+use mathlib.Core.Bool.{and-false, or-false}
 use Rattle.lists.specs.Tests.{cases}
 use Rattle.lists.specs.Loops.{drop_next}
-use Rattle.paths.specs.Containment.{slash, dot, is_empty, slashed, climbing, trimmed, starting}
+use Rattle.paths.specs.Containment.{slash, dot, climbing, trimmed, starting}
 use Rattle.paths.specs.Trimming.{starting_length, trimmed_slash, trimmed_other}
 use Rattle.paths.specs.Lent.{paired}
 use Rattle.paths.proofs.Dots.{dots_end, dots_slash, dots_byte}
@@ -79,12 +73,3 @@ module _ (p : List ℕ) (n : ℕ) (some : 0 < n) (within : n ≤ length p) where
 pub trimmed_none : (p : List ℕ) (n : ℕ) → n ≡ 0 → trimmed (take n p) ≡ take n p
 unfolding trimmed
 trimmed_none p n none = rw none
-
--- ---- what follows
-pub follows_nothing : (q : List ℕ) → length q ≡ 0 → is_empty q || slashed q ≡ true
-follows_nothing [] none = refl
-follows_nothing (b ∷ q) none = absurd (omega arith)
-
-pub follows_first : (q : List ℕ) → (length q ≡ 0 → ⊥) → is_empty q || slashed q ≡ eqb (get_or q 0 0) slash
-follows_first [] some = absurd (some refl)
-follows_first (b ∷ q) some = refl

@@ -1,9 +1,7 @@
 -- Believed: Path containment (000), on paths as lists of bytes. Nothing is assumed of the bytes: components are cut at `/` only, and `.` and `//`
 -- mean nothing special.
-use Rattle.std.specs.Prelude.{Bool, true, false, not, ◌&&◌, ◌||◌, cond, List, [], ◌∷◌, ℕ, eqb, length, drop}
+use Rattle.std.specs.Prelude.{Bool, true, false, not, ◌&&◌, ◌||◌, cond, List, [], ◌∷◌, ℕ, eqb, length, drop, Option, None, Some}
 use Rattle.lists.specs.Lists.{any, same}
-use Rattle.paths.specs.declared.Reach.{Reach}
-use Rattle.paths.specs.declared.Reach.TheVariants.{Outside, Inside}
 
 -- the bytes `/` and `.`
 abbrev pub slash : ℕ
@@ -59,14 +57,14 @@ unfoldable pub reached : List ℕ → List ℕ → ℕ
 reached outer inner = cond (contained outer inner) (length (trimmed outer)) 0
 
 -- both as one answer: a no, or a yes with how far
-abbrev pub reach_between : List ℕ → List ℕ → Reach
-reach_between outer inner = cond (contained outer inner) (Inside (reached outer inner)) Outside
+abbrev pub reach_between : List ℕ → List ℕ → Option ℕ
+reach_between outer inner = cond (contained outer inner) (Some (reached outer inner)) None
 
 -- an answer's yes or no, and its length
-abbrev pub is_inside : Reach → Bool
-is_inside Outside = false
-is_inside (Inside n) = true
+abbrev pub is_inside : Option ℕ → Bool
+is_inside None = false
+is_inside (Some n) = true
 
-abbrev pub length_of : Reach → ℕ
-length_of Outside = 0
-length_of (Inside n) = n
+abbrev pub length_of : Option ℕ → ℕ
+length_of None = 0
+length_of (Some n) = n

@@ -1,15 +1,12 @@
 -- Laws: Trimming, sameness and beginnings: what a path is made of. Assumes nothing.
-use Rattle.std.specs.Prelude.{◌≡◌, refl, Bool, true, false, ◌&&◌, ◌||◌, ℕ, suc, ◌≤◌, eqb, length, drop, replicate}
-use Rattle.std.proofs.Common.{sym, ◌∙◌, arith, length-append, eq-eqb, ne_eqb, eqb-true}
+use Rattle.std.specs.Prelude.{◌≡◌, refl, Bool, true, false, ◌&&◌, ◌||◌, ℕ, suc, ◌≤◌, eqb, length, drop, replicate, Option, None, Some, List, [], ◌∷◌, ◌++◌}
+use Rattle.std.proofs.Common.{sym, ◌∙◌, arith, length-append, eq-eqb, ne_eqb, eqb-true, append-nil}
 use Rattle.std.proofs.Math.Path.{ap}
 use Rattle.std.proofs.Math.Bool.{cond}
-use mathlib.Core.List.{List, [], ◌∷◌, ◌++◌, append-nil}
 use Rattle.std.proofs.lemmas.Bool.{eqb-false}
 use Rattle.lists.specs.Tests.{cases, and_left, and_right}
 use Rattle.lists.specs.Lists.{same}
 use Rattle.paths.specs.Containment.{slash, is_empty, trimmed, starting, slashed}
-use Rattle.paths.specs.declared.Reach.{Reach}
-use Rattle.paths.specs.declared.Reach.TheVariants.{Outside, Inside}
 use Rattle.paths.specs.Lent.{beneath}
 
 pub is_empty_sound : (p : List ℕ) → is_empty p ≡ true → p ≡ []
@@ -117,8 +114,8 @@ trimmed_end p q e =
     omega (arith, ap length (trimmed_twice p), ap length e, length-append q (slash ∷ []))
 
 -- how far outer reaches to what is beneath it, whatever `..` components there are
-abbrev pub reach_beneath : List ℕ → List ℕ → Reach
-reach_beneath outer inner = cond (is_empty outer || beneath (trimmed outer) inner) (Inside (length (trimmed outer))) Outside
+abbrev pub reach_beneath : List ℕ → List ℕ → Option ℕ
+reach_beneath outer inner = cond (is_empty outer || beneath (trimmed outer) inner) (Some (length (trimmed outer))) None
 
 -- inner is outer, or starts with outer and a slash: inner starts with outer, and what follows is nothing or begins with a slash
 pub followed : (t q : List ℕ) → same q t || (starting t q && slashed (drop (length t) q)) ≡ beneath t q

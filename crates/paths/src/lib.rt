@@ -13,13 +13,6 @@ const SLASH: u8 = 47;
 
 const DOT: u8 = 46;
 
-// Whether an outer path contains an inner one and, with a yes, the length of the trimmed outer path. That may be 0.
-#[derive(Clone, Copy)]
-pub enum Reach {
-    Outside,
-    Inside(usize),
-}
-
 // The dots that a component consists of so far, with one byte more: 0, 1 or 2, and 3 where it is not `.` or `..` any longer.
 fn dots_with(dots: u8, b: u8) -> u8
     ensures { result ≡ cond (eqb b dot && ltb dots 3) (dots + 1) 3 }
@@ -39,10 +32,8 @@ fn has_paired_dots(p: &[u8]) -> bool
     ensures { result ≡ paired p.now }
 {
     let mut hit = false;
-    let mut i: usize = 1;
-    while i < p.len() {
-        hit = hit | ((p[i - 1] == DOT) & (p[i] == DOT));
-        i += 1;
+    for i in 1..p.len() {
+        hit |= (p[i - 1] == DOT) & (p[i] == DOT);
     }
     hit
 }
@@ -52,18 +43,14 @@ fn walk_components(p: &[u8]) -> bool
     ensures { result ≡ climbing p.now }
 {
     let mut dots: u8 = 0;
-    let mut i: usize = 0;
-    while i < p.len() {
-        let b = p[i];
-        if b == SLASH {
+    for b in p {
+        if *b == SLASH {
             if dots == 2 {
                 return true;
             }
             dots = 0;
-            i += 1;
         } else {
-            dots = dots_with(dots, b);
-            i += 1;
+            dots = dots_with(dots, *b);
         }
     }
     dots == 2
@@ -84,15 +71,12 @@ fn climbs(p: &[u8]) -> bool
 fn trimmed_len(p: &[u8]) -> usize
     ensures { (take result p.now ≡ trimmed p.now) × (result ≤ length p.now) }
 {
-    let mut n = p.len();
-    while 0 < n {
-        let last = n - 1;
+    for last in (0..p.len()).rev() {
         if p[last] != SLASH {
-            return n;
+            return last + 1;
         }
-        n = last;
     }
-    n
+    0
 }
 
 // Whether `p` starts with `o`. As in `has_paired_dots`, the loop has no way out.
@@ -103,10 +87,8 @@ fn starts(o: &[u8], p: &[u8]) -> bool
         return false;
     }
     let mut alike = true;
-    let mut i: usize = 0;
-    while i < o.len() {
-        alike = alike & (o[i] == p[i]);
-        i += 1;
+    for i in 0..o.len() {
+        alike &= o[i] == p[i];
     }
     alike
 }
@@ -123,40 +105,34 @@ fn follows(tail: &[u8]) -> bool
 
 // A yes where the outer path is empty, or the inner one is the trimmed outer path, or that with a slash and more. What follows the
 // trimmed length is asked before the bytes up to it are compared: it is one byte, and most pairs part there.
-fn reach_beneath(outer: &[u8], inner: &[u8]) -> Reach
+fn reach_beneath(outer: &[u8], inner: &[u8]) -> Option<usize>
     ensures { result ≡ reach_beneath outer.now inner.now }
 {
     if outer.len() == 0 {
-        return Reach::Inside(0);
+        return Some(0);
     }
     let n = trimmed_len(outer);
     if inner.len() < n {
-        return Reach::Outside;
+        return None;
     }
     if follows(&inner[n..]) {
         if starts(&outer[..n], inner) {
-            Reach::Inside(n)
+            Some(n)
         } else {
-            Reach::Outside
+            None
         }
     } else {
-        Reach::Outside
+        None
     }
 }
 
-// Whether the outer path contains the inner one, and how far it reaches. Only the inner path is asked for `..`: where it stands beneath the
+// Whether the outer path contains the inner one and, with a yes, the length of the trimmed outer path, which may be 0. Only the inner path is asked for `..`: where it stands beneath the
 // outer one, a component of the outer path is one of it too.
-pub fn contains(outer: &[u8], inner: &[u8]) -> Reach
+pub fn contains(outer: &[u8], inner: &[u8]) -> Option<usize>
     ensures { result ≡ reach_between outer.now inner.now }
 {
     match reach_beneath(outer, inner) {
-        Reach::Outside => Reach::Outside,
-        Reach::Inside(length) => {
-            if climbs(inner) {
-                Reach::Outside
-            } else {
-                Reach::Inside(length)
-            }
-        }
+        None => None,
+        Some(length) => { if climbs(inner) { None } else { Some(length) } }
     }
 }

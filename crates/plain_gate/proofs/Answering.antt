@@ -1,21 +1,12 @@
 -- The answers of the plain gate: what is known of a register that was examined, what stops an action or a plan, and what is answered
 -- otherwise. Assumes nothing.
-use mathlib.Core.Path.{◌≡◌, refl, sym, ap, ◌∙◌}
-use mathlib.Core.Bool.{Bool, true, false, not, ◌||◌, cond}
-use mathlib.Core.List.{List, [], ◌∷◌, map}
-use Prim.Native.Nat.{ℕ, zero, suc, ◌+◌, ◌≤◌, ◌<◌}
-use native.Mathlib.Omega.{arith}
-use lib.Dec.{eqb}
-use lib.ListN.{length, drop, get_or, set, length-take}
-use lib.Seq.{get_or-take}
+use Rattle.std.proofs.Common.{Result, Err, Ok, ◌≡◌, refl, sym, ap, ◌∙◌, Bool, true, false, not, ◌||◌, cond, List, [], ◌∷◌, map, ℕ, zero, suc, ◌+◌, ◌≤◌, ◌<◌, arith, eqb, length, drop, get_or, set, length-take, get_or-take}
 use Rattle.lists.specs.Lists.{All}
 use Rattle.register.specs.Limits.{claim_limit}
 use Rattle.register.specs.declared.Register.{Register}
 use Rattle.soundness_rules.specs.Sound.{sound}
 use Rattle.refusals.specs.Refusals.{outcome_of}
 use Rattle.refusals.proofs.Laws.{outcome_pass, outcome_fail}
-use Rattle.refusals.specs.declared.Outcome.{Outcome}
-use Rattle.refusals.specs.declared.Outcome.TheVariants.{Accepted, Refused as RefusedFor}
 use Rattle.refusals.specs.declared.Refusal.{Refusal}
 use Rattle.refusals.specs.declared.Refusal.TheVariants.{Unsound}
 use Rattle.columns.specs.Columns.{actor_id}
@@ -27,12 +18,10 @@ use Rattle.actions.specs.Actions.{action_limit}
 use Rattle.actions.specs.declared.Action.{Action}
 use Rattle.actions.specs.declared.Plan.{Plan}
 use Rattle.actions.specs.declared.Decision.TheVariants.{Permitted, Refused, Stopped}
-use Rattle.actions.specs.declared.Judged.{Judged}
 use Rattle.actions.specs.declared.Judgement.{Judgement}
-use Rattle.actions.specs.declared.Judgement.TheVariants.{Permitted as Agreed, Refused as Denied, Cancelled}
+use Rattle.actions.specs.declared.Judgement.TheVariants.{Cancelled}
 use Rattle.actions.specs.declared.Verdict.{Verdict}
-use Rattle.actions.specs.declared.Violation.{Violation}
-use Rattle.gate_rules.specs.Gate.{listed, padded, decided, action_tests, gate_tests}
+use Rattle.gate_rules.specs.Gate.{listed, padded, action_tests, gate_tests}
 use Rattle.gate_rules.specs.Fitting.{Fit}
 use Rattle.gate_rules.specs.Plans.{actions_of, judged, runs, halts, first_halt, halt_of, held, stopped}
 use Rattle.gate_rules.proofs.Cancelling.{halt_runs}
@@ -40,9 +29,7 @@ use Rattle.gate.specs.Judged.{lent_tests}
 use Rattle.gate.specs.Laws.{decided_natural}
 use Rattle.plans.specs.Stops.{stop_of, halt_by}
 use Rattle.plans.specs.StopsLaws.{halt_actions}
-use Rattle.plans.specs.Judgements.{judged_as}
-use Rattle.plans.specs.Holding.{wrapped, Holding, holding_next}
-use Rattle.plans.specs.Laws.{agreed_counted, denied_counted, judged_counted}
+use Rattle.plans.specs.Holding.{Holding, holding_next}
 use Rattle.plans.specs.declared.Stop.{Stop}
 use Rattle.coverage_table.specs.Table.{plain_violations, plain_hops, plain_verdict, plainly_gated, plain_judgements, plain_plan_verdict, plainly_planned}
 use Rattle.plain_gate.specs.Known.{Known}
@@ -65,7 +52,7 @@ module _ (r : Register) (long : length r.claims.list ≡ claim_limit) {s : List 
   }
 
 -- tests 2 and 3 by what is known
-pub tests_known : (r : Register) {s : List ℕ} (found : Findings) → Known r s found → (a : Action) {outcome : Outcome}
+pub tests_known : (r : Register) {s : List ℕ} (found : Findings) → Known r s found → (a : Action) {outcome : Result Unit Refusal}
     → outcome ≡ outcome_of (lent_tests found.actors.names r.actors.count a) → outcome ≡ outcome_of (action_tests r a)
 tests_known r found known a e =
     e ∙ ap (λ w. outcome_of (lent_tests w.names r.actors.count a)) known.actors ∙ ap outcome_of (tests_standing r a)
@@ -80,11 +67,11 @@ module _ (r : Register) (a : Action) where
   plain_unsound fails = sym (ap (λ o. plain_verdict o r a) (outcome_fail _ _ fails))
 
   module _ (h : sound r ≡ true) where
-    pub plain_stopped : (why : Refusal) → outcome_of (action_tests r a) ≡ RefusedFor why → stopping why ≡ plainly_gated r a
+    pub plain_stopped : (why : Refusal) → outcome_of (action_tests r a) ≡ Err why → stopping why ≡ plainly_gated r a
     unfolding plainly_gated gate_tests
     plain_stopped why e = sym (ap (λ o. plain_verdict o r a) (outcome_pass _ _ h ∙ e))
 
-    pub plain_judged : outcome_of (action_tests r a) ≡ Accepted → (found : PlainlyJudged)
+    pub plain_judged : outcome_of (action_tests r a) ≡ Ok tt → (found : PlainlyJudged)
         → found ≡ record { violations = listed (plain_violations r a); hops = padded (plain_hops r a) }
         → ◌≡◌ {A = Verdict} (record { decision = cond (eqb found.violations.count 0) Permitted Refused; violations = found.violations; hops = found.hops })
         (plainly_gated r a)
@@ -128,18 +115,10 @@ fit_at r p e long d i below =
     let inside : i < length (actions_of p) = omega (arith, length-take p.count p.actions, told.most, long, below) in
     rw (get_or-take p.count p.actions i d below) at (all_at (λ a. Fit r a) (actions_of p) told.fit d i inside)
 
--- the verdict by the number of violations
-module _ (vs : List Violation) (n : ℕ) (same : n ≡ length vs) where
-  pub agreed_plain : n ≡ 0 → Agreed ≡ judged vs
-  agreed_plain e = agreed_counted n e ∙ ap judged_as same ∙ judged_counted vs
-
-  pub denied_plain : (n ≡ 0 → ⊥) → Denied n ≡ judged vs
-  denied_plain some = denied_counted n some ∙ ap judged_as same ∙ judged_counted vs
-
 -- a loop over the actions that holds the verdict on each
-module _ (r : Register) {p : Plan} {top : ℕ} {list : List Judged} {cancelled : Bool} {i : ℕ} (s : Holding (plain_judgements r) p top list cancelled i) where
+module _ (r : Register) {p : Plan} {top : ℕ} {list : List Judgement} {cancelled : Bool} {i : ℕ} (s : Holding (plain_judgements r) p top list cancelled i) where
   pub plainly_next : (d : Action) → i < top → {v : Judgement} → v ≡ cond cancelled Cancelled (judged (plain_violations r (get_or p.actions i d)))
-      → Holding (plain_judgements r) p top (set list i (wrapped v)) (cancelled || not (eqb (get_or p.actions i d).flags 0)) (i + 1)
+      → Holding (plain_judgements r) p top (set list i v) (cancelled || not (eqb (get_or p.actions i d).flags 0)) (i + 1)
   plainly_next d h e =
       let later = cancelled || not (eqb (get_or p.actions i d).flags 0) in
       holding_next s d h (ap (λ w. w ∷ plain_judgements r later (drop (i + 1) (actions_of p))) (sym e))

@@ -1,17 +1,10 @@
 -- A loop over the uses of an action that puts the violations of each, by its cell and the owner's. Assumes nothing.
-use mathlib.Core.Path.{◌≡◌, refl, ◌∙◌}
-use mathlib.Core.Bool.{Bool, true, false, ◌&&◌}
-use mathlib.Core.List.{List}
-use Prim.Native.Nat.{ℕ, ◌+◌, ◌≤◌, ◌<◌, min}
-use native.Mathlib.Omega.{arith}
-use borrow.Author.Tests.{ne_eqb}
-use lib.Dec.{eqb}
-use lib.ListN.{length, get_or}
+use Rattle.std.proofs.Common.{◌≡◌, refl, ◌∙◌, Bool, true, false, ◌&&◌, List, ℕ, ◌+◌, ◌≤◌, ◌<◌, min, ne_eqb, eqb, length, get_or}
 use Rattle.actions.specs.Actions.{use_limit}
 use Rattle.actions.specs.declared.Violation.TheVariants.{NotCovered, OwnerNotCovering}
 use Rattle.actions.specs.declared.Violations.{Violations}
 use Rattle.violations.specs.Pushed.{pushed, pushed_all}
-use Rattle.violations.specs.Pushing.{Pushing, pushing_start, pushing_next, pushing_end}
+use Rattle.violations.specs.Pushing.{Pushing, pushing_next, pushing_end}
 use Rattle.plain_gate.specs.Cells.{cell_faults, faults_among, faults_in}
 
 -- the loop has come to a position: of the top uses that each list has, those before it are put
@@ -22,10 +15,6 @@ pub record Faulting (own theirs : List ℕ) (owned : Bool) (top position : ℕ) 
   pub come : Pushing (faults_among own theirs owned) top position first put
 
 module _ {own theirs : List ℕ} {owned : Bool} {top : ℕ} {first : Violations} where
-  pub faulting_start : (n : ℕ) {position : ℕ} → top ≡ min n (min use_limit (min (length own) (length theirs))) → position ≡ 0
-      → Faulting own theirs owned top position first first
-  faulting_start n e z = record { few = omega arith; mine = omega arith; other = omega arith; come = pushing_start z }
-
   module _ {position : ℕ} {put : Violations} (s : Faulting own theirs owned top position first put) where
     faulting_next : {after : Violations} → position < top
         → after ≡ pushed_all put (cell_faults owned position (get_or own position 0) (get_or theirs position 0))

@@ -1,10 +1,5 @@
 -- An action judged step by step has the violations and the hop counts of the definition. Assumes nothing.
-use mathlib.Core.Path.{◌≡◌, sym, ap, ◌∙◌}
-use mathlib.Core.Bool.{Bool, not, ◌&&◌}
-use mathlib.Core.List.{List, [], map}
-use Prim.Native.Nat.{ℕ}
-use lib.Dec.{eqb}
-use lib.ListN.{length, take}
+use Rattle.std.proofs.Common.{◌≡◌, sym, ap, ◌∙◌, Bool, not, ◌&&◌, List, [], map, ℕ, eqb, length, take}
 use Rattle.register.specs.Limits.{machine_kind, resource_limit}
 use Rattle.register.specs.Register.{actors_of}
 use Rattle.register.specs.declared.Register.{Register}

@@ -1,13 +1,6 @@
 -- What the number in a cell tells of the entry: whether it is nothing, and its hop count. Assumes nothing.
-use mathlib.Core.Path.{◌≡◌, refl, sym, ap, ◌∙◌}
-use mathlib.Core.Bool.{false}
-use mathlib.Core.List.{List}
-use Prim.Native.Nat.{ℕ, ◌+◌, ◌-◌, ◌*◌, ◌%◌, ◌≤◌, ◌<◌}
-use native.Mathlib.Nat.{add-mul-mod_self_left, mod-eq_of_lt}
-use native.Mathlib.Omega.{arith}
-use borrow.Author.Tests.{ne_eqb, le-ltb}
-use lib.Dec.{eqb, ltb}
-use lib.ListN.{get_or}
+use Rattle.std.proofs.Common.{◌≡◌, sym, ap, ◌∙◌, List, ℕ, ◌+◌, ◌-◌, ◌*◌, ◌%◌, ◌≤◌, ◌<◌, mod-eq_of_lt, arith, ne_eqb, le-ltb, eqb, get_or}
+use native.Mathlib.Nat.{add-mul-mod_self_left}
 use Rattle.register.specs.Limits.{claim_limit}
 use Rattle.register.specs.Register.{claims_of}
 use Rattle.register.specs.Chain.{latest, hops_of}

@@ -1,12 +1,8 @@
 -- The actor of an action and its owner, by the columns of the actors that stand: what the tables ask of them. Assumes nothing.
-use mathlib.Core.Path.{◌≡◌, refl, sym, ap, ◌∙◌}
-use mathlib.Core.Bool.{Bool, true, false, not, ◌&&◌, and_assoc}
-use mathlib.Core.List.{List, map}
-use Prim.Native.Nat.{ℕ}
-use native.Mathlib.Omega.{arith}
-use borrow.Author.Tests.{eqb-true, eqb-false, not-true}
-use lib.Dec.{eqb}
-use lib.ListN.{get_or, take, get_or-map}
+use Rattle.std.proofs.Common.{Option, ℕ, None, Some, ◌≡◌, refl, sym, ap, ◌∙◌, Bool, true, false, not, ◌&&◌, List, map, arith, eqb-true, eqb, get_or, take}
+use mathlib.Core.Bool.{and_assoc}
+use borrow.Author.Tests.{eqb-false, not-true}
+use lib.ListN.{get_or-map}
 use Rattle.lists.specs.Tests.{cases, clash, and_left, and_right}
 use Rattle.lists.specs.Lists.{any}
 use Rattle.lists.specs.Each.{every_all}
@@ -18,8 +14,6 @@ use Rattle.soundness_rules.specs.Sound.{human, is_machine, actor_fits, sound}
 use Rattle.soundness_rules.proofs.Registers.{sound_out, actor_fits_out}
 use Rattle.columns.specs.Columns.{actor_id, actor_kind, actor_owner, actors_to, latest_place, beside}
 use Rattle.columns.specs.Laws.{up_to_first, among_natural, beside_natural}
-use Rattle.columns.specs.declared.Place.{Place}
-use Rattle.columns.specs.declared.Place.TheVariants.{At, Nowhere}
 use Rattle.lookup.specs.Asked.{asked_at, asked_natural}
 use Rattle.uses.specs.Sights.{owner_at}
 use Rattle.actions.specs.declared.Action.{Action}
@@ -48,7 +42,7 @@ module _ (r : Register) where
       beside_natural actor_id actor_kind x machine_kind r.actors.count actors_standing ∙ ap (λ l. is_machine l x) first_standing
 
   -- where the actor numbered x stands, and its owner's number
-  abbrev place_standing : ℕ → Place
+  abbrev place_standing : ℕ → Option ℕ
   place_standing x = latest_place (map actor_id actors_standing) r.actors.count x
 
   abbrev pub owner_standing : ℕ → ℕ
@@ -62,11 +56,11 @@ module _ (r : Register) where
         ∙ asked_natural actor_id no_actor refl actors_standing x q r.actors.count (rw first_standing (sound_out r h).actors.apart)
 
     -- what is asked of a machine and of its owner, place by place
-    owner_asked_lem : (f : ℕ → Bool) (p : Place)
+    owner_asked_lem : (f : ℕ → Bool) (p : Option ℕ)
         → asked_at no_actor actors_standing (λ a. eqb machine_kind a.kind && f a.owner) p
         ≡ asked_at no_actor actors_standing (λ a. eqb machine_kind a.kind) p && f (owner_at (map actor_owner actors_standing) p)
-    owner_asked_lem f Nowhere = refl
-    owner_asked_lem f (At j) = rw (get_or-map actor_owner actors_standing j no_actor)
+    owner_asked_lem f None = refl
+    owner_asked_lem f (Some j) = rw (get_or-map actor_owner actors_standing j no_actor)
 
     -- so of the machine x and of its owner
     machine_asked : (f : ℕ → Bool) → any (λ a. eqb x a.id && (eqb machine_kind a.kind && f a.owner)) (actors_of r.actors)
@@ -107,10 +101,10 @@ module _ (r : Register) where
         (not-true (human actors a.owner) (and_right (not (eqb a.owner 0)) (not (human actors a.owner)) kept)))
 
     -- one place has not both kinds
-    kinds_clash : (p : Place) → asked_at no_actor actors_standing (λ a. eqb machine_kind a.kind) p ≡ true
+    kinds_clash : (p : Option ℕ) → asked_at no_actor actors_standing (λ a. eqb machine_kind a.kind) p ≡ true
         → asked_at no_actor actors_standing (λ a. eqb human_kind a.kind) p ≡ true → ⊥
-    kinds_clash Nowhere t k = clash {A = ⊥} false t refl
-    kinds_clash (At j) t k =
+    kinds_clash None t k = clash {A = ⊥} false t refl
+    kinds_clash (Some j) t k =
         let machine = eqb-true machine_kind (get_or actors_standing j no_actor).kind t in
         let person = eqb-true human_kind (get_or actors_standing j no_actor).kind k in
         omega (arith, machine, person)

@@ -1,29 +1,22 @@
 -- The uses of an action, by what stands in the cells of a paper: their violations and hop counts are those of the definition. Assumes nothing.
-use mathlib.Core.Path.{◌≡◌, refl, sym, ap, ◌∙◌}
-use mathlib.Core.Bool.{Bool, true, false, not, ◌&&◌, cond}
-use mathlib.Core.List.{List, [], ◌∷◌, ◌++◌, map, map-map, append_assoc}
-use Prim.Native.Nat.{ℕ, zero, suc, ◌+◌, ◌-◌, ◌≤◌, ◌<◌, min}
-use native.Mathlib.Omega.{arith}
-use lib.Dec.{eqb}
-use lib.ListN.{length, get_or, replicate, length-take, length-map}
-use lib.Seq.{get_or-take}
-use Rattle.lists.specs.Tests.{cases}
+use Rattle.std.proofs.Common.{◌≡◌, refl, sym, ap, ◌∙◌, Bool, true, false, not, ◌&&◌, cond, List, [], ◌∷◌, ◌++◌, map, append_assoc, ℕ, zero, suc, ◌+◌, ◌-◌, ◌≤◌, ◌<◌, min, arith, eqb, length, get_or, replicate, length-take, get_or-take}
+use mathlib.Core.List.{map-map}
+use lib.ListN.{length-map}
 use Rattle.lists.specs.Lists.{any, counted}
 use Rattle.lists.specs.Counts.{counted_first}
-use Rattle.lists.specs.Fills.{filled_by, filled_length, filled_at}
-use Rattle.register.specs.Limits.{resource_limit, claim_limit}
+use Rattle.lists.specs.Fills.{filled_length, filled_at}
+use Rattle.register.specs.Limits.{resource_limit}
 use Rattle.register.specs.Register.{actors_of}
 use Rattle.register.specs.declared.Register.{Register}
 use Rattle.soundness_rules.specs.Sound.{is_machine, sound}
 use Rattle.soundness_rules.proofs.Registers.{sound_out}
 use Rattle.columns.specs.Columns.{resource_id, resources_to}
-use Rattle.actions.specs.Actions.{no_use, use_limit, violation_limit, uses_of, governs_of, action_fits}
+use Rattle.actions.specs.Actions.{no_use, use_limit, violation_limit, uses_of, action_fits}
 use Rattle.actions.specs.declared.Usage.{Usage}
 use Rattle.actions.specs.declared.Action.{Action}
 use Rattle.actions.specs.declared.Violation.{Violation}
 use Rattle.actions.specs.declared.Violation.TheVariants.{NotCovered, OwnerNotCovering}
-use Rattle.actions.specs.declared.Violations.{Violations}
-use Rattle.gate_rules.specs.Gate.{flags_set, governed, listed, padded}
+use Rattle.gate_rules.specs.Gate.{listed, padded}
 use Rattle.gate_rules.proofs.Laws.{action_fits_out}
 use Rattle.gate_rules.proofs.Bounds.{violations_most}
 use Rattle.violations.specs.Pushed.{besides, pushed_all}
@@ -35,7 +28,6 @@ use Rattle.paper.specs.Paper.{Filled, Written}
 use Rattle.paper.specs.Laws.{cell_looked_up}
 use Rattle.paper.specs.declared.Page.{Page}
 use Rattle.plain_gate.specs.Cells.{cell_for, cells_of, hops_told, cell_hops, cell_faults, faults_among, faults_in}
-use Rattle.plain_gate.specs.declared.PlainlyJudged.{PlainlyJudged}
 use Rattle.plain_gate.proofs.Owners.{owner_standing, ownerless_standing, lacks_standing, owner_other}
 use Rattle.plain_gate.proofs.Looking.{tells_nothing, tells_hops}
 

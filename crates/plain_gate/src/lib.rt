@@ -14,8 +14,8 @@ ghost use Rattle.coverage_table.specs.Table.{plain_violations, plain_hops, plain
 ghost use Rattle.plain_gate.specs.Cells.{cells_of, hops_told, cell_hops, faults_in};
 ghost use Rattle.plain_gate.specs.Known.{Known};
 
-use actions::{Action, Judged, Judgement, Plan, PlanVerdict, Verdict, Violation, Violations};
-use refusals::{Outcome, Refusal};
+use actions::{Action, Judgement, Plan, PlanVerdict, Verdict, Violation, Violations};
+use refusals::Refusal;
 use register::{Actor, Register};
 use soundness::Findings;
 
@@ -30,13 +30,11 @@ struct PlainlyJudged {
 fn cells_of<'a>(cells: &'a [u16], reports: &'a [u32], m: usize, a: Action) -> [u16; Action::USES]
     ensures { result ≡ cells_of cells.now reports.now m a }
 {
-    let top = lists::least(a.used, Action::USES);
+    let top = a.used.min(Action::USES);
     let mut found = [paper::NOTHING; Action::USES];
-    let mut i: usize = 0;
-    while i < top {
+    for i in 0..top {
         let u = a.uses[i];
         found[i] = paper::cell_in(cells, reports, m, u);
-        i += 1;
     }
     found
 }
@@ -59,12 +57,10 @@ fn hops_told(hops: &[u16], cell: u16) -> usize
 fn hops_in<'a>(hops: &'a [u16], own: &'a [u16], n: usize) -> [usize; Action::USES]
     ensures { result ≡ cell_hops hops.now own.now n }
 {
-    let top = lists::least(n, lists::least(Action::USES, own.len()));
+    let top = n.min(Action::USES.min(own.len()));
     let mut counts = [0usize; Action::USES];
-    let mut i: usize = 0;
-    while i < top {
+    for i in 0..top {
         counts[i] = hops_told(hops, own[i]);
-        i += 1;
     }
     counts
 }
@@ -79,20 +75,14 @@ fn put_faults<'a>(
 ) -> Violations
     ensures { result ≡ pushed_all vs (faults_in own.now theirs.now owned n) }
 {
-    let long = lists::least(own.len(), theirs.len());
-    let top = lists::least(n, lists::least(Action::USES, long));
+    let long = own.len().min(theirs.len());
+    let top = n.min(Action::USES.min(long));
     let mut put = vs;
-    let mut position: u32 = 0;
-    while (position as usize) < top {
-        let i = position as usize;
+    for i in 0..top {
         if own[i] == paper::NOTHING {
-            put = violations::push(put, Violation::NotCovered(position));
-            position += 1;
+            put = violations::push(put, Violation::NotCovered(i as u32));
         } else if owned & (theirs[i] == paper::NOTHING) {
-            put = violations::push(put, Violation::OwnerNotCovering(position));
-            position += 1;
-        } else {
-            position += 1;
+            put = violations::push(put, Violation::OwnerNotCovering(i as u32));
         }
     }
     put
@@ -135,18 +125,15 @@ fn judge(r: Register, sheet: &[u32], found: Findings, a: Action) -> PlainlyJudge
 pub fn gate(r: Register, a: Action) -> Verdict
     ensures { result ≡ plainly_gated r a }
 {
-    let actors = r.actors;
-    let o = r.resources;
-    let k = r.claims;
     let mut sheet = [0u32; columns::SHEET];
-    let found = soundness::examine(&mut sheet, r.version, actors, o, k);
+    let found = soundness::examine(&mut sheet, r.version, r.actors, r.resources, r.claims);
     if !found.sound {
         return violations::stopped(Refusal::Unsound);
     }
-    let outcome = gate::action_outcome(&found.actors.names, actors.count, a);
+    let outcome = gate::action_outcome(&found.actors.names, r.actors.count, a);
     match outcome {
-        Outcome::Refused(why) => violations::stopped(why),
-        Outcome::Accepted => {
+        Err(why) => violations::stopped(why),
+        Ok(()) => {
             let judged = judge(r, &sheet, found, a);
             let hops = judged.hops;
             violations::decided(judged.violations, hops)
@@ -175,21 +162,16 @@ fn judge_all(r: Register, sheet: &[u32], found: Findings, p: Plan) -> PlanVerdic
     requires { Known r sheet.now found × (halt_of r p ≡ runs) }
     ensures { result ≡ held (plain_judgements r false (actions_of p)) }
 {
-    let none = Judged {
-        what: Judgement::Permitted,
-    };
-    let mut list = [none; Plan::ACTIONS];
+    let mut list = [Judgement::Permitted; Plan::ACTIONS];
     let mut flagged = false;
-    let mut i: usize = 0;
-    while i < p.count {
+    for i in 0..p.count {
         let a = p.actions[i];
         let what = judge_one(r, sheet, found, a, flagged);
-        list[i] = Judged { what };
-        flagged = flagged | (a.flags != 0);
-        i += 1;
+        list[i] = what;
+        flagged |= a.flags != 0;
     }
     PlanVerdict {
-        outcome: Outcome::Accepted,
+        outcome: Ok(()),
         position: 0,
         list,
         count: p.count,
@@ -200,21 +182,18 @@ fn judge_all(r: Register, sheet: &[u32], found: Findings, p: Plan) -> PlanVerdic
 pub fn plan(r: Register, p: Plan) -> PlanVerdict
     ensures { result ≡ plainly_planned r p }
 {
-    let actors = r.actors;
-    let o = r.resources;
-    let k = r.claims;
     let mut sheet = [0u32; columns::SHEET];
-    let found = soundness::examine(&mut sheet, r.version, actors, o, k);
+    let found = soundness::examine(&mut sheet, r.version, r.actors, r.resources, r.claims);
     if !found.sound {
         return plans::stopped(Refusal::Unsound, 0);
     }
     if Plan::ACTIONS < p.count {
         return plans::stopped(Refusal::Range, 0);
     }
-    let stop = plans::first_stop(&found.actors.names, actors.count, p);
+    let stop = plans::first_stop(&found.actors.names, r.actors.count, p);
     let outcome = stop.outcome;
     match outcome {
-        Outcome::Refused(why) => plans::stopped(why, stop.position),
-        Outcome::Accepted => judge_all(r, &sheet, found, p),
+        Err(why) => plans::stopped(why, stop.position),
+        Ok(()) => judge_all(r, &sheet, found, p),
     }
 }

@@ -1,19 +1,11 @@
 -- What is printed of a plan text that is judged, and of one that is refused. Assumes nothing.
-use Prim.Native.Nat.{ℕ, ◌-◌}
-use mathlib.Core.Path.{◌≡◌, refl, sym, ap, ◌∙◌}
-use mathlib.Core.Bool.{false}
-use mathlib.Core.List.{List, [], ◌∷◌, ◌++◌, map}
-use mathlib.Core.Logic.{inl, inr}
-use native.Mathlib.Omega.{arith}
-use lib.ListN.{length}
+use Rattle.std.proofs.Common.{Err, Ok, ℕ, ◌-◌, ◌≡◌, refl, sym, ap, ◌∙◌, false, List, [], ◌∷◌, ◌++◌, map, inl, inr, arith, length}
 use Rattle.register.specs.declared.Register.{Register}
 use Rattle.refusals.specs.Refusals.{number_of}
 use Rattle.refusals.proofs.Laws.{outcome_clash}
-use Rattle.refusals.specs.declared.Outcome.TheVariants.{Accepted, Refused as RefusedFor}
 use Rattle.refusals.specs.declared.Refusal.{Refusal}
 use Rattle.refusals.specs.declared.Refusal.TheVariants.{Absent}
 use Rattle.actions.specs.declared.Action.{Action}
-use Rattle.actions.specs.declared.Judged.{Judged}
 use Rattle.actions.specs.declared.Judgement.{Judgement}
 use Rattle.actions.specs.declared.Judgement.TheVariants.{Permitted}
 use Rattle.gate_rules.specs.Plans.{judgements, Halt, runs, halts}
@@ -27,34 +19,28 @@ use Rattle.steps.specs.Judging.{PlanTextRead, plan_text_read, held_text, halt_un
 use Rattle.steps.specs.Answers.{OfText}
 use Rattle.steps.specs.declared.PlanTextVerdict.{PlanTextVerdict}
 use Rattle.steps.proofs.Judged.{state_cases, read_ending, failed_judged, accepted_flat, judged_by, held_front}
-use Rattle.plan_verdict_text.specs.PlanPrinted.{plan_judged_line, verdicts_key, line_key, position_key, judgement_text, judged_text, verdicts_text, plan_stopped_text, place_text, plan_answer_text, plan_printed}
+use Rattle.plan_verdict_text.specs.PlanPrinted.{plan_judged_line, verdicts_key, line_key, position_key, judgement_text, verdicts_text, plan_stopped_text, place_text, plan_answer_text, plan_printed}
 use Rattle.plan_verdict_text.proofs.Joining.{answer_lines, place_position, place_line}
 use Rattle.plan_verdict_text.proofs.Composing as composing
 
 -- the verdicts as the answer holds them
-entries_texts : (vs : List Judgement) → texts judged_text (map (λ j. record { what = j }) vs) ≡ texts judgement_text vs
-unfolding texts
-entries_texts [] = refl
-entries_texts (j ∷ vs) = ap (λ (t : List ℕ). judgement_text j ++ t) (entries_texts vs)
-
 held_text_lem : (vs : List Judgement) → verdicts_text (held_text vs) ≡ decimal_line verdicts_key (length vs) ++ texts judgement_text vs
 unfolding verdicts_text
 held_text_lem vs =
-    ap (λ (es : List Judged). decimal_line verdicts_key (length vs) ++ texts judged_text es) (held_front vs (text_action_limit - length vs) (record { what = Permitted }))
-    ∙ ap (λ (t : List ℕ). decimal_line verdicts_key (length vs) ++ t) (entries_texts vs)
+    ap (λ (es : List Judgement). decimal_line verdicts_key (length vs) ++ texts judgement_text es) (held_front vs (text_action_limit - length vs) Permitted)
 
 -- a plan text that is judged is read, and has the verdicts of its actions
-halted_held : (h : Halt) (vs : List Judgement) → (text_verdict h vs).outcome ≡ Accepted → text_verdict h vs ≡ held_text vs
+halted_held : (h : Halt) (vs : List Judgement) → (text_verdict h vs).outcome ≡ Ok tt → text_verdict h vs ≡ held_text vs
 halted_held runs vs e = refl
 halted_held (halts why n) vs e = outcome_clash e
 
-flat_held : (r : Register) (actions : List Action) → (flat_judged text_action_limit r actions).outcome ≡ Accepted
+flat_held : (r : Register) (actions : List Action) → (flat_judged text_action_limit r actions).outcome ≡ Ok tt
     → flat_judged text_action_limit r actions ≡ held_text (judgements r false actions)
 flat_held r actions e =
     let by = judged_by text_action_limit r actions in
     by ∙ halted_held (halt_under text_action_limit r actions) (judgements r false actions) (sym (ap (λ (v : PlanTextVerdict). v.outcome) by) ∙ e)
 
-judged_held : (r : Register) (t : List ℕ) → (plan_text_judged r t).outcome ≡ Accepted → plan_text_judged r t ≡ held_text (judgements r false (plan_text_read t).actions)
+judged_held : (r : Register) (t : List ℕ) → (plan_text_judged r t).outcome ≡ Ok tt → plan_text_judged r t ≡ held_text (judgements r false (plan_text_read t).actions)
 judged_held r t e =
     state_cases (plan_of t).state
     (λ rest m s.
@@ -80,10 +66,10 @@ module _ (register plan : List ℕ) where
   abbrev pub answered : PlanTextVerdict
   answered = plan_text_judged (register_read register).register plan
 
-  pub register_stops_plan : (why : Refusal) → (register_read register).outcome ≡ RefusedFor why → plan_printed register plan ≡ plan_stopped_text why
+  pub register_stops_plan : (why : Refusal) → (register_read register).outcome ≡ Err why → plan_printed register plan ≡ plan_stopped_text why
   register_stops_plan = composing.refused_printed register plan
 
-  pub every_verdict_printed : (register_read register).outcome ≡ Accepted → answered.outcome ≡ Accepted
+  pub every_verdict_printed : (register_read register).outcome ≡ Ok tt → answered.outcome ≡ Ok tt
       → plan_printed register plan
       ≡ plan_judged_line ++ (decimal_line verdicts_key (length (plan_text_read plan).actions)
       ++ texts judgement_text (judgements (register_read register).register false (plan_text_read plan).actions))
@@ -93,21 +79,21 @@ module _ (register plan : List ℕ) where
       let vs = judgements r false actions in
       composing.accepted_printed register plan heard refl
       ∙ ap plan_answer_text (judged_held r plan e)
-      ∙ answer_lines (held_text vs) Accepted refl
+      ∙ answer_lines (held_text vs) (Ok tt) refl
       ∙ ap (λ (t : List ℕ). plan_judged_line ++ t) (held_text_lem vs)
       ∙ ap (λ (n : ℕ). plan_judged_line ++ (decimal_line verdicts_key n ++ texts judgement_text vs)) (judgements_length r false actions)
 
-  stopped_printed : (why : Refusal) → (register_read register).outcome ≡ Accepted → answered.outcome ≡ RefusedFor why
+  stopped_printed : (why : Refusal) → (register_read register).outcome ≡ Ok tt → answered.outcome ≡ Err why
       → plan_printed register plan ≡ plan_stopped_text why ++ place_text why answered.line answered.position
-  stopped_printed why heard e = composing.accepted_printed register plan heard refl ∙ answer_lines answered (RefusedFor why) e
+  stopped_printed why heard e = composing.accepted_printed register plan heard refl ∙ answer_lines answered (Err why) e
 
-  pub line_printed : (why : Refusal) → (register_read register).outcome ≡ Accepted → answered.outcome ≡ RefusedFor why → OfText why
+  pub line_printed : (why : Refusal) → (register_read register).outcome ≡ Ok tt → answered.outcome ≡ Err why → OfText why
       → plan_printed register plan ≡ plan_stopped_text why ++ decimal_line line_key answered.line
   line_printed why heard e of =
       stopped_printed why heard e
       ∙ ap (λ (t : List ℕ). plan_stopped_text why ++ t) (place_line why answered.line answered.position (not_absent why of) (not_unsound why of))
 
-  pub position_printed : (register_read register).outcome ≡ Accepted → answered.outcome ≡ RefusedFor Absent
+  pub position_printed : (register_read register).outcome ≡ Ok tt → answered.outcome ≡ Err Absent
       → plan_printed register plan ≡ plan_stopped_text Absent ++ decimal_line position_key answered.position
   position_printed heard e =
       stopped_printed Absent heard e

@@ -1,7 +1,5 @@
 -- What is printed of plan texts by the register of case R of 01 and by small ones: judged, and refused with 1, 3, 19, 20 and 22. Computed. Assumes nothing.
-use Prim.Native.Nat.{ℕ}
-use mathlib.Core.Path.{◌≡◌, refl}
-use mathlib.Core.List.{List, []}
+use Rattle.std.proofs.Common.{ℕ, ◌≡◌, refl, List, []}
 use Rattle.lists.specs.Lists.{dropping, same, distinct}
 use Rattle.paths.specs.Containment.{components, climbing, trimmed, starting, contained}
 use Rattle.rights.specs.Rights.{has_right, has_rights, bars_machine}

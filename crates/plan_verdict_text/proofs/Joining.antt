@@ -1,17 +1,10 @@
 -- Texts of one or two parts that are put into the buffer: a verdict, the lines of a refusal, the line that names what was refused. Assumes nothing.
-use Prim.Native.Nat.{ℕ, ◌+◌, ◌≤◌}
-use mathlib.Core.Path.{◌≡◌, refl, sym, ap, ◌∙◌}
-use mathlib.Core.Bool.{cond}
-use mathlib.Core.List.{List, [], ◌++◌}
-use native.Mathlib.Omega.{arith}
-use borrow.Author.Tests.{ne_eqb}
-use lib.Dec.{eqb}
-use lib.ListN.{length, length-append}
+use Rattle.std.proofs.Common.{Result, ℕ, ◌+◌, ◌≤◌, ◌≡◌, refl, sym, ap, ◌∙◌, cond, List, [], ◌++◌, arith, ne_eqb, eqb, length, length-append}
 use Rattle.lists.specs.Lists.{splice}
 use Rattle.lists.specs.Splices.{splice_nil}
 use Rattle.refusals.specs.Refusals.{number_of}
-use Rattle.refusals.specs.declared.Outcome.{Outcome}
 use Rattle.refusals.specs.declared.Refusal.{Refusal}
+use Rattle.refusals.specs.declared.Refusal.TheVariants.{Absent, Unsound}
 use Rattle.lines.specs.Lines.{decimal_line}
 use Rattle.buffers.specs.Buffers.{put}
 use Rattle.buffers.specs.Laws.{put_fits}
@@ -89,9 +82,9 @@ module _ (why : Refusal) (line position : ℕ) where
       other n h k = rw (ne_eqb n 3 h, ne_eqb n 1 k)
 
 -- an answer's text, by its outcome
-pub answer_lines : (v : PlanTextVerdict) (o : Outcome) → v.outcome ≡ o → plan_answer_text v ≡ plan_answer_lines o v
+pub answer_lines : (v : PlanTextVerdict) (o : Result Unit Refusal) → v.outcome ≡ o → plan_answer_text v ≡ plan_answer_lines o v
 unfolding plan_answer_text
-answer_lines v o e = ap (λ (x : Outcome). plan_answer_lines x v) e
+answer_lines v o e = ap (λ (x : Result Unit Refusal). plan_answer_lines x v) e
 
 -- a text of two parts, of which the first is written: the second fits, and is then written
 module _ (whole first second old : List ℕ) {end : ℕ} {new : List ℕ} (same : whole ≡ first ++ second) (room : length whole ≤ length old)
@@ -110,3 +103,10 @@ module _ (whole first second old : List ℕ) {end : ℕ} {new : List ℕ} (same 
   rest_written further also =
       let all = both_written whole first second 0 old same (omega (arith, room)) there (written ∙ sym begun.0) further also in
       (omega (arith, all.0), all.1)
+
+-- a refusal but those two names a line
+pub place_other : (why : Refusal) (line position : ℕ) → (why ≡ Absent → ⊥) → (why ≡ Unsound → ⊥) → place_text why line position ≡ decimal_line line_key line
+unfolding place_text
+place_other Absent line position h k = absurd (h refl)
+place_other Unsound line position h k = absurd (k refl)
+place_other why line position h k = refl

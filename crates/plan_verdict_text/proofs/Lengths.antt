@@ -1,13 +1,7 @@
 -- How long a printed text can be: an accepted plan has at most 64 verdicts and each names at most 51 violations, so none is longer than 1,944 bytes; a
 -- refusal's is shorter, with a line of 64 bits. Assumes nothing.
-use Prim.Native.Nat.{ℕ, ◌-◌, ◌≤◌, ◌<◌}
-use mathlib.Core.Path.{◌≡◌, refl, sym, ap, subst}
-use mathlib.Core.Bool.{Bool, true, false, cond, not, ◌||◌}
-use mathlib.Core.List.{List, [], ◌∷◌, map}
-use native.Mathlib.Omega.{arith}
-use borrow.Author.Tests.{leb-true}
-use lib.Dec.{eqb, leb}
-use lib.ListN.{length, length-append, length-map}
+use Rattle.std.proofs.Common.{ℕ, ◌-◌, ◌≤◌, ◌<◌, ◌≡◌, refl, sym, ap, subst, Bool, true, false, cond, not, ◌||◌, List, [], ◌∷◌, map, arith, leb-true, eqb, leb, length, length-append}
+use lib.ListN.{length-map}
 use Rattle.lists.specs.Each.{all_map}
 use Rattle.lists.specs.Lists.{All}
 use Rattle.register.specs.declared.Register.{Register}
@@ -19,7 +13,6 @@ use Rattle.refusals.specs.declared.Refusal.TheVariants.{Unsound, Range}
 use Rattle.actions.specs.Actions.{violation_limit}
 use Rattle.actions.specs.declared.Action.{Action}
 use Rattle.actions.specs.declared.Violation.{Violation}
-use Rattle.actions.specs.declared.Judged.{Judged}
 use Rattle.actions.specs.declared.Judgement.{Judgement}
 use Rattle.actions.specs.declared.Judgement.TheVariants.{Permitted, Cancelled}
 use Rattle.gate_rules.specs.Gate.{violations_of}
@@ -39,7 +32,7 @@ use Rattle.steps.specs.Judging.{held_text, stopped_plan, verdicts_in, halt_under
 use Rattle.steps.specs.declared.PlanTextVerdict.{PlanTextVerdict}
 use Rattle.steps.proofs.Judged.{held_front}
 use Rattle.verdict_printing.specs.Printed.{refused_line, violations_key, refusal_key}
-use Rattle.plan_verdict_text.specs.PlanPrinted.{plan_judged_line, plan_stopped_line, verdicts_key, line_key, position_key, judgement_text, judged_text, verdicts_text, plan_stopped_text, place_text, plan_answer_text}
+use Rattle.plan_verdict_text.specs.PlanPrinted.{plan_judged_line, plan_stopped_line, verdicts_key, line_key, position_key, judgement_text, verdicts_text, plan_stopped_text, place_text, plan_answer_text}
 use Rattle.plan_verdict_text.specs.Bounds.{plan_printed_limit}
 
 -- a number of 64 bits is below it
@@ -75,17 +68,14 @@ judgements_short r cancelled (a ∷ actions) h =
 verdicts_length : (vs : List Judgement) → length vs ≤ text_action_limit → All Short vs → length (verdicts_text (held_text vs)) ≤ 1932
 unfolding verdicts_text
 verdicts_length vs few short =
-    let entry : (Judgement → Judged) = λ j. record { what = j } in
-    let entries : List Judged = map entry vs in
-    let front : verdicts_in (held_text vs) ≡ entries = held_front vs (text_action_limit - length vs) (record { what = Permitted }) in
-    let room : length entries ≤ text_action_limit = omega (arith, few, length-map vs entry) in
+    let front : verdicts_in (held_text vs) ≡ vs = held_front vs (text_action_limit - length vs) Permitted in
     omega (
       arith,
-      length-append (decimal_line verdicts_key (length vs)) (texts judged_text (verdicts_in (held_text vs))),
-      ap (λ (es : List Judged). length (texts judged_text es)) front,
+      length-append (decimal_line verdicts_key (length vs)) (texts judgement_text (verdicts_in (held_text vs))),
+      ap (λ (es : List Judgement). length (texts judgement_text es)) front,
       decimal_line_length verdicts_key (length vs),
       length_under 1 (length vs) (omega arith),
-      texts_length judged_text 30 text_action_limit entries room (all_map entry (λ e. length (judged_text e) ≤ 30) vs short),
+      texts_length judgement_text 30 text_action_limit vs few short,
     )
 
 pub stopped_length : (why : Refusal) → length (plan_stopped_text why) ≤ 24

@@ -1,12 +1,9 @@
 -- Believed: The lines that the program for plan texts prints, of the register's text and the plan's.
-use Rattle.std.specs.Prelude.{ℕ, cond, List, [], ◌++◌, eqb}
+use Rattle.std.specs.Prelude.{ℕ, cond, List, [], ◌++◌, eqb, Result, Err, Ok}
 use Rattle.lists.specs.Bytes.{bytes}
 use Rattle.refusals.specs.Refusals.{number_of}
-use Rattle.refusals.specs.declared.Outcome.{Outcome}
-use Rattle.refusals.specs.declared.Outcome.TheVariants.{Accepted, Refused as RefusedFor}
 use Rattle.refusals.specs.declared.Refusal.{Refusal}
 use Rattle.refusals.specs.declared.Refusal.TheVariants.{Unsound, Absent}
-use Rattle.actions.specs.declared.Judged.{Judged}
 use Rattle.actions.specs.declared.Judgement.{Judgement}
 use Rattle.actions.specs.declared.Judgement.TheVariants.{Permitted, Refused, Cancelled}
 use Rattle.lines.specs.Lines.{decimal_line}
@@ -41,12 +38,9 @@ judgement_text Permitted = permitted_line
 judgement_text (Refused violations) = refused_line ++ decimal_line violations_key violations
 judgement_text Cancelled = cancelled_line
 
-abbrev pub judged_text : Judged → List ℕ
-judged_text j = judgement_text j.what
-
 -- the number of verdicts, and each of them in reading order
 unfoldable pub verdicts_text : PlanTextVerdict → List ℕ
-verdicts_text v = decimal_line verdicts_key v.count ++ texts judged_text (verdicts_in v)
+verdicts_text v = decimal_line verdicts_key v.count ++ texts judgement_text (verdicts_in v)
 
 -- a refusal prints `plan=stopped` and `refusal=` with its number
 unfoldable pub plan_stopped_text : Refusal → List ℕ
@@ -58,9 +52,9 @@ place_text why line position =
     cond (eqb (number_of why) (number_of Absent)) (decimal_line position_key position)
     (cond (eqb (number_of why) (number_of Unsound)) [] (decimal_line line_key line))
 
-abbrev pub plan_answer_lines : Outcome → PlanTextVerdict → List ℕ
-plan_answer_lines Accepted v = plan_judged_line ++ verdicts_text v
-plan_answer_lines (RefusedFor why) v = plan_stopped_text why ++ place_text why v.line v.position
+abbrev pub plan_answer_lines : Result Unit Refusal → PlanTextVerdict → List ℕ
+plan_answer_lines (Ok _) v = plan_judged_line ++ verdicts_text v
+plan_answer_lines (Err why) v = plan_stopped_text why ++ place_text why v.line v.position
 
 unfoldable pub plan_answer_text : PlanTextVerdict → List ℕ
 plan_answer_text v = plan_answer_lines v.outcome v

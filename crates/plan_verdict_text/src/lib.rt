@@ -12,16 +12,11 @@ ghost use Rattle.plan_verdict_text.specs.Bounds.{plan_printed_limit};
 
 use actions::Judgement;
 use buffers::Written;
-use refusals::{Outcome, Refusal};
+use refusals::Refusal;
 use steps::PlanTextVerdict;
 
 // No text of an answer is longer.
 pub const PLAN_PRINTED: usize = 1944;
-
-// The refusals that name no line: 1 names nothing, 3 the action's position.
-const UNSOUND: u32 = 1;
-
-const ABSENT: u32 = 3;
 
 // Puts the verdict on an action into the buffer at `at`, and answers the position behind it.
 fn put_judgement(buf: &mut [u8], at: usize, j: Judgement) -> usize
@@ -45,14 +40,9 @@ fn put_verdicts(buf: &mut [u8], at: usize, v: PlanTextVerdict) -> usize
     ensures behind { result ≡ at + length (verdicts_text v) }
     ensures written { buf.new ≡ splice at (verdicts_text v) buf.old }
 {
-    let count = v.count;
-    let mut end = buffers::put_line(buf, at, b"verdicts=", count as u64);
-    let mut i: usize = 0;
-    while i < count {
-        let entry = v.list[i];
-        let j = entry.what;
-        end = put_judgement(buf, end, j);
-        i += 1;
+    let mut end = buffers::put_line(buf, at, b"verdicts=", v.count as u64);
+    for entry in &v.list[..v.count] {
+        end = put_judgement(buf, end, *entry);
     }
     end
 }
@@ -74,14 +64,11 @@ fn put_place(buf: &mut [u8], at: usize, why: Refusal, line: usize, position: usi
     ensures behind { result ≡ at + length (place_text why line position) }
     ensures written { buf.new ≡ splice at (place_text why line position) buf.old }
 {
-    let number = refusals::number(why);
-    if number == ABSENT {
-        return buffers::put_line(buf, at, b"position=", position as u64);
+    match why {
+        Refusal::Absent => buffers::put_line(buf, at, b"position=", position as u64),
+        Refusal::Unsound => at,
+        _ => buffers::put_line(buf, at, b"line=", line as u64),
     }
-    if number == UNSOUND {
-        return at;
-    }
-    buffers::put_line(buf, at, b"line=", line as u64)
 }
 
 // Puts the lines of an answer into the buffer, and answers the position behind them.
@@ -90,17 +77,14 @@ fn put_answer(buf: &mut [u8], v: PlanTextVerdict) -> usize
     ensures behind { result ≡ length (plan_answer_text v) }
     ensures written { buf.new ≡ splice 0 (plan_answer_text v) buf.old }
 {
-    let outcome = v.outcome;
-    match outcome {
-        Outcome::Accepted => {
+    match v.outcome {
+        Ok(()) => {
             let verdicts_at = buffers::put_bytes(buf, 0, b"plan=judged\n");
             put_verdicts(buf, verdicts_at, v)
         }
-        Outcome::Refused(why) => {
-            let line = v.line;
-            let position = v.position;
+        Err(why) => {
             let place_at = put_stopped(buf, why);
-            put_place(buf, place_at, why, line, position)
+            put_place(buf, place_at, why, v.line, v.position)
         }
     }
 }
@@ -113,10 +97,8 @@ fn compose(buf: &mut [u8], register: &[u8], plan: &[u8]) -> usize
     ensures within { result ≤ plan_printed_limit }
 {
     let form = register_reading::read_form(register);
-    let cursor = form.cursor;
-    if !lines::goes_on(register, cursor) {
-        let why = cursor.refusal;
-        return put_stopped(buf, why);
+    if !lines::goes_on(register, form.cursor) {
+        return put_stopped(buf, form.cursor.refusal);
     }
     if !soundness::is_sound(form.register) {
         return put_stopped(buf, Refusal::Unsound);
@@ -131,6 +113,5 @@ pub fn plan_verdict_text(buf: &mut [u8], register: &[u8], plan: &[u8]) -> Writte
 {
     let mut sheet = [0u8; PLAN_PRINTED];
     let length = compose(&mut sheet, register, plan);
-    let text: &[u8] = &sheet;
-    buffers::deliver(buf, &text[..length])
+    buffers::deliver(buf, &sheet[..length])
 }

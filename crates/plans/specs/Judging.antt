@@ -1,12 +1,10 @@
 -- Laws: The verdicts on the actions of a plan by what is lent, and the whole answer. Assumes nothing.
-use Rattle.std.specs.Prelude.{◌≡◌, Bool, false, not, ◌||◌, cond, List, ◌∷◌, ℕ, ◌+◌, ◌≤◌, ◌<◌, eqb, length, drop, get_or, set}
+use Rattle.std.specs.Prelude.{◌≡◌, Bool, false, not, ◌||◌, cond, List, ◌∷◌, ℕ, ◌+◌, ◌≤◌, ◌<◌, eqb, length, drop, get_or, set, Ok}
 use Rattle.std.proofs.Common.{sym, ap, ◌∙◌}
 use Rattle.register.specs.Limits.{claim_limit}
 use Rattle.register.specs.Register.{Shaped}
 use Rattle.register.specs.declared.Register.{Register}
-use Rattle.refusals.specs.declared.Outcome.TheVariants.{Accepted}
 use Rattle.actions.specs.declared.Action.{Action}
-use Rattle.actions.specs.declared.Judged.{Judged}
 use Rattle.actions.specs.declared.Judgement.{Judgement}
 use Rattle.actions.specs.declared.Judgement.TheVariants.{Cancelled}
 use Rattle.actions.specs.declared.Plan.{Plan}
@@ -17,13 +15,13 @@ use Rattle.gate_rules.proofs.Sameness.{planned_same}
 use Rattle.gate.specs.Judged.{Lent, lent_in, lent_judged}
 use Rattle.gate.specs.Sheets.{sheeted, sheeted_same}
 use Rattle.plans.specs.Judgements.{judged_as, judgements_by}
-use Rattle.plans.specs.Holding.{wrapped, Holding, holding_next, holding_done}
+use Rattle.plans.specs.Holding.{Holding, holding_next, holding_done}
 use Rattle.plans.specs.Laws.{judgements_by_nil, judgements_by_cons, judgements_natural}
 
 -- a loop over the actions that holds the verdict on each by what is lent
-module _ (l : Lent) {p : Plan} {top : ℕ} {list : List Judged} {cancelled : Bool} {i : ℕ} (s : Holding (judgements_by l) p top list cancelled i) where
+module _ (l : Lent) {p : Plan} {top : ℕ} {list : List Judgement} {cancelled : Bool} {i : ℕ} (s : Holding (judgements_by l) p top list cancelled i) where
   pub judging_next : (d : Action) → i < top → {v : Judgement} → v ≡ cond cancelled Cancelled (judged_as (lent_judged l (get_or p.actions i d)).violations.count)
-      → Holding (judgements_by l) p top (set list i (wrapped v)) (cancelled || not (eqb (get_or p.actions i d).flags 0)) (i + 1)
+      → Holding (judgements_by l) p top (set list i v) (cancelled || not (eqb (get_or p.actions i d).flags 0)) (i + 1)
   judging_next d h e =
       let a = get_or p.actions i d in
       let rest = drop (i + 1) (actions_of p) in
@@ -31,7 +29,7 @@ module _ (l : Lent) {p : Plan} {top : ℕ} {list : List Judged} {cancelled : Boo
 
   -- after the loop the verdicts are held
   pub judging_done : top ≤ i
-      → ◌≡◌ {A = PlanVerdict} (record { outcome = Accepted; position = 0; list = list; count = top }) (held (judgements_by l false (actions_of p)))
+      → ◌≡◌ {A = PlanVerdict} (record { outcome = Ok tt; position = 0; list = list; count = top }) (held (judgements_by l false (actions_of p)))
   judging_done h = holding_done s h (judgements_by_nil l cancelled)
 
 -- the verdicts by what is lent of a register are those of the plan

@@ -1,5 +1,5 @@
 -- Laws: What stops a plan, and the verdicts on its actions, by what is lent of a register: those of the register. Assumes nothing.
-use Rattle.std.specs.Prelude.{◌≡◌, Bool, true, not, ◌||◌, cond, List, [], ◌∷◌, ℕ, zero, suc, eqb, length}
+use Rattle.std.specs.Prelude.{◌≡◌, Bool, true, not, ◌||◌, cond, List, [], ◌∷◌, ℕ, suc, eqb, length, Err, Ok}
 use Rattle.std.proofs.Math.Path.{refl}
 use Rattle.std.proofs.Common.{sym, ap, ◌∙◌}
 use Rattle.lists.specs.Lists.{All}
@@ -7,11 +7,10 @@ use Rattle.register.specs.Register.{Shaped}
 use Rattle.register.specs.declared.Register.{Register}
 use Rattle.soundness_rules.specs.Sound.{sound}
 use Rattle.refusals.specs.Refusals.{outcome_of}
-use Rattle.refusals.specs.declared.Outcome.TheVariants.{Accepted, Refused}
 use Rattle.refusals.specs.declared.Refusal.{Refusal}
 use Rattle.actions.specs.declared.Action.{Action}
 use Rattle.actions.specs.declared.Violation.{Violation}
-use Rattle.actions.specs.declared.Judgement.TheVariants.{Permitted as Agreed, Refused as Denied, Cancelled}
+use Rattle.actions.specs.declared.Judgement.TheVariants.{Cancelled}
 use Rattle.gate_rules.specs.Gate.{violations_of}
 use Rattle.gate_rules.specs.Fitting.{Fit}
 use Rattle.gate_rules.specs.Plans.{judged, judgements, runs, halts, first_halt}
@@ -28,12 +27,12 @@ module _ (names : List ℕ) (n i : ℕ) where
   unfolding halt_by
   halt_by_nil = refl
 
-  pub halt_by_pass : (a : Action) (actions : List Action) → outcome_of (lent_tests names n a) ≡ Accepted
+  pub halt_by_pass : (a : Action) (actions : List Action) → outcome_of (lent_tests names n a) ≡ Ok tt
       → halt_by names n i (a ∷ actions) ≡ halt_by names n (suc i) actions
   unfolding halt_by
   halt_by_pass a actions e = rw e
 
-  pub halt_by_fail : (a : Action) (actions : List Action) (why : Refusal) → outcome_of (lent_tests names n a) ≡ Refused why
+  pub halt_by_fail : (a : Action) (actions : List Action) (why : Refusal) → outcome_of (lent_tests names n a) ≡ Err why
       → halt_by names n i (a ∷ actions) ≡ halts why i
   unfolding halt_by
   halt_by_fail a actions why e = rw e
@@ -54,14 +53,6 @@ module _ (l : Lent) (cancelled : Bool) where
       ≡ cond cancelled Cancelled (judged_as (lent_judged l a).violations.count) ∷ judgements_by l (cancelled || not (eqb a.flags 0)) actions
   unfolding judgements_by
   judgements_by_cons a actions = refl
-
--- the verdict by the number of violations
-pub agreed_counted : (n : ℕ) → n ≡ 0 → Agreed ≡ judged_as n
-agreed_counted n e = rw e
-
-pub denied_counted : (n : ℕ) → (n ≡ 0 → ⊥) → Denied n ≡ judged_as n
-denied_counted zero some = absurd (some refl)
-denied_counted (suc n) some = refl
 
 -- permitted means an empty list
 pub judged_counted : (vs : List Violation) → judged_as (length vs) ≡ judged vs

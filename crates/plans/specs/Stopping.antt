@@ -1,12 +1,10 @@
 -- Laws: What stops a plan: a loop over its actions, and the answer by it and by the tests before it. Assumes nothing.
-use Rattle.std.specs.Prelude.{◌≡◌, refl, true, false, List, ℕ, ◌+◌, ◌≤◌, ◌<◌, min, length, drop, get_or}
+use Rattle.std.specs.Prelude.{◌≡◌, true, false, List, ℕ, ◌+◌, ◌≤◌, ◌<◌, drop, get_or, Result, Err, Ok}
 use Rattle.std.proofs.Common.{sym, ap, ◌∙◌, add-one}
-use Rattle.lists.specs.Loops.{Loop, start, turn, next, done}
+use Rattle.lists.specs.Loops.{Loop, turn, next, done}
 use Rattle.register.specs.declared.Register.{Register}
 use Rattle.soundness_rules.specs.Sound.{sound}
 use Rattle.refusals.specs.Refusals.{outcome_of}
-use Rattle.refusals.specs.declared.Outcome.{Outcome}
-use Rattle.refusals.specs.declared.Outcome.TheVariants.{Accepted, Refused}
 use Rattle.refusals.specs.declared.Refusal.{Refusal}
 use Rattle.refusals.specs.declared.Refusal.TheVariants.{Unsound, Range}
 use Rattle.actions.specs.Actions.{action_limit}
@@ -26,18 +24,15 @@ pub record Stopping (names : List ℕ) (n : ℕ) (p : Plan) (top i : ℕ) : Type
   pub come : Loop (halt_by names n) p.count p.actions top i (halt_by names n 0 (actions_of p))
 
 module _ {names : List ℕ} {n : ℕ} {p : Plan} {top : ℕ} where
-  pub stopping_start : length p.actions ≡ action_limit → top ≡ min p.count action_limit → Stopping names n p top 0
-  stopping_start long h = record { come = start (rw long h) refl }
-
   module _ {i : ℕ} (s : Stopping names n p top i) where
-    module _ (d : Action) (h : i < top) {outcome : Outcome} (asked : outcome ≡ outcome_of (lent_tests names n (get_or p.actions i d))) where
+    module _ (d : Action) (h : i < top) {outcome : Result Unit Refusal} (asked : outcome ≡ outcome_of (lent_tests names n (get_or p.actions i d))) where
       -- the action there stops the plan
-      pub stopping_here : {why : Refusal} → outcome ≡ Refused why
-          → ◌≡◌ {A = Stop} (record { outcome = Refused why; position = i }) (stop_of (halt_by names n 0 (actions_of p)))
+      pub stopping_here : {why : Refusal} → outcome ≡ Err why
+          → ◌≡◌ {A = Stop} (record { outcome = Err why; position = i }) (stop_of (halt_by names n 0 (actions_of p)))
       stopping_here {why = why} e =
           sym (ap stop_of (turn s.come d h ∙ halt_by_fail names n i (get_or p.actions i d) (drop (i + 1) (actions_of p)) why (sym asked ∙ e)))
 
-      pub stopping_next : outcome ≡ Accepted → Stopping names n p top (i + 1)
+      pub stopping_next : outcome ≡ Ok tt → Stopping names n p top (i + 1)
       stopping_next e =
           record {
             come = next s.come h
@@ -45,7 +40,7 @@ module _ {names : List ℕ} {n : ℕ} {p : Plan} {top : ℕ} where
           }
 
     -- after the loop none stops it
-    pub stopping_done : top ≤ i → ◌≡◌ {A = Stop} (record { outcome = Accepted; position = 0 }) (stop_of (halt_by names n 0 (actions_of p)))
+    pub stopping_done : top ≤ i → ◌≡◌ {A = Stop} (record { outcome = Ok tt; position = 0 }) (stop_of (halt_by names n 0 (actions_of p)))
     stopping_done h = sym (ap stop_of (done s.come h ∙ halt_by_nil names n i))
 
 -- a plan that test 1 or the count stops
@@ -64,6 +59,6 @@ stop_found r p h few same found =
     ∙ ap stop_of (halt_natural r 0 (actions_of p) ∙ sym (halt_actions (sheeted r) p h few))
 
 -- so it is answered
-pub found_halts : (r : Register) (p : Plan) {stop : Stop} → stop ≡ stop_of (halt_of r p) → (why : Refusal) → stop.outcome ≡ Refused why
+pub found_halts : (r : Register) (p : Plan) {stop : Stop} → stop ≡ stop_of (halt_of r p) → (why : Refusal) → stop.outcome ≡ Err why
     → stopped why stop.position ≡ planned r p
 found_halts r p {stop = stop} found why e = sym (planned_stopped r p why stop.position (told_halts (halt_of r p) found why e))

@@ -1,11 +1,10 @@
 -- Laws: What stops a plan: test 1, then 2 on the count, then its actions; and what the code holds tells it. Assumes nothing.
-use Rattle.std.specs.Prelude.{◌≡◌, refl, true, false, ℕ, ◌≤◌, ◌<◌}
-use Rattle.std.proofs.Common.{sym, ap, ◌∙◌}
-use borrow.Author.Tests.{le-leb, lt-leb}
+use Rattle.std.specs.Prelude.{◌≡◌, refl, true, false, ◌≤◌, ◌<◌, Err, Ok}
+use Rattle.std.proofs.Common.{sym, ap, ◌∙◌, le-leb}
+use borrow.Author.Tests.{lt-leb}
 use Rattle.register.specs.declared.Register.{Register}
 use Rattle.soundness_rules.specs.Sound.{sound}
 use Rattle.refusals.proofs.Laws.{outcome_clash}
-use Rattle.refusals.specs.declared.Outcome.TheVariants.{Accepted, Refused}
 use Rattle.refusals.specs.declared.Refusal.{Refusal}
 use Rattle.refusals.specs.declared.Refusal.TheVariants.{Unsound, Range}
 use Rattle.actions.specs.Actions.{action_limit}
@@ -30,18 +29,18 @@ module _ (r : Register) (p : Plan) where
     halt_actions few = rw (h, le-leb p.count action_limit few)
 
 -- what the code holds tells what stops a plan
-stop_runs : (h : Halt) → (stop_of h).outcome ≡ Accepted → h ≡ runs
+stop_runs : (h : Halt) → (stop_of h).outcome ≡ Ok tt → h ≡ runs
 stop_runs runs e = refl
 stop_runs (halts why n) e = outcome_clash e
 
-stop_halts : (h : Halt) (why : Refusal) → (stop_of h).outcome ≡ Refused why → h ≡ halts why (stop_of h).position
+stop_halts : (h : Halt) (why : Refusal) → (stop_of h).outcome ≡ Err why → h ≡ halts why (stop_of h).position
 stop_halts runs why e = outcome_clash (sym e)
 stop_halts (halts other n) why e = cc
 
 module _ (h : Halt) {stop : Stop} (found : stop ≡ stop_of h) where
-  pub told_runs : stop.outcome ≡ Accepted → h ≡ runs
+  pub told_runs : stop.outcome ≡ Ok tt → h ≡ runs
   told_runs e = stop_runs h (sym (ap (λ s. s.outcome) found) ∙ e)
 
-  pub told_halts : (why : Refusal) → stop.outcome ≡ Refused why → h ≡ halts why stop.position
+  pub told_halts : (why : Refusal) → stop.outcome ≡ Err why → h ≡ halts why stop.position
   told_halts why e =
       stop_halts h why (sym (ap (λ s. s.outcome) found) ∙ e) ∙ ap (λ s. halts why s.position) (sym found)

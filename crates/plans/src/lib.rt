@@ -10,20 +10,19 @@
 ghost use Rattle.std.specs.Prelude.{◌≡◌, false, cond, ◌≤◌};
 ghost use Rattle.actions.specs.Actions.{violation_limit};
 ghost use Rattle.gate_rules.specs.Plans.{actions_of, held, stopped, planned};
-ghost use Rattle.gate.specs.Judged.{lent_of, lent_judged};
+ghost use Rattle.gate.specs.Judged.{lent_from, lent_judged};
 ghost use Rattle.plans.specs.Stops.{stop_of, halt_by};
 ghost use Rattle.plans.specs.Judgements.{judged_as, judgements_by};
 
-use actions::{Action, Judged, Judgement, Plan, PlanVerdict};
-use gate::Counts;
-use refusals::{Outcome, Refusal};
+use actions::{Action, Judgement, Plan, PlanVerdict};
+use gate::{Counts, LentRegister};
+use refusals::Refusal;
 use register::Register;
-use soundness::Findings;
 
 // What stops a plan, and at which position; accepted, with position 0, where nothing does.
 #[derive(Clone, Copy)]
 pub struct Stop {
-    pub outcome: Outcome,
+    pub outcome: Result<(), Refusal>,
     pub position: usize,
 }
 
@@ -31,25 +30,14 @@ pub struct Stop {
 pub fn first_stop(names: &[u32], n: usize, p: Plan) -> Stop
     ensures { result ≡ stop_of (halt_by names.now n 0 (actions_of p)) }
 {
-    let top = lists::least(p.count, Plan::ACTIONS);
-    let mut i: usize = 0;
-    while i < top {
-        let a = p.actions[i];
-        let outcome = gate::action_outcome(names, n, a);
-        match outcome {
-            Outcome::Refused(why) => {
-                return Stop {
-                    outcome: Outcome::Refused(why),
-                    position: i,
-                };
-            }
-            Outcome::Accepted => {
-                i += 1;
-            }
+    for position in 0..p.count.min(Plan::ACTIONS) {
+        let outcome = gate::action_outcome(names, n, p.actions[position]);
+        if let Err(_) = outcome {
+            return Stop { outcome, position };
         }
     }
     Stop {
-        outcome: Outcome::Accepted,
+        outcome: Ok(()),
         position: 0,
     }
 }
@@ -58,12 +46,9 @@ pub fn first_stop(names: &[u32], n: usize, p: Plan) -> Stop
 pub fn stopped(why: Refusal, position: usize) -> PlanVerdict
     ensures { result ≡ stopped why position }
 {
-    let none = Judged {
-        what: Judgement::Permitted,
-    };
-    let list = [none; Plan::ACTIONS];
+    let list = [Judgement::Permitted; Plan::ACTIONS];
     PlanVerdict {
-        outcome: Outcome::Refused(why),
+        outcome: Err(why),
         position,
         list,
         count: 0,
@@ -82,65 +67,40 @@ fn verdict_by(count: usize) -> Judgement
 }
 
 // The verdict on an action, by what is lent.
-pub fn judge<'a>(
-    counts: Counts,
-    found: Findings,
-    lens: &'a [usize],
-    ends: &'a [u64],
-    sheet: &'a [u32],
-    bytes: &'a [u8],
-    a: Action,
-    cancelled: bool,
-) -> Judgement
-    ensures { result ≡ cond cancelled Judgement.Cancelled (judged_as (lent_judged (lent_of counts found lens.now ends.now sheet.now bytes.now) a).violations.count) }
+pub fn judge(lent: LentRegister<'_>, a: Action, cancelled: bool) -> Judgement
+    ensures { result ≡ cond cancelled Judgement.Cancelled (judged_as (lent_judged (lent_from lent.entry) a).violations.count) }
 {
     if cancelled {
         return Judgement::Cancelled;
     }
-    let judged = gate::judge_by(counts, found, lens, ends, sheet, bytes, a);
+    let judged = lent.judge(a);
     verdict_by(judged.violations.count)
 }
 
 // The verdicts on the actions of a plan, by what is lent.
-pub fn judge_all<'a>(
-    counts: Counts,
-    found: Findings,
-    lens: &'a [usize],
-    ends: &'a [u64],
-    sheet: &'a [u32],
-    bytes: &'a [u8],
-    p: Plan,
-) -> PlanVerdict
-    ensures { result ≡ held (judgements_by (lent_of counts found lens.now ends.now sheet.now bytes.now) false (actions_of p)) }
+pub fn judge_all(lent: LentRegister<'_>, p: Plan) -> PlanVerdict
+    ensures { result ≡ held (judgements_by (lent_from lent.entry) false (actions_of p)) }
 {
-    let top = lists::least(p.count, Plan::ACTIONS);
-    let none = Judged {
-        what: Judgement::Permitted,
-    };
-    let mut list = [none; Plan::ACTIONS];
+    let count = p.count.min(Plan::ACTIONS);
+    let mut list = [Judgement::Permitted; Plan::ACTIONS];
     let mut flagged = false;
-    let mut i: usize = 0;
-    while i < top {
+    for i in 0..count {
         let a = p.actions[i];
         let cancelled = flagged;
-        flagged = flagged | (a.flags != 0);
-        if cancelled {
-            list[i] = Judged {
-                what: Judgement::Cancelled,
-            };
-            i += 1;
+        flagged |= a.flags != 0;
+        let what = if cancelled {
+            Judgement::Cancelled
         } else {
-            let judged = gate::judge_by(counts, found, lens, ends, sheet, bytes, a);
-            let what = verdict_by(judged.violations.count);
-            list[i] = Judged { what };
-            i += 1;
-        }
+            let judged = lent.judge(a);
+            verdict_by(judged.violations.count)
+        };
+        list[i] = what;
     }
     PlanVerdict {
-        outcome: Outcome::Accepted,
+        outcome: Ok(()),
         position: 0,
         list,
-        count: top,
+        count,
     }
 }
 
@@ -170,7 +130,17 @@ pub fn plan(r: Register, p: Plan) -> PlanVerdict
     let stop = first_stop(&found.actors.names, counts.actors, p);
     let outcome = stop.outcome;
     match outcome {
-        Outcome::Refused(why) => stopped(why, stop.position),
-        Outcome::Accepted => judge_all(counts, found, &lens, &ends, &sheet, &bytes, p),
+        Err(why) => stopped(why, stop.position),
+        Ok(()) => {
+            let lent = LentRegister {
+                counts,
+                found: &found,
+                lens: &lens,
+                ends: &ends,
+                sheet: &sheet,
+                bytes: &bytes,
+            };
+            judge_all(lent, p)
+        }
     }
 }

@@ -1,12 +1,7 @@
 -- A table taken apart record by record into a sheet of zeros: what the walk over it knows, and what the judgement of the sheet says of it. Assumes
 -- nothing.
-use mathlib.Core.Path.{◌≡◌, sym, ap, ◌∙◌}
-use mathlib.Core.Bool.{false}
-use mathlib.Core.List.{List}
-use Prim.Native.Nat.{ℕ, ◌+◌, ◌≤◌, ◌<◌}
-use native.Mathlib.Omega.{arith}
-use lib.ListN.{length, take, get_or, replicate, length-replicate}
-use lib.Seq.{take_all}
+use Rattle.std.proofs.Common.{◌≡◌, sym, ap, ◌∙◌, false, List, ℕ, ◌+◌, ◌≤◌, ◌<◌, arith, length, take, get_or, replicate, take_all}
+use lib.ListN.{length-replicate}
 use Rattle.register.specs.Limits.{claim_limit}
 use Rattle.register.specs.Register.{no_claim}
 use Rattle.register.specs.declared.Actors.{Actors}

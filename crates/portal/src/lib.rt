@@ -30,7 +30,7 @@ ghost use Rattle.reasons.specs.Uses.{use_told_of, why_use};
 ghost use Rattle.answers.specs.Answers.{containment, soundness, grant_answer, revoke_answer, proposal_answer, check_answer, gate_answer, plan_answer, plan_text_answer, register_answer, action_answer, written_answer, json_answer, attach_answer, fetch_answer, holders_answer, table_answer, use_reason_answer, version_numbers};
 ghost use Rattle.words.specs.Words.{refusal_text, violation_text, right_name, flag_name};
 
-use actions::{Action, Plan, Usage};
+use actions::{Action, Plan, PlanVerdict, Usage, Verdict};
 use answers::{
     ActionAnswer, AttachAnswer, CheckAnswer, Containment, FetchAnswer, Fingerprint, GateAnswer,
     GrantAnswer, HoldersAnswer, JsonAnswer, PlanAnswer, PlanTextAnswer, ProposalAnswer,
@@ -84,12 +84,10 @@ pub extern "C" fn guvrendik_sound_table(
         return Soundness { sound: 0 };
     }
     let mut sheet = [0u32; columns::SHEET];
-    let mut i: usize = 0;
-    while i < claims.len() {
-        columns::take_apart(&mut sheet, i, claims[i]);
-        i += 1;
+    for (i, c) in claims.iter().enumerate() {
+        columns::take_apart(&mut sheet, i, *c);
     }
-    sheet_answer(version, actors, resources, &sheet, i)
+    sheet_answer(version, actors, resources, &sheet, claims.len())
 }
 
 // Grants a claim at the moment.
@@ -98,9 +96,7 @@ pub extern "C" fn guvrendik_grant(r: Register, c: Claim, moment: u64) -> GrantAn
     ensures { result ≡ grant_answer (granted r c moment) }
 {
     let settled = granting::grant_outcome(r, c, moment);
-    let stored = settled.claim;
-    let outcome = settled.outcome;
-    answers::granted(r, stored, outcome)
+    answers::granted(r, settled.claim, settled.outcome)
 }
 
 // Revokes a claim with all that is drawn from it.
@@ -108,8 +104,7 @@ pub extern "C" fn guvrendik_grant(r: Register, c: Claim, moment: u64) -> GrantAn
 pub extern "C" fn guvrendik_revoke(r: Register, revoker: u32, claim: u32) -> RevokeAnswer
     ensures { result ≡ revoke_answer (withdrawn r (revoke revoker claim)) }
 {
-    let struck = withdrawing::revoke(r, revoker, claim);
-    answers::withdrawn(r, struck)
+    answers::withdrawn(r, withdrawing::revoke(r, revoker, claim))
 }
 
 // Clears a resource on behalf of its keeper: every claim on it goes.
@@ -117,8 +112,7 @@ pub extern "C" fn guvrendik_revoke(r: Register, revoker: u32, claim: u32) -> Rev
 pub extern "C" fn guvrendik_clear_resource(r: Register, caller: u32, resource: u32) -> RevokeAnswer
     ensures { result ≡ revoke_answer (withdrawn r (clear_resource caller resource)) }
 {
-    let struck = withdrawing::clear_resource(r, caller, resource);
-    answers::withdrawn(r, struck)
+    answers::withdrawn(r, withdrawing::clear_resource(r, caller, resource))
 }
 
 // Clears old claims on behalf of a human: every claim that has expired at the moment goes, with all that is drawn from it.
@@ -126,8 +120,7 @@ pub extern "C" fn guvrendik_clear_resource(r: Register, caller: u32, resource: u
 pub extern "C" fn guvrendik_clear_expired(r: Register, caller: u32, moment: u64) -> RevokeAnswer
     ensures { result ≡ revoke_answer (withdrawn r (clear_expired caller moment)) }
 {
-    let struck = withdrawing::clear_expired(r, caller, moment);
-    answers::withdrawn(r, struck)
+    answers::withdrawn(r, withdrawing::clear_expired(r, caller, moment))
 }
 
 // Whose signature is missing: no grant, or one grant by one of the signers, that has the one use permitted.
@@ -159,22 +152,38 @@ pub extern "C" fn guvrendik_check_proposal(
     answers::checked(checking::check(r, actor, usage, moment, signers, proposal))
 }
 
+// What the gate answers, as numbers.
+fn gate_numbers(verdict: &Verdict) -> GateAnswer
+    ensures { result ≡ gate_answer verdict.now }
+{
+    GateAnswer {
+        decision: answers::decision(verdict.decision),
+        refusal: answers::stop(verdict.decision),
+        violations: answers::violations(verdict.violations),
+        count: verdict.violations.count,
+        hops: verdict.hops,
+    }
+}
+
+// What the gate answers for a plan, as numbers.
+fn plan_numbers(verdict: &PlanVerdict) -> PlanAnswer
+    ensures { result ≡ plan_answer verdict.now }
+{
+    PlanAnswer {
+        accepted: answers::accepted(verdict.outcome),
+        refusal: answers::refusal(verdict.outcome),
+        position: verdict.position,
+        list: answers::judgements(*verdict),
+        count: verdict.count,
+    }
+}
+
 // The gate for an action.
 #[unsafe(no_mangle)]
 pub extern "C" fn guvrendik_gate(r: Register, a: Action) -> GateAnswer
     ensures { result ≡ gate_answer (gated r a) }
 {
-    let verdict = gate::gate(r, a);
-    let decided = verdict.decision;
-    let violated = verdict.violations;
-    let hops = verdict.hops;
-    GateAnswer {
-        decision: answers::decision(decided),
-        refusal: answers::stop(decided),
-        violations: answers::violations(violated),
-        count: violated.count,
-        hops,
-    }
+    gate_numbers(&gate::gate(r, a))
 }
 
 // The gate for a plan.
@@ -182,15 +191,7 @@ pub extern "C" fn guvrendik_gate(r: Register, a: Action) -> GateAnswer
 pub extern "C" fn guvrendik_judge_plan(r: Register, p: Plan) -> PlanAnswer
     ensures { result ≡ plan_answer (planned r p) }
 {
-    let verdict = plans::plan(r, p);
-    let outcome = verdict.outcome;
-    PlanAnswer {
-        accepted: answers::accepted(outcome),
-        refusal: answers::refusal(outcome),
-        position: verdict.position,
-        list: answers::judgements(verdict),
-        count: verdict.count,
-    }
+    plan_numbers(&plans::plan(r, p))
 }
 
 // Whether the register that lent bytes hold is sound.
@@ -208,17 +209,7 @@ pub extern "C" fn guvrendik_sound_lent(bytes: &[u8]) -> Soundness
 pub extern "C" fn guvrendik_gate_lent(bytes: &[u8], a: Action) -> GateAnswer
     ensures { result ≡ gate_answer (gated (register_in bytes.now) a) }
 {
-    let verdict = lending::gate(bytes, a);
-    let decided = verdict.decision;
-    let violated = verdict.violations;
-    let hops = verdict.hops;
-    GateAnswer {
-        decision: answers::decision(decided),
-        refusal: answers::stop(decided),
-        violations: answers::violations(violated),
-        count: violated.count,
-        hops,
-    }
+    gate_numbers(&lending::gate(bytes, a))
 }
 
 // The gate for a plan, by the register that lent bytes hold.
@@ -226,15 +217,7 @@ pub extern "C" fn guvrendik_gate_lent(bytes: &[u8], a: Action) -> GateAnswer
 pub extern "C" fn guvrendik_judge_plan_lent(bytes: &[u8], p: Plan) -> PlanAnswer
     ensures { result ≡ plan_answer (planned (register_in bytes.now) p) }
 {
-    let verdict = lending::plan(bytes, p);
-    let outcome = verdict.outcome;
-    PlanAnswer {
-        accepted: answers::accepted(outcome),
-        refusal: answers::refusal(outcome),
-        position: verdict.position,
-        list: answers::judgements(verdict),
-        count: verdict.count,
-    }
+    plan_numbers(&lending::plan(bytes, p))
 }
 
 // The plain gate for an action: the gate's answer, by a table filled claim by claim.
@@ -242,17 +225,7 @@ pub extern "C" fn guvrendik_judge_plan_lent(bytes: &[u8], p: Plan) -> PlanAnswer
 pub extern "C" fn guvrendik_plain_gate(r: Register, a: Action) -> GateAnswer
     ensures { result ≡ gate_answer (gated r a) }
 {
-    let verdict = plain_gate::gate(r, a);
-    let decided = verdict.decision;
-    let violated = verdict.violations;
-    let hops = verdict.hops;
-    GateAnswer {
-        decision: answers::decision(decided),
-        refusal: answers::stop(decided),
-        violations: answers::violations(violated),
-        count: violated.count,
-        hops,
-    }
+    gate_numbers(&plain_gate::gate(r, a))
 }
 
 // The plain gate for a plan.
@@ -260,15 +233,7 @@ pub extern "C" fn guvrendik_plain_gate(r: Register, a: Action) -> GateAnswer
 pub extern "C" fn guvrendik_plain_plan(r: Register, p: Plan) -> PlanAnswer
     ensures { result ≡ plan_answer (planned r p) }
 {
-    let verdict = plain_gate::plan(r, p);
-    let outcome = verdict.outcome;
-    PlanAnswer {
-        accepted: answers::accepted(outcome),
-        refusal: answers::refusal(outcome),
-        position: verdict.position,
-        list: answers::judgements(verdict),
-        count: verdict.count,
-    }
+    plan_numbers(&plain_gate::plan(r, p))
 }
 
 // The gate for a plan text, whose steps are actions and whole plans.
@@ -277,10 +242,9 @@ pub extern "C" fn guvrendik_judge_plan_text(r: Register, text: &[u8]) -> PlanTex
     ensures { result ≡ plan_text_answer (plan_text_judged r text.now) }
 {
     let verdict = nested_plans::plan_text(r, text);
-    let outcome = verdict.outcome;
     PlanTextAnswer {
-        accepted: answers::accepted(outcome),
-        refusal: answers::refusal(outcome),
+        accepted: answers::accepted(verdict.outcome),
+        refusal: answers::refusal(verdict.outcome),
         line: verdict.line,
         position: verdict.position,
         list: answers::text_judgements(verdict),
@@ -294,12 +258,10 @@ pub extern "C" fn guvrendik_read_register(text: &[u8]) -> RegisterAnswer
     ensures { result ≡ register_answer (register_read text.now) }
 {
     let read = register_reading::read_register(text);
-    let state = read.register;
-    let outcome = read.outcome;
     RegisterAnswer {
-        state,
-        accepted: answers::accepted(outcome),
-        refusal: answers::refusal(outcome),
+        state: read.register,
+        accepted: answers::accepted(read.outcome),
+        refusal: answers::refusal(read.outcome),
         line: read.line,
     }
 }
@@ -310,12 +272,10 @@ pub extern "C" fn guvrendik_read_action(text: &[u8]) -> ActionAnswer
     ensures { result ≡ action_answer (action_read text.now) }
 {
     let asked = action_reading::read_action(text);
-    let action = asked.action;
-    let outcome = asked.outcome;
     ActionAnswer {
-        action,
-        accepted: answers::accepted(outcome),
-        refusal: answers::refusal(outcome),
+        action: asked.action,
+        accepted: answers::accepted(asked.outcome),
+        refusal: answers::refusal(asked.outcome),
         line: asked.line,
     }
 }
@@ -375,13 +335,11 @@ pub extern "C" fn guvrendik_read_json(text: &[u8], moment: u64) -> JsonAnswer
     ensures { result ≡ json_answer (json_read text.now moment) }
 {
     let posed = json_reading::read_json(text, moment);
-    let action = posed.action;
     let id = posed.id;
-    let outcome = posed.outcome;
     JsonAnswer {
-        action,
-        accepted: answers::accepted(outcome),
-        refusal: answers::refusal(outcome),
+        action: posed.action,
+        accepted: answers::accepted(posed.outcome),
+        refusal: answers::refusal(posed.outcome),
         kind: posed.kind,
         len: posed.len,
         id,
@@ -414,14 +372,11 @@ pub extern "C" fn guvrendik_attach(
 ) -> AttachAnswer
     ensures { result ≡ attach_answer (attached book r actor resource moment fingerprint.bytes) }
 {
-    let bytes = fingerprint.bytes;
-    let answer = attaching::attach(book, r, actor, resource, moment, bytes);
-    let kept = answer.book;
-    let outcome = answer.outcome;
+    let answer = attaching::attach(book, r, actor, resource, moment, fingerprint.bytes);
     AttachAnswer {
-        book: kept,
-        accepted: answers::accepted(outcome),
-        refusal: answers::refusal(outcome),
+        book: answer.book,
+        accepted: answers::accepted(answer.outcome),
+        refusal: answers::refusal(answer.outcome),
     }
 }
 
@@ -438,11 +393,10 @@ pub extern "C" fn guvrendik_fetch(
 {
     let answer = attaching::fetch(book, r, actor, resource, moment);
     let bytes = answer.fingerprint;
-    let outcome = answer.outcome;
     FetchAnswer {
         fingerprint: Fingerprint { bytes },
-        accepted: answers::accepted(outcome),
-        refusal: answers::refusal(outcome),
+        accepted: answers::accepted(answer.outcome),
+        refusal: answers::refusal(answer.outcome),
     }
 }
 
@@ -453,10 +407,9 @@ pub extern "C" fn guvrendik_who(r: Register, usage: Usage, moment: u64) -> Holde
 {
     let answer = reason_finding::who(r, usage, moment);
     let ids = answer.ids;
-    let outcome = answer.outcome;
     HoldersAnswer {
-        accepted: answers::accepted(outcome),
-        refusal: answers::refusal(outcome),
+        accepted: answers::accepted(answer.outcome),
+        refusal: answers::refusal(answer.outcome),
         ids,
         count: answer.count,
     }
@@ -472,10 +425,9 @@ pub extern "C" fn guvrendik_cover_table(r: Register, actor: u32, moment: u64) ->
     let states = shown.states;
     let own = shown.own;
     let owners = shown.owners;
-    let outcome = shown.outcome;
     TableAnswer {
-        accepted: answers::accepted(outcome),
-        refusal: answers::refusal(outcome),
+        accepted: answers::accepted(shown.outcome),
+        refusal: answers::refusal(shown.outcome),
         owner: shown.owner,
         hops,
         states,
@@ -495,15 +447,12 @@ pub extern "C" fn guvrendik_why_use(
     ensures { result ≡ use_reason_answer (use_told_of (why_use r actor usage moment)) }
 {
     let answer = reason_finding::why_use(r, actor, usage, moment);
-    let own = answer.actor;
-    let owners = answer.owners;
-    let outcome = answer.outcome;
     UseReasonAnswer {
-        accepted: answers::accepted(outcome),
-        refusal: answers::refusal(outcome),
-        actor: own,
+        accepted: answers::accepted(answer.outcome),
+        refusal: answers::refusal(answer.outcome),
+        actor: answer.actor,
         owner: answer.owner,
-        owners,
+        owners: answer.owners,
     }
 }
 

@@ -1,9 +1,7 @@
 -- What a number out of range, or every number but the moment in range, says of test 2 of both calls. Assumes nothing.
-use mathlib.Core.Path.{◌≡◌}
-use mathlib.Core.Bool.{false, and-false, and-true}
-use Prim.Native.Nat.{ℕ, ◌≤◌, ◌<◌}
-use borrow.Author.Tests.{le-leb, lt-leb, lt-ltb, le-ltb}
-use lib.Dec.{ltb}
+use Rattle.std.proofs.Common.{◌≡◌, false, ℕ, ◌≤◌, ◌<◌, le-leb, lt-ltb, le-ltb, ltb}
+use mathlib.Core.Bool.{and-false, and-true}
+use borrow.Author.Tests.{lt-leb}
 use Rattle.rights.specs.Rights.{right_count}
 use Rattle.register.specs.Limits.{id_limit, moment_end}
 use Rattle.actions.specs.declared.Usage.{Usage}

@@ -1,10 +1,7 @@
 -- The planner and the check on case R, actor 2 at the moment 1,999: WRITE with signer 1, a root; WRITE with signer 2, 26; READ, no grant; what is out of
 -- range; proposals that the check takes and refuses. On a register of version 2: a claim below another's. A path with `..`. All by computing. Assumes
 -- nothing.
-use mathlib.Core.Path.{◌≡◌, refl}
-use mathlib.Core.List.{◌∷◌, ◌++◌}
-use Prim.Native.Nat.{ℕ}
-use lib.ListN.{replicate}
+use Rattle.std.proofs.Common.{Ok, ◌≡◌, refl, ◌∷◌, ◌++◌, ℕ, replicate}
 use Rattle.lists.specs.Bytes.{bytes}
 use Rattle.lists.specs.Lists.{dropping, distinct, same}
 use Rattle.rights.specs.Rights.{has_right, has_rights, bars_machine}
@@ -16,7 +13,6 @@ use Rattle.register.specs.declared.Register.{Register}
 use Rattle.soundness_rules.specs.Sound.{actor_fits, resource_fits, claim_fits, names_stand, root_kept, drawn_from, machine_may, over_chain, drawn, fresh, alone, over, acceptable, sound_claims, sound_actors, sound_resources, within_limits, sound}
 use Rattle.refusals.specs.Refusals.{outcome_of}
 use Rattle.refusals.specs.declared.Refusal.TheVariants.{Range, Absent, NoProposal}
-use Rattle.refusals.specs.declared.Outcome.TheVariants.{Accepted}
 use Rattle.change_rules.specs.Changes.{source_live, parent_tests, world_tests, grant_tests, granted}
 use Rattle.actions.specs.Actions.{action_fits}
 use Rattle.actions.specs.declared.Usage.{Usage}
@@ -108,6 +104,6 @@ dotted = record {
   version = 1;
 }
 
-dotted_told : ((granted dotted (claim 3 0 1 1 2 1000 0 0) 1999).outcome ≡ Accepted) × (proposed dotted 1 (asked 1) 1999 (signer 1) ≡ unproposed NoProposal)
+dotted_told : ((granted dotted (claim 3 0 1 1 2 1000 0 0) 1999).outcome ≡ Ok tt) × (proposed dotted 1 (asked 1) 1999 (signer 1) ≡ unproposed NoProposal)
 unfolding dotted case_r proposed checked passing ask_tests asks_fit permits of_form helping free_from gated gate_tests action_tests outcome_of action_fits violations_of flags_set dropping is_ownerless governed use_violations use_violation covers covering public_read contains owner_lacks first_of contained climbing components same trimmed starting granted grant_tests world_tests parent_tests source_live sound within_limits sound_actors sound_resources sound_claims acceptable alone over fresh drawn over_chain machine_may drawn_from root_kept names_stand claim_fits resource_fits actor_fits distinct chain circling root_granted has_right has_rights bars_machine
 dotted_told = (refl, refl)

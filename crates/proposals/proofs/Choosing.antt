@@ -1,12 +1,6 @@
 -- Where some grant of the form passes and the use alone is not permitted, a candidate passes. Assumes nothing.
-use mathlib.Core.Path.{◌≡◌, ap, sym, ◌∙◌}
-use mathlib.Core.Bool.{Bool, true, false}
-use mathlib.Core.List.{List, [], ◌∷◌}
-use Prim.Native.Nat.{ℕ, ◌≤◌, ◌<◌}
-use native.Mathlib.Omega.{arith}
-use borrow.Author.Tests.{eqb-true, eqb-false, ltb-true}
-use lib.Dec.{eqb, ltb}
-use lib.ListN.{length, length-take}
+use Rattle.std.proofs.Common.{◌≡◌, ap, sym, ◌∙◌, Bool, true, false, List, [], ◌∷◌, ℕ, ◌≤◌, ◌<◌, arith, eqb-true, ltb-true, eqb, ltb, length, length-take}
+use borrow.Author.Tests.{eqb-false}
 use Rattle.lists.specs.Tests.{cases, and_left, and_both, or_other, or_second}
 use Rattle.lists.specs.Lists.{any, every}
 use Rattle.lists.specs.Each.{any_append, any_map, any_reverse, cons_clash}

@@ -1,9 +1,5 @@
 -- What the planner proposes, case by case: it passes, and there is none exactly where no proposal would pass. Assumes nothing.
-use mathlib.Core.Path.{◌≡◌, refl, ap, sym, ◌∙◌}
-use mathlib.Core.Bool.{true, false, ◌&&◌, cond}
-use Prim.Native.Nat.{ℕ}
-use native.Mathlib.Omega.{arith}
-use lib.Dec.{eqb}
+use Rattle.std.proofs.Common.{Result, Err, Ok, ◌≡◌, refl, ap, sym, ◌∙◌, true, false, ◌&&◌, cond, ℕ, arith, eqb}
 use Rattle.lists.specs.Tests.{cases, clash, and_left, and_right}
 use Rattle.lists.specs.Lists.{any}
 use Rattle.register.specs.Register.{Shaped}
@@ -11,10 +7,9 @@ use Rattle.register.specs.declared.Claim.{Claim}
 use Rattle.register.specs.declared.Register.{Register}
 use Rattle.soundness_rules.specs.Sound.{sound}
 use Rattle.refusals.specs.Refusals.{number_of, outcome_of}
-use Rattle.refusals.proofs.Laws.{outcome_cases, outcome_clash}
+use Rattle.refusals.proofs.Laws.{outcome_cases, outcome_clash, refused_same}
 use Rattle.refusals.specs.declared.Refusal.{Refusal}
 use Rattle.refusals.specs.declared.Refusal.TheVariants.{Unsound, Range, Absent, NoProposal}
-use Rattle.refusals.specs.declared.Outcome.TheVariants.{Accepted, Refused}
 use Rattle.actions.specs.declared.Usage.{Usage}
 use Rattle.gate_rules.specs.Places.{first_found}
 use Rattle.change_rules.specs.Changes.{world_in}
@@ -35,10 +30,10 @@ proposes_same : (p q : Proposal) → proposes p ≡ proposes q → p ≡ q
 proposes_same p q e = ap (λ y. y.proposal) e
 
 -- 26 is none of the tests'
-refused_number : {why other : Refusal} → Refused why ≡ Refused other → number_of why ≡ number_of other
-refused_number e = cc
+refused_number : {why other : Refusal} → ◌≡◌ {A = Result Unit Refusal} (Err why) (Err other) → number_of why ≡ number_of other
+refused_number e = ap number_of (refused_same e)
 
-asked_never : {A : Type 0} (r : Register) (x : ℕ) (u : Usage) (moment : ℕ) (s : Signers) → outcome_of (ask_tests r x u moment s) ≡ Refused NoProposal → A
+asked_never : {A : Type 0} (r : Register) (x : ℕ) (u : Usage) (moment : ℕ) (s : Signers) → outcome_of (ask_tests r x u moment s) ≡ Err NoProposal → A
 unfolding ask_tests outcome_of
 asked_never r x u moment s h =
     cases (sound r)
@@ -68,7 +63,7 @@ module _ (r : Register) (x : ℕ) (u : Usage) (moment : ℕ) (s : Signers) where
       (λ e. g (and_right (eqb p.kind grant_kind) (passing_grant r x u moment s p.claim) (rw e at h)))
 
   -- where a candidate passes, the first that does is proposed; where none does, none is
-  pub proposed_first_lem : outcome_of (ask_tests r x u moment s) ≡ Accepted → permits r (one_use x u moment) ≡ false
+  pub proposed_first_lem : outcome_of (ask_tests r x u moment s) ≡ Ok tt → permits r (one_use x u moment) ≡ false
       → any (passing_grant r x u moment s) (candidates r x u (signers_of s)) ≡ true
       → (c : Claim) × (passing_grant r x u moment s c ≡ true) × (proposed r x u moment s ≡ proposes (a_grant c))
   proposed_first_lem e k some =
@@ -76,11 +71,11 @@ module _ (r : Register) (x : ℕ) (u : Usage) (moment : ℕ) (s : Signers) where
       (found.0, found.1.passes, proposed_by r x u moment s e k ∙ ap proposed_first found.1.alone)
 
   -- the answer taken apart
-  pub proposed_cases : {A : Type 0} → ((why : Refusal) → outcome_of (ask_tests r x u moment s) ≡ Refused why → proposed r x u moment s ≡ unproposed why → A)
-      → (outcome_of (ask_tests r x u moment s) ≡ Accepted → permits r (one_use x u moment) ≡ true → proposed r x u moment s ≡ proposes no_grant → A)
-      → (outcome_of (ask_tests r x u moment s) ≡ Accepted → permits r (one_use x u moment) ≡ false → (c : Claim) → passing_grant r x u moment s c ≡ true
+  pub proposed_cases : {A : Type 0} → ((why : Refusal) → outcome_of (ask_tests r x u moment s) ≡ Err why → proposed r x u moment s ≡ unproposed why → A)
+      → (outcome_of (ask_tests r x u moment s) ≡ Ok tt → permits r (one_use x u moment) ≡ true → proposed r x u moment s ≡ proposes no_grant → A)
+      → (outcome_of (ask_tests r x u moment s) ≡ Ok tt → permits r (one_use x u moment) ≡ false → (c : Claim) → passing_grant r x u moment s c ≡ true
       → proposed r x u moment s ≡ proposes (a_grant c) → A)
-      → (outcome_of (ask_tests r x u moment s) ≡ Accepted → permits r (one_use x u moment) ≡ false
+      → (outcome_of (ask_tests r x u moment s) ≡ Ok tt → permits r (one_use x u moment) ≡ false
       → any (passing_grant r x u moment s) (candidates r x u (signers_of s)) ≡ false → proposed r x u moment s ≡ unproposed NoProposal → A) → A
   proposed_cases stops none grants fails =
       outcome_cases (outcome_of (ask_tests r x u moment s))
@@ -103,7 +98,7 @@ module _ (r : Register) (x : ℕ) (u : Usage) (moment : ℕ) (s : Signers) where
       (λ e. e)
 
   -- what is proposed passes
-  pub proposed_sound : (p : Proposal) → proposed r x u moment s ≡ proposes p → (outcome_of (ask_tests r x u moment s) ≡ Accepted) × (passing r x u moment s p ≡ true)
+  pub proposed_sound : (p : Proposal) → proposed r x u moment s ≡ proposes p → (outcome_of (ask_tests r x u moment s) ≡ Ok tt) × (passing r x u moment s p ≡ true)
   proposed_sound p h =
       proposed_cases (λ why asked e. unproposed_proposes (sym e ∙ h))
       (λ asked k e. (asked, rw (← proposes_same no_grant p (sym e ∙ h)) (none_passing ∙ k)))
@@ -112,12 +107,12 @@ module _ (r : Register) (x : ℕ) (u : Usage) (moment : ℕ) (s : Signers) where
 
   -- where nothing is, the tests are passed and nothing would pass
   pub nothing_sound : Shaped r → proposed r x u moment s ≡ unproposed NoProposal
-      → (outcome_of (ask_tests r x u moment s) ≡ Accepted) × ((p : Proposal) → passing r x u moment s p ≡ false)
+      → (outcome_of (ask_tests r x u moment s) ≡ Ok tt) × ((p : Proposal) → passing r x u moment s p ≡ false)
   nothing_sound shaped h =
       proposed_cases (λ why asked e. asked_never r x u moment s (asked ∙ ap (λ y. y.outcome) (sym e ∙ h))) (λ asked k e. unproposed_proposes (sym h ∙ e))
       (λ asked k c passes e. unproposed_proposes (sym h ∙ e)) (λ asked k none e. (asked, none_passes shaped k none))
 
-  pub nothing_complete : outcome_of (ask_tests r x u moment s) ≡ Accepted → ((p : Proposal) → passing r x u moment s p ≡ false) → proposed r x u moment s ≡ unproposed NoProposal
+  pub nothing_complete : outcome_of (ask_tests r x u moment s) ≡ Ok tt → ((p : Proposal) → passing r x u moment s p ≡ false) → proposed r x u moment s ≡ unproposed NoProposal
   nothing_complete told fails =
       proposed_cases (λ why asked e. outcome_clash (sym asked ∙ told))
       (λ asked k e. clash (passing r x u moment s no_grant) (none_passing ∙ k) (fails no_grant))
@@ -126,14 +121,14 @@ module _ (r : Register) (x : ℕ) (u : Usage) (moment : ℕ) (s : Signers) where
 
   -- no grant is proposed where the use alone is permitted, and only there
   pub none_sound : (p : Proposal) → p.kind ≡ no_grant_kind → proposed r x u moment s ≡ proposes p
-      → (outcome_of (ask_tests r x u moment s) ≡ Accepted) × (permits r (one_use x u moment) ≡ true)
+      → (outcome_of (ask_tests r x u moment s) ≡ Ok tt) × (permits r (one_use x u moment) ≡ true)
   none_sound p kind h =
       proposed_cases (λ why asked e. unproposed_proposes (sym e ∙ h)) (λ asked k e. (asked, k))
       (λ asked k c passes e. let other : grant_kind ≡ no_grant_kind = ap (λ q. q.kind) (proposes_same (a_grant c) p (sym e ∙ h)) ∙ kind in absurd (omega (arith, other)))
       (λ asked k none e. unproposed_proposes (sym e ∙ h))
 
   -- the check, where the tests are passed
-  pub checked_asked : (p : Proposal) → outcome_of (ask_tests r x u moment s) ≡ Accepted → checked r x u moment s p ≡ cond (passing r x u moment s p) Passes Fails
+  pub checked_asked : (p : Proposal) → outcome_of (ask_tests r x u moment s) ≡ Ok tt → checked r x u moment s p ≡ cond (passing r x u moment s p) Passes Fails
   unfolding checked
   checked_asked p e = ap (λ o. checked_on o (passing r x u moment s p)) e
 
@@ -144,12 +139,12 @@ module _ (r : Register) (x : ℕ) (u : Usage) (moment : ℕ) (s : Signers) where
 
   -- both ways
   pub nothing_exact : Shaped r
-      → (proposed r x u moment s ≡ unproposed NoProposal → (outcome_of (ask_tests r x u moment s) ≡ Accepted) × ((p : Proposal) → passing r x u moment s p ≡ false))
-      × ((outcome_of (ask_tests r x u moment s) ≡ Accepted) × ((p : Proposal) → passing r x u moment s p ≡ false) → proposed r x u moment s ≡ unproposed NoProposal)
+      → (proposed r x u moment s ≡ unproposed NoProposal → (outcome_of (ask_tests r x u moment s) ≡ Ok tt) × ((p : Proposal) → passing r x u moment s p ≡ false))
+      × ((outcome_of (ask_tests r x u moment s) ≡ Ok tt) × ((p : Proposal) → passing r x u moment s p ≡ false) → proposed r x u moment s ≡ unproposed NoProposal)
   nothing_exact shaped = (nothing_sound shaped, λ h. nothing_complete h.0 h.1)
 
   pub none_exact :
       ((p : Proposal) → p.kind ≡ no_grant_kind → proposed r x u moment s ≡ proposes p
-      → (outcome_of (ask_tests r x u moment s) ≡ Accepted) × (permits r (one_use x u moment) ≡ true))
-      × ((outcome_of (ask_tests r x u moment s) ≡ Accepted) × (permits r (one_use x u moment) ≡ true) → proposed r x u moment s ≡ proposes no_grant)
+      → (outcome_of (ask_tests r x u moment s) ≡ Ok tt) × (permits r (one_use x u moment) ≡ true))
+      × ((outcome_of (ask_tests r x u moment s) ≡ Ok tt) × (permits r (one_use x u moment) ≡ true) → proposed r x u moment s ≡ proposes no_grant)
   none_exact = (none_sound, λ h. proposed_permitted r x u moment s h.0 h.1)

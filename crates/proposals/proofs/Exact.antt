@@ -1,10 +1,9 @@
 -- Laws: When a candidate passes, in the planner's own words: a root exactly where its signer keeps the resource, one below a claim exactly where the signer may
 -- sign below it; and where something passes, what must hold whoever signs does. Assumes nothing.
-use Rattle.std.specs.Prelude.{◌≡◌, false, not, ◌||◌, List, [], ◌∷◌, ℕ, ◌≤◌, ◌<◌, eqb, leb, ltb, length}
+use Rattle.std.proofs.Common.{◌≡◌, false, not, ◌||◌, List, [], ◌∷◌, ℕ, ◌≤◌, ◌<◌, eqb, leb, ltb, length, Ok, sym, ◌∙◌, arith, length-take, eq-eqb, ltb-true, lt-ltb}
 use Rattle.std.proofs.Math.Path.{refl}
-use Rattle.std.proofs.Common.{sym, ◌∙◌, arith, length-take}
 use Rattle.std.proofs.Math.Bool.{true}
-use borrow.Author.Tests.{eq-eqb, ltb-true, lt-ltb, not-true}
+use borrow.Author.Tests.{not-true}
 use Rattle.lists.specs.Tests.{and_left, and_right, and_both, or_second}
 use Rattle.lists.specs.Lists.{any, every}
 use Rattle.lists.specs.Each.{ands_out, any_reverse}
@@ -14,11 +13,10 @@ use Rattle.register.specs.Register.{claims_of, Shaped}
 use Rattle.register.specs.Chain.{above, current}
 use Rattle.register.specs.declared.Claim.{Claim}
 use Rattle.register.specs.declared.Register.{Register}
-use Rattle.soundness_rules.specs.Sound.{World, sound, claim_fits, names_stand, root_kept, machine_may, drawn, fresh, stored}
+use Rattle.soundness_rules.specs.Sound.{World, claim_fits, names_stand, root_kept, machine_may, drawn, fresh, stored}
 use Rattle.soundness_rules.proofs.Laws.{ranged_in, acceptable_in}
 use Rattle.refusals.specs.Refusals.{outcome_of}
 use Rattle.refusals.proofs.Laws.{accepted_out}
-use Rattle.refusals.specs.declared.Outcome.TheVariants.{Accepted}
 use Rattle.change_rules.specs.Changes.{world_in, standing, source_live, appended}
 use Rattle.actions.specs.declared.Usage.{Usage}
 use Rattle.gate_rules.specs.Gate.{contains, covering, covers, is_ownerless, owner_lacks}
@@ -37,7 +35,7 @@ use Rattle.proposals.specs.Forms.{form_out, form_in, help_out, help_in}
 use Rattle.proposals.specs.Owners.{owner_kept}
 use Rattle.proposals.specs.Ranges.{worth_rights, worth_has, known_id}
 
-pub asked_out : (r : Register) (x : ℕ) (u : Usage) (moment : ℕ) (s : Signers) → outcome_of (ask_tests r x u moment s) ≡ Accepted → Asked r x u moment
+pub asked_out : (r : Register) (x : ℕ) (u : Usage) (moment : ℕ) (s : Signers) → outcome_of (ask_tests r x u moment s) ≡ Ok tt → Asked r x u moment
 unfolding ask_tests asks_fit
 asked_out r x u moment s h =
     let told = accepted_out (ask_tests r x u moment s) h in

@@ -1,9 +1,7 @@
 -- Laws: A machine's owner is asked by the owner's own one-use action. Assumes nothing.
-use Rattle.std.specs.Prelude.{◌≡◌, true, false, ◌&&◌, ℕ}
+use Rattle.std.proofs.Common.{◌≡◌, true, false, ◌&&◌, ℕ, sym, ◌∙◌, eqb-true, eq-eqb, ne_eqb, List}
 use Rattle.std.proofs.Math.Path.{ap}
-use Rattle.std.proofs.Common.{sym, ◌∙◌, eqb-true, eq-eqb, ne_eqb}
 use Rattle.std.proofs.Math.Bool.{Bool, not}
-use mathlib.Core.List.{List}
 use Rattle.std.proofs.Math.Dec.{eqb}
 use Rattle.lists.specs.Tests.{and_left, and_right, and_both, iff_same}
 use Rattle.lists.specs.Lists.{any}

@@ -1,5 +1,5 @@
 -- Laws: The planner's code may look at marks only: what it answers so is what is proposed. Assumes nothing.
-use Rattle.std.specs.Prelude.{◌≡◌, refl, Bool, true, List, [], ◌∷◌, ◌++◌, map, ℕ, eqb}
+use Rattle.std.specs.Prelude.{◌≡◌, refl, Bool, true, List, [], ◌∷◌, ◌++◌, map, ℕ, eqb, Err, Ok}
 use Rattle.std.proofs.Math.Path.{ap, sym}
 use Rattle.std.proofs.Common.{◌∙◌, eq-eqb}
 use Rattle.std.proofs.Math.Bool.{false}
@@ -13,7 +13,6 @@ use Rattle.register.specs.declared.Register.{Register}
 use Rattle.refusals.specs.Refusals.{outcome_of}
 use Rattle.refusals.proofs.Laws.{outcome_cases}
 use Rattle.refusals.specs.declared.Refusal.{Refusal}
-use Rattle.refusals.specs.declared.Outcome.TheVariants.{Accepted, Refused}
 use Rattle.change_rules.specs.Changes.{world_in}
 use Rattle.actions.specs.declared.Usage.{Usage}
 use Rattle.gate_rules.specs.Gate.{first_of}
@@ -79,15 +78,15 @@ module _ (r : Register) (x : ℕ) (u : Usage) (moment : ℕ) (s : Signers) (shap
         ∙ ap (or_else (signed_first r x u moment g)) (first_signed_lem gs willing.1)
 
   -- the planner by marks, case by case
-  by_marks_stopped : (why : Refusal) → outcome_of (ask_tests r x u moment s) ≡ Refused why → by_marks r x u moment s ≡ proposed r x u moment s
+  by_marks_stopped : (why : Refusal) → outcome_of (ask_tests r x u moment s) ≡ Err why → by_marks r x u moment s ≡ proposed r x u moment s
   unfolding by_marks
   by_marks_stopped why e = ap (λ o. by_marks_on o r x u moment s) e ∙ sym (proposed_stopped r x u moment s why e)
 
-  by_marks_permitted : outcome_of (ask_tests r x u moment s) ≡ Accepted → permits r (one_use x u moment) ≡ true → by_marks r x u moment s ≡ proposed r x u moment s
+  by_marks_permitted : outcome_of (ask_tests r x u moment s) ≡ Ok tt → permits r (one_use x u moment) ≡ true → by_marks r x u moment s ≡ proposed r x u moment s
   unfolding by_marks
   by_marks_permitted e k = ap (λ o. by_marks_on o r x u moment s) e ∙ rw k (sym (proposed_permitted r x u moment s e k))
 
-  by_marks_clear : outcome_of (ask_tests r x u moment s) ≡ Accepted → permits r (one_use x u moment) ≡ false → clear r x u moment ≡ true
+  by_marks_clear : outcome_of (ask_tests r x u moment s) ≡ Ok tt → permits r (one_use x u moment) ≡ false → clear r x u moment ≡ true
       → by_marks r x u moment s ≡ proposed r x u moment s
   unfolding by_marks
   by_marks_clear e k c =
@@ -97,7 +96,7 @@ module _ (r : Register) (x : ℕ) (u : Usage) (moment : ℕ) (s : Signers) (shap
       (λ g at. place_any (eqb g) (signers_of s) g at (eq-eqb g g refl)) (signers_of s) (each_place (signers_of s))))))
       ∙ sym (proposed_by r x u moment s e k)
 
-  by_marks_barred : outcome_of (ask_tests r x u moment s) ≡ Accepted → permits r (one_use x u moment) ≡ false → clear r x u moment ≡ false
+  by_marks_barred : outcome_of (ask_tests r x u moment s) ≡ Ok tt → permits r (one_use x u moment) ≡ false → clear r x u moment ≡ false
       → by_marks r x u moment s ≡ proposed r x u moment s
   unfolding by_marks
   by_marks_barred e k c =

@@ -1,11 +1,6 @@
 -- A grant with another id, another weight, no expiry and no hands left in the stead of an accepted one: it is accepted too where the id is free and the weight is
 -- not above the parent's, and covers what the other covered where it has weight. Assumes nothing.
-use mathlib.Core.Path.{◌≡◌, refl, ap, sym, ◌∙◌}
-use mathlib.Core.Bool.{true, false, not, ◌||◌}
-use mathlib.Core.List.{List, [], ◌∷◌}
-use Prim.Native.Nat.{ℕ, ◌≤◌, ◌<◌}
-use borrow.Author.Tests.{le-leb, lt-ltb}
-use lib.Dec.{eqb, leb, ltb}
+use Rattle.std.proofs.Common.{◌≡◌, refl, ap, sym, ◌∙◌, true, false, not, ◌||◌, List, [], ◌∷◌, ℕ, ◌≤◌, ◌<◌, le-leb, lt-ltb, eqb, leb, ltb}
 use Rattle.lists.specs.Tests.{cases, and_right, and_both, or_other, or_second}
 use Rattle.lists.specs.Lists.{any, every}
 use Rattle.lists.specs.Each.{ands_out}

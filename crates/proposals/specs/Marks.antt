@@ -1,6 +1,7 @@
 -- Working: The planner as its code goes about it: what must hold whoever signs, the claims under which a claim of the actor may be drawn, and what
 -- each signer would sign first. It asks no gate and no grant per claim. That it answers what is proposed is `planned_proposed` of Planning.
-use Rattle.std.specs.Prelude.{Bool, not, ◌&&◌, ◌||◌, cond, List, [], ◌∷◌, map, ℕ, eqb, ltb}
+use Rattle.refusals.specs.declared.Refusal.{Refusal}
+use Rattle.std.specs.Prelude.{Bool, not, ◌&&◌, ◌||◌, cond, List, [], ◌∷◌, map, ℕ, eqb, ltb, Result, Err, Ok}
 use Rattle.lists.specs.Lists.{ands}
 use Rattle.rights.specs.Rights.{delegating, has_right, bars_machine, worth_of}
 use Rattle.register.specs.Limits.{claim_limit, weight_limit}
@@ -11,8 +12,6 @@ use Rattle.register.specs.declared.Register.{Register}
 use Rattle.soundness_rules.specs.Sound.{hands_left}
 use Rattle.refusals.specs.Refusals.{outcome_of}
 use Rattle.refusals.specs.declared.Refusal.TheVariants.{NoProposal}
-use Rattle.refusals.specs.declared.Outcome.{Outcome}
-use Rattle.refusals.specs.declared.Outcome.TheVariants.{Accepted, Refused}
 use Rattle.change_rules.specs.Changes.{world_in, standing}
 use Rattle.actions.specs.Actions.{one_use}
 use Rattle.actions.specs.declared.Usage.{Usage}
@@ -66,11 +65,11 @@ abbrev pub first_signed : Register → ℕ → Usage → ℕ → List ℕ → Li
 first_signed r x u moment [] = []
 first_signed r x u moment (g ∷ gs) = or_else (signed_first r x u moment g) (first_signed r x u moment gs)
 
-abbrev pub by_marks_on : Outcome → Register → ℕ → Usage → ℕ → Signers → Proposed
-by_marks_on Accepted r x u moment s =
+abbrev pub by_marks_on : Result Unit Refusal → Register → ℕ → Usage → ℕ → Signers → Proposed
+by_marks_on (Ok tt) r x u moment s =
     cond (permits r (one_use x u moment)) (proposes no_grant)
     (cond (clear r x u moment) (proposed_first (first_signed r x u moment (signers_of s))) (unproposed NoProposal))
-by_marks_on (Refused why) r x u moment s = unproposed why
+by_marks_on (Err why) r x u moment s = unproposed why
 
 unfoldable pub by_marks : Register → ℕ → Usage → ℕ → Signers → Proposed
 by_marks r x u moment s = by_marks_on (outcome_of (ask_tests r x u moment s)) r x u moment s

@@ -1,5 +1,5 @@
 -- Believed: Whose signature is missing, in 02's words: the tests of both calls, when a proposal passes the check, and what the planner proposes.
-use Rattle.std.specs.Prelude.{Bool, ◌&&◌, ◌||◌, cond, List, [], ◌∷◌, ◌++◌, map, ℕ, zero, suc, eqb, leb, ltb, length, take}
+use Rattle.std.specs.Prelude.{Bool, ◌&&◌, ◌||◌, cond, List, [], ◌∷◌, ◌++◌, map, ℕ, zero, suc, eqb, leb, ltb, length, take, Result, Err, Ok}
 use Rattle.lists.specs.Lists.{any, ands}
 use Rattle.rights.specs.Rights.{is_right, worth_of}
 use Rattle.register.specs.Limits.{id_limit, weight_limit, moment_end}
@@ -10,8 +10,6 @@ use Rattle.soundness_rules.specs.Sound.{sound}
 use Rattle.refusals.specs.Refusals.{Test, outcome_of, is_accepted}
 use Rattle.refusals.specs.declared.Refusal.{Refusal}
 use Rattle.refusals.specs.declared.Refusal.TheVariants.{Unsound, Range, Absent, NoProposal}
-use Rattle.refusals.specs.declared.Outcome.{Outcome}
-use Rattle.refusals.specs.declared.Outcome.TheVariants.{Accepted, Refused}
 use Rattle.change_rules.specs.Changes.{world_in, granted}
 use Rattle.actions.specs.Actions.{one_use, is_permitted}
 use Rattle.actions.specs.declared.Usage.{Usage}
@@ -77,9 +75,9 @@ passing r x u moment s p =
     (eqb p.kind no_grant_kind && permits r (one_use x u moment)) || (eqb p.kind grant_kind && passing_grant r x u moment s p.claim)
 
 -- the check: the tests, then whether the proposal passes
-abbrev pub checked_on : Outcome → Bool → Checked
-checked_on Accepted passes = cond passes Passes Fails
-checked_on (Refused why) passes = Stopped why
+abbrev pub checked_on : Result Unit Refusal → Bool → Checked
+checked_on (Ok _) passes = cond passes Passes Fails
+checked_on (Err why) passes = Stopped why
 
 unfoldable pub checked : Register → ℕ → Usage → ℕ → Signers → Proposal → Checked
 checked r x u moment s p = checked_on (outcome_of (ask_tests r x u moment s)) (passing r x u moment s p)
@@ -131,10 +129,10 @@ a_grant c = record { kind = grant_kind; claim = c }
 
 -- the planner's answers: a proposal; a refusal, beside which stands neither kind
 abbrev pub proposes : Proposal → Proposed
-proposes p = record { outcome = Accepted; proposal = p }
+proposes p = record { outcome = Ok tt; proposal = p }
 
 abbrev pub unproposed : Refusal → Proposed
-unproposed why = record { outcome = Refused why; proposal = record { kind = 0; claim = no_claim } }
+unproposed why = record { outcome = Err why; proposal = record { kind = 0; claim = no_claim } }
 
 -- a grant of the first of a list, or 26 where there is none
 abbrev pub proposed_first : List Claim → Proposed
@@ -142,11 +140,11 @@ proposed_first [] = unproposed NoProposal
 proposed_first (c ∷ cs) = proposes (a_grant c)
 
 -- the planner: the tests; no grant where that passes; else the first candidate that passes; else 26
-abbrev pub proposed_on : Outcome → Register → ℕ → Usage → ℕ → Signers → Proposed
-proposed_on Accepted r x u moment s =
+abbrev pub proposed_on : Result Unit Refusal → Register → ℕ → Usage → ℕ → Signers → Proposed
+proposed_on (Ok tt) r x u moment s =
     cond (permits r (one_use x u moment)) (proposes no_grant)
     (proposed_first (first_of (passing_grant r x u moment s) (candidates r x u (signers_of s))))
-proposed_on (Refused why) r x u moment s = unproposed why
+proposed_on (Err why) r x u moment s = unproposed why
 
 unfoldable pub proposed : Register → ℕ → Usage → ℕ → Signers → Proposed
 proposed r x u moment s = proposed_on (outcome_of (ask_tests r x u moment s)) r x u moment s

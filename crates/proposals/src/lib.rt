@@ -7,7 +7,7 @@ ghost use Rattle.std.specs.Prelude.{◌≡◌};
 ghost use Rattle.proposals.specs.Proposals.{asks_fit};
 
 use actions::Usage;
-use refusals::{Outcome, Refusal};
+use refusals::Refusal;
 use register::Claim;
 
 // Up to eight actor numbers; entries past the count are ignored.
@@ -39,7 +39,7 @@ impl Proposal {
 // The answer of the planner. Refused: kind 0 with a claim of zeros.
 #[derive(Clone, Copy)]
 pub struct Proposed {
-    pub outcome: Outcome,
+    pub outcome: Result<(), Refusal>,
     pub proposal: Proposal,
 }
 

@@ -1,12 +1,6 @@
 -- What is signed, signer by signer, and the planner's answers case by case. Assumes nothing.
-use mathlib.Core.Path.{◌≡◌, refl, sym, ap, ◌∙◌}
-use mathlib.Core.Bool.{Bool, true, false, not, ◌&&◌, cond, and-false}
-use mathlib.Core.List.{List, [], ◌∷◌, map}
-use Prim.Native.Nat.{ℕ, ◌+◌, ◌≤◌, ◌<◌, min}
-use native.Mathlib.Omega.{arith}
-use borrow.Author.Tests.{lt-ltb, le-ltb}
-use lib.Dec.{eqb, ltb}
-use lib.ListN.{length, take, drop, get_or, length-take, drop_of_length-le}
+use Rattle.std.proofs.Common.{◌≡◌, refl, sym, ap, ◌∙◌, Bool, true, false, not, ◌&&◌, Option, Some, None, Err, Ok, List, [], ◌∷◌, ℕ, ◌+◌, ◌≤◌, ◌<◌, arith, lt-ltb, le-ltb, eqb, ltb, length, take, drop, get_or}
+use mathlib.Core.Bool.{and-false}
 use Rattle.lists.specs.Lists.{any}
 use Rattle.lists.specs.Loops.{drop_at}
 use Rattle.rights.specs.Rights.{worth_of}
@@ -15,11 +9,9 @@ use Rattle.register.specs.Register.{no_claim}
 use Rattle.register.specs.declared.Claim.{Claim}
 use Rattle.register.specs.declared.Register.{Register}
 use Rattle.columns.specs.Sheet.{column_of, claims_in, grantor_column, holder_column}
-use Rattle.columns.specs.declared.Place.TheVariants.{At, Nowhere}
 use Rattle.refusals.specs.Refusals.{outcome_of}
 use Rattle.refusals.specs.declared.Refusal.{Refusal}
 use Rattle.refusals.specs.declared.Refusal.TheVariants.{NoProposal}
-use Rattle.refusals.specs.declared.Outcome.TheVariants.{Accepted, Refused}
 use Rattle.actions.specs.Actions.{one_use}
 use Rattle.actions.specs.declared.Usage.{Usage}
 use Rattle.gate_rules.specs.Gate.{is_ownerless, owner_lacks, contains}
@@ -30,42 +22,12 @@ use Rattle.soundness.specs.declared.Findings.{Findings}
 use Rattle.claim_judging.specs.AloneLaws.{world_natural}
 use Rattle.gate.specs.Judged.{counts_of, sheet_ends}
 use Rattle.gate.specs.declared.Counts.{Counts}
-use Rattle.proposals.specs.Proposals.{signer_limit, signers_of, grant_kind, asks_fit, ask_tests, permits, least_free, no_grant, a_grant, proposes, unproposed, proposed_first}
+use Rattle.proposals.specs.Proposals.{signers_of, asks_fit, ask_tests, permits, least_free, no_grant, a_grant, proposes, unproposed, proposed_first}
 use Rattle.proposals.specs.Marks.{clear, or_else, first_signed, by_marks_on, by_marks}
-use Rattle.proposals.specs.declared.Proposal.{Proposal}
 use Rattle.proposals.specs.declared.Proposed.{Proposed}
 use Rattle.proposals.specs.declared.Signers.{Signers}
-use Rattle.proposing.specs.Planned.{tests_on, Ready, hands_taken, rooms_of, marks_by, place_first, signing_by, signed_through, grant_first, rooms_by, marks_for, drawn_by}
+use Rattle.proposing.specs.Planned.{tests_on, Ready, hands_taken, rooms_of, marks_by, signing_by, signed_through, first_claim, rooms_by, marks_for, drawn_by}
 use Rattle.proposing.proofs.Marking.{drawn_natural}
-
--- neither kind of proposal
-abbrev pub neither : Proposal
-neither = record { kind = 0; claim = no_claim }
-
--- ---- what one signer signs
-module _ (kept may : Bool) (root : Claim) (f : ℕ → Claim) (places : List ℕ) where
-  abbrev told : Proposal
-  told = grant_first (cond kept (root ∷ []) (cond may (map f places) []))
-
-  pub told_root : kept ≡ true → a_grant root ≡ told
-  told_root e = rw e
-
-  pub told_barred : kept ≡ false → may ≡ false → neither ≡ told
-  told_barred e d = rw (e, d)
-
-  pub told_nowhere : kept ≡ false → may ≡ true → place_first places ≡ Nowhere → neither ≡ told
-  told_nowhere e d none = rw (e, d) (nowhere places none)
-    where
-      nowhere : (l : List ℕ) → place_first l ≡ Nowhere → neither ≡ grant_first (map f l)
-      nowhere [] q = refl
-      nowhere (j ∷ l) q = let never : ◌≡◌ {A = ℕ} 0 1 = cc in absurd (omega arith)
-
-  pub told_below : kept ≡ false → may ≡ true → (j : ℕ) → place_first places ≡ At j → a_grant (f j) ≡ told
-  told_below e d j found = rw (e, d) (somewhere places found)
-    where
-      somewhere : (l : List ℕ) → place_first l ≡ At j → a_grant (f j) ≡ grant_first (map f l)
-      somewhere [] q = let never : ◌≡◌ {A = ℕ} 0 1 = cc in absurd (omega arith)
-      somewhere (i ∷ l) q = let same : i ≡ j = cc in rw same
 
 -- ---- the signers one after the other
 
@@ -75,24 +37,17 @@ pub record Hearing (f : ℕ → List Claim) (s : Signers) (top i : ℕ) : Type 0
   pub whole : top ≡ length (signers_of s)
   pub ahead : proposed_first (signed_through f (signers_of s)) ≡ proposed_first (signed_through f (drop i (signers_of s)))
 
--- a grant, or none
-signs : (L rest : List Claim) (p : Proposal) → p ≡ grant_first L → p.kind ≡ grant_kind
-    → ◌≡◌ {A = Proposed} (record { outcome = Accepted; proposal = p }) (proposed_first (or_else L rest))
-signs [] rest p e k = let never : 0 ≡ grant_kind = ap (λ q. q.kind) (sym e) ∙ k in absurd (omega (arith, never))
-signs (c ∷ L) rest p e k = rw e
+-- a claim, or none
+signs : (L rest : List Claim) (c : Claim) → first_claim L ≡ Some c → proposes (a_grant c) ≡ proposed_first (or_else L rest)
+signs [] rest c e = absurd (cc)
+signs (d ∷ L) rest c e = let same : d ≡ c = cc in rw same
 
-passes : (L rest : List Claim) (p : Proposal) → p ≡ grant_first L → (p.kind ≡ grant_kind → ⊥) → proposed_first (or_else L rest) ≡ proposed_first rest
-passes [] rest p e k = refl
-passes (c ∷ L) rest p e k = absurd (k (ap (λ q. q.kind) e))
+passes : (L rest : List Claim) → first_claim L ≡ None → proposed_first (or_else L rest) ≡ proposed_first rest
+passes [] rest e = refl
+passes (d ∷ L) rest e = absurd (cc)
 
 module _ {f : ℕ → List Claim} {s : Signers} {top : ℕ} where
-  pub hearing_start : top ≡ min s.count signer_limit → length s.list ≡ signer_limit → Hearing f s top 0
-  hearing_start e long = record { within = omega arith; whole = omega (arith, e, long, length-take s.count s.list); ahead = refl }
-
   module _ {i : ℕ} (h : Hearing f s top i) where
-    pub hearing_place : i < top → length s.list ≡ signer_limit → i < signer_limit
-    hearing_place inside long = omega (arith, inside, long, h.whole, length-take s.count s.list)
-
     module _ (inside : i < top) where
       next_signer : drop i (signers_of s) ≡ get_or s.list i 0 ∷ drop (i + 1) (signers_of s)
       next_signer = drop_at s.count s.list i 0 (omega (arith, inside, h.whole))
@@ -100,47 +55,46 @@ module _ {f : ℕ → List Claim} {s : Signers} {top : ℕ} where
       here : proposed_first (signed_through f (signers_of s)) ≡ proposed_first (or_else (f (get_or s.list i 0)) (signed_through f (drop (i + 1) (signers_of s))))
       here = h.ahead ∙ ap (λ l. proposed_first (signed_through f l)) next_signer
 
-      pub hearing_hit : {p : Proposal} → p ≡ grant_first (f (get_or s.list i 0)) → p.kind ≡ grant_kind
-          → ◌≡◌ {A = Proposed} (record { outcome = Accepted; proposal = p }) (proposed_first (signed_through f (signers_of s)))
-      hearing_hit {p} e k = signs (f (get_or s.list i 0)) (signed_through f (drop (i + 1) (signers_of s))) p e k ∙ sym here
+      -- what the signer g signs, who is read there
+      module _ {signed : Option Claim} {g : ℕ} (read : g ≡ get_or s.list i 0) (e : signed ≡ first_claim (f g)) where
+        signed_here : first_claim (f (get_or s.list i 0)) ≡ signed
+        signed_here = ap (λ k. first_claim (f k)) (sym read) ∙ sym e
 
-      pub hearing_miss : {p : Proposal} → p ≡ grant_first (f (get_or s.list i 0)) → (p.kind ≡ grant_kind → ⊥) → Hearing f s top (i + 1)
-      hearing_miss {p} e k =
-          record {
-            within = omega arith;
-            whole = h.whole;
-            ahead = here ∙ passes (f (get_or s.list i 0)) (signed_through f (drop (i + 1) (signers_of s))) p e k;
-          }
+        pub hearing_hit : {c : Claim} → signed ≡ Some c → proposes (a_grant c) ≡ proposed_first (signed_through f (signers_of s))
+        hearing_hit {c} some = signs (f (get_or s.list i 0)) (signed_through f (drop (i + 1) (signers_of s))) c (signed_here ∙ some) ∙ sym here
 
-    pub hearing_done : top ≤ i → unproposed NoProposal ≡ proposed_first (signed_through f (signers_of s))
-    hearing_done past =
-        let ended : length (signers_of s) ≤ i = omega (arith, past, h.whole) in
-        sym (h.ahead ∙ ap (λ l. proposed_first (signed_through f l)) (drop_of_length-le (signers_of s) ended))
+        pub hearing_miss : signed ≡ None → Hearing f s top (i + 1)
+        hearing_miss none =
+            record {
+              within = omega arith;
+              whole = h.whole;
+              ahead = here ∙ passes (f (get_or s.list i 0)) (signed_through f (drop (i + 1) (signers_of s))) (signed_here ∙ none);
+            }
 
 -- ---- what is drawn, step by step
 module _ (version : ℕ) (counts : Counts) (found : Findings) (s : List ℕ) (x : ℕ) (u : Usage) (moment : ℕ) (signers : Signers)
-    {grantors holders ends rooms : List ℕ} {step id rights : ℕ} {marks : List Bool} {answer : Proposed} where
+    {grantors holders ends rooms : List ℕ} {step id rights : ℕ} {marks : List Bool} {none : Claim} {answer : Proposed} where
   pub drawn_told : grantors ≡ column_of grantor_column s → holders ≡ column_of holder_column s → ends ≡ sheet_ends s found.ups counts.claims
       → step ≡ hands_taken version → rooms ≡ rooms_of step x found.ups grantors holders counts.claims
       → marks ≡ marks_by version u moment s ends rooms counts.claims
-      → id ≡ least_free (take counts.claims (claims_in s)) → rights ≡ worth_of u.right
+      → id ≡ least_free (take counts.claims (claims_in s)) → rights ≡ worth_of u.right → none ≡ no_claim
       → answer ≡ proposed_first (signed_through (signing_by counts found s marks (record {
         id = id;
-        parent = 0;
-        grantor = 0;
+        parent = none.parent;
+        grantor = none.grantor;
         holder = x;
         resource = u.resource;
         rights = rights;
-        weight = 0;
-        left = 0;
-        expiry = 0;
+        weight = none.weight;
+        left = none.left;
+        expiry = none.expiry;
       })) (signers_of signers))
       → answer ≡ proposed_first (drawn_by version counts found s x u moment (signers_of signers))
   unfolding drawn_by
-  drawn_told of-grantors of-holders of-ends of-step of-rooms of-marks of-id of-rights answered =
+  drawn_told of-grantors of-holders of-ends of-step of-rooms of-marks of-id of-rights of-none answered =
       let found_rooms : rooms ≡ rooms_by version counts found s x = of-rooms ∙ rw (of-step, of-grantors, of-holders) in
       let found_marks : marks ≡ marks_for version counts found s x u moment = of-marks ∙ rw (of-ends, found_rooms) in
-      answered ∙ rw (found_marks, of-id, of-rights)
+      answered ∙ rw (found_marks, of-id, of-rights, of-none)
 
 -- ---- the tests
 pub asked_told : (r : Register) (x : ℕ) (u : Usage) (moment : ℕ) (s : Signers) {sheet : List ℕ} {found : Findings} → Opened r sheet found
@@ -186,11 +140,11 @@ module _ (r : Register) (x : ℕ) (u : Usage) (moment : ℕ) where
       whole false = refl
 
 module _ (r : Register) (x : ℕ) (u : Usage) (moment : ℕ) (s : Signers) where
-  pub marks_stopped : (why : Refusal) → outcome_of (ask_tests r x u moment s) ≡ Refused why → unproposed why ≡ by_marks r x u moment s
+  pub marks_stopped : (why : Refusal) → outcome_of (ask_tests r x u moment s) ≡ Err why → unproposed why ≡ by_marks r x u moment s
   unfolding by_marks
   marks_stopped why e = sym (ap (λ o. by_marks_on o r x u moment s) e)
 
-  module _ (passed : outcome_of (ask_tests r x u moment s) ≡ Accepted) where
+  module _ (passed : outcome_of (ask_tests r x u moment s) ≡ Ok tt) where
     pub marks_permitted : permits r (one_use x u moment) ≡ true → proposes no_grant ≡ by_marks r x u moment s
     unfolding by_marks
     marks_permitted k = sym (ap (λ o. by_marks_on o r x u moment s) passed ∙ rw k)

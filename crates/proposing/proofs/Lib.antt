@@ -1,5 +1,4 @@
 pub mod Answering
-pub mod Leaves
 pub mod Marking
 pub mod Owned
 pub mod Owning

@@ -1,17 +1,14 @@
 -- What the marks of a register's claims and what is signed by them are in 02's words. Assumes nothing.
-use mathlib.Core.Path.{◌≡◌, refl, sym, ap, ◌∙◌, fun_ext}
-use mathlib.Core.Bool.{Bool, true, false, not, ◌&&◌, ◌||◌, cond, and-true, and-false}
-use mathlib.Core.List.{List, [], ◌∷◌, map, map-map}
-use Prim.Native.Nat.{ℕ, zero, suc, ◌-◌, ◌+◌, ◌≤◌, ◌<◌}
-use native.Mathlib.Omega.{arith}
-use borrow.Author.Tests.{lt-ltb, le-ltb}
-use lib.Dec.{eqb, ltb}
-use lib.ListN.{length, take, get_or, length-map, length-take}
+use Rattle.std.proofs.Common.{◌≡◌, refl, sym, ap, ◌∙◌, Bool, true, false, not, ◌&&◌, ◌||◌, cond, List, [], ◌∷◌, map, ℕ, zero, suc, ◌-◌, ◌+◌, ◌≤◌, ◌<◌, arith, lt-ltb, le-ltb, eqb, ltb, length, take, get_or, length-take}
+use mathlib.Core.Path.{fun_ext}
+use mathlib.Core.Bool.{and-true, and-false}
+use mathlib.Core.List.{map-map}
+use lib.ListN.{length-map}
 use Rattle.lists.specs.Tests.{cases}
 use Rattle.lists.specs.Lists.{All, counted}
 use Rattle.lists.specs.Each.{all_imp, all_none}
 use Rattle.lists.specs.Counts.{counted_below, counted_first}
-use Rattle.lists.specs.Fills.{filled_at, filled_length}
+use Rattle.lists.specs.Fills.{filled_at}
 use Rattle.rights.specs.Rights.{delegating, has_right, bars_machine, worth_of}
 use Rattle.register.specs.Limits.{claim_limit, left_limit, weight_limit, moment_end, tells_left}
 use Rattle.register.specs.Register.{claims_of, no_claim, Shaped}
@@ -63,11 +60,6 @@ first_alike p q [] h = first_nothing p ∙ sym (first_nothing q)
 first_alike p q (a ∷ L) h =
     cases (q a) (λ e. first_hit p a L (h.0 ∙ e) ∙ sym (first_hit q a L e))
     (λ e. first_miss p a L (h.0 ∙ e) ∙ first_alike p q L h.1 ∙ sym (first_miss q a L e))
-
--- there are as many marks as claims may stand
-pub marks_long : (version : ℕ) (u : Usage) (moment : ℕ) (s ends rooms : List ℕ) (n : ℕ) → n ≤ claim_limit → length (marks_by version u moment s ends rooms n) ≡ claim_limit
-unfolding marks_by
-marks_long version u moment s ends rooms n few = filled_length claim_limit (mark_at version u moment s ends rooms) n false few
 
 -- ---- what is left after so many steps
 

@@ -1,5 +1,5 @@
 -- What owning an array of structs tells of each of its elements. Assumes nothing.
-use mathlib.Core.List.{List, [], ◌∷◌}
+use Rattle.std.proofs.Common.{List, [], ◌∷◌}
 use mir.Val.{Val}
 use base.Fml.{Fml}
 use denote.Shadow.{shadow}

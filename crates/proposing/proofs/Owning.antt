@@ -1,12 +1,7 @@
 -- Whether a machine's owner is permitted the use, by the owner's number, and whether the used path contains itself, by its place. Assumes nothing.
-use mathlib.Core.Path.{◌≡◌, refl, sym, ap, ◌∙◌}
-use mathlib.Core.Bool.{Bool, true, false, not, ◌&&◌}
-use mathlib.Core.List.{List, map}
-use Prim.Native.Nat.{ℕ, ◌≤◌, ◌<◌, min}
-use native.Mathlib.Omega.{arith}
-use borrow.Author.Tests.{eq-eqb, eqb-true, eqb-false, lt-ltb, le-ltb}
-use lib.Dec.{eqb}
-use lib.ListN.{take, get_or, get_or-map}
+use Rattle.std.proofs.Common.{Option, ℕ, None, Some, ◌≡◌, refl, sym, ap, ◌∙◌, Bool, true, false, not, ◌&&◌, List, map, ◌≤◌, ◌<◌, min, arith, eq-eqb, eqb-true, lt-ltb, le-ltb, eqb, take, get_or}
+use borrow.Author.Tests.{eqb-false}
+use lib.ListN.{get_or-map}
 use Rattle.lists.specs.Tests.{cases, clash, and_left, and_right, and_both}
 use Rattle.lists.specs.Lists.{any, distinct}
 use Rattle.lists.specs.Each.{none_weaken}
@@ -18,8 +13,6 @@ use Rattle.register.specs.declared.Resource.{Resource}
 use Rattle.register.specs.declared.Register.{Register}
 use Rattle.columns.specs.Columns.{actor_id, actor_owner, resource_id, actors_to, resources_to, latest_place, beside}
 use Rattle.columns.specs.Laws.{up_to_first, up_to_at, place_cases, place_found_lem}
-use Rattle.columns.specs.declared.Place.{Place}
-use Rattle.columns.specs.declared.Place.TheVariants.{At, Nowhere}
 use Rattle.lookup.specs.Asked.{asked_at, asked_natural}
 use Rattle.soundness_rules.specs.Sound.{sound}
 use Rattle.soundness_rules.proofs.Registers.{sound_out}
@@ -68,15 +61,15 @@ module _ (r : Register) (h : sound r ≡ true) (x : ℕ) where
   people_apart = rw standing_people (sound_out r h).actors.apart
 
   -- at a place of x stands the owner's number of the actor numbered x
-  owner_read : (b : Actor) (p : Place) → asked_at no_actor people (λ a. eqb b.owner a.owner) p ≡ true → owner_at (map actor_owner people) p ≡ b.owner
-  owner_read b (At j) e =
+  owner_read : (b : Actor) (p : Option ℕ) → asked_at no_actor people (λ a. eqb b.owner a.owner) p ≡ true → owner_at (map actor_owner people) p ≡ b.owner
+  owner_read b (Some j) e =
       get_or-map actor_owner people j no_actor ∙ sym (eqb-true b.owner (get_or people j no_actor).owner e)
-  owner_read b Nowhere e = clash false e refl
+  owner_read b None e = clash false e refl
 
   module _ (b : Actor) (at : IsIn (actors_of r.actors) b) (named : x ≡ b.id) where
     found_owner : owner_found ≡ b.owner
     found_owner =
-        let p : Place = latest_place (map actor_id people) r.actors.count x in
+        let p : (Option ℕ) = latest_place (map actor_id people) r.actors.count x in
         let test : Actor → Bool = λ a. eqb x a.id && eqb b.owner a.owner in
         let here : any test (take r.actors.count people) ≡ true =
         rw standing_people (place_any test (actors_of r.actors) b at
@@ -175,7 +168,7 @@ module _ (r : Register) (h : sound r ≡ true) (x : ℕ) where
   abbrev things : List Resource
   things = (resources_to r.resources).list
 
-  abbrev place_found : Place
+  abbrev place_found : Option ℕ
   place_found = latest_place (map resource_id things) r.resources.count x
 
   standing_things : take r.resources.count things ≡ resources_of r.resources
@@ -186,7 +179,7 @@ module _ (r : Register) (h : sound r ≡ true) (x : ℕ) where
       ap (any (λ o. eqb x o.id && q o)) (sym standing_things)
       ∙ asked_natural resource_id no_resource refl things x q r.resources.count (rw standing_things (sound_out r h).resources.apart)
 
-  itself : Place → Bool
+  itself : Option ℕ → Bool
   itself p = asked_at no_resource things (λ o. asked_at no_resource things (λ i. contained (path_of o) (path_of i)) p) p
 
   contains_itself : contains r x x ≡ itself place_found
@@ -195,10 +188,10 @@ module _ (r : Register) (h : sound r ≡ true) (x : ℕ) where
       thing_asked (λ o. any (λ i. eqb x i.id && contained (path_of o) (path_of i)) (resources_of r.resources))
       ∙ inner place_found
     where
-      inner : (p : Place) → asked_at no_resource things (λ o. any (λ i. eqb x i.id && contained (path_of o) (path_of i)) (resources_of r.resources)) p
+      inner : (p : Option ℕ) → asked_at no_resource things (λ o. any (λ i. eqb x i.id && contained (path_of o) (path_of i)) (resources_of r.resources)) p
           ≡ asked_at no_resource things (λ o. asked_at no_resource things (λ i. contained (path_of o) (path_of i)) place_found) p
-      inner (At j) = thing_asked (λ i. contained (path_of (get_or things j no_resource)) (path_of i))
-      inner Nowhere = refl
+      inner (Some j) = thing_asked (λ i. contained (path_of (get_or things j no_resource)) (path_of i))
+      inner None = refl
 
   -- the used path contains itself where it does so at its place
   pub clean_natural : clean_at r.resources (spot_in (map resource_id things) r.resources.count x) ≡ contains r x x
@@ -213,3 +206,11 @@ module _ (r : Register) (h : sound r ≡ true) (x : ℕ) where
       ∙ sym (contains_itself ∙ ap itself e)))
       (λ e. let past : min r.resources.count resource_limit ≤ resource_limit = omega arith in
       rw (e, le-ltb resource_limit (min r.resources.count resource_limit) past) (sym (contains_itself ∙ ap itself e)))
+
+  -- it is told at the place where the resource is found
+  pub clean_told : {s : List ℕ} {found : Findings} → Opened r s found → {spot : ℕ} {clean : Bool} → spot ≡ spot_in found.resources.reports r.resources.count x
+      → clean ≡ clean_at r.resources spot → clean ≡ contains r x x
+  clean_told opened of-spot of-clean =
+      of-clean
+      ∙ ap (clean_at r.resources) (of-spot ∙ ap (λ l. spot_in l.reports r.resources.count x) (judged_resources r opened))
+      ∙ clean_natural

@@ -1,13 +1,7 @@
 -- A loop from the front that looks for the first marked claim of a signer. Assumes nothing.
-use mathlib.Core.Path.{◌≡◌, refl, sym, ap, ◌∙◌}
-use mathlib.Core.Bool.{Bool, true, false}
-use mathlib.Core.List.{List, [], ◌∷◌}
-use Prim.Native.Nat.{ℕ, suc, ◌+◌, ◌-◌, ◌≤◌, ◌<◌}
+use Rattle.std.proofs.Common.{None, Some, ◌≡◌, refl, sym, ap, ◌∙◌, Bool, true, false, List, [], ◌∷◌, ℕ, suc, ◌+◌, ◌-◌, ◌≤◌, ◌<◌, add-one, arith}
 use native.Mathlib.Nat.{sub-zero}
-use native.Mathlib.Numerals.{add-one}
-use native.Mathlib.Omega.{arith}
 use Rattle.lists.specs.Lists.{counted}
-use Rattle.columns.specs.declared.Place.TheVariants.{At, Nowhere}
 use Rattle.gate_rules.specs.Gate.{first_of}
 use Rattle.gate_rules.specs.Places.{first_hit, first_miss, first_none}
 use Rattle.proposing.specs.Planned.{place_first, marked_of, first_marked}
@@ -27,7 +21,7 @@ module _ {holders : List ℕ} {marks : List Bool} {n g : ℕ} where
       one_more : counted i (n - i) ≡ i ∷ counted (suc i) (n - suc i)
       one_more = let one : n - i ≡ suc (n - suc i) = omega arith in ap (counted i) one
 
-      pub passing_hit : marked_of holders marks g i ≡ true → At i ≡ place_first (first_marked holders marks n g)
+      pub passing_hit : marked_of holders marks g i ≡ true → Some i ≡ place_first (first_marked holders marks n g)
       passing_hit e =
           ap place_first (sym (s.ahead ∙ ap (first_of (marked_of holders marks g)) one_more
           ∙ first_hit (marked_of holders marks g) i (counted (suc i) (n - suc i)) e))
@@ -41,7 +35,7 @@ module _ {holders : List ℕ} {marks : List Bool} {n g : ℕ} where
                 ∙ ap (λ k. first_of (marked_of holders marks g) (counted k (n - k))) (sym (add-one i));
           }
 
-    pub passing_done : n ≤ i → Nowhere ≡ place_first (first_marked holders marks n g)
+    pub passing_done : n ≤ i → None ≡ place_first (first_marked holders marks n g)
     passing_done h =
         let none : n - i ≡ 0 = omega arith in
         ap place_first (sym (s.ahead ∙ ap (λ k. first_of (marked_of holders marks g) (counted i k)) none

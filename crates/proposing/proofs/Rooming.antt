@@ -1,14 +1,9 @@
 -- How many more hands each claim may pass through before an actor, found claim by claim, each by its parent's; and what it is by the chain above the claim.
 -- Assumes nothing.
-use mathlib.Core.Path.{◌≡◌, refl, sym, ap, ◌∙◌}
-use mathlib.Core.Bool.{Bool, true, false, ◌||◌, cond, or-false, or_assoc}
-use mathlib.Core.List.{List, [], ◌∷◌, ◌++◌}
-use Prim.Native.Nat.{ℕ, zero, suc, ◌+◌, ◌-◌, ◌≤◌, ◌<◌}
-use native.Mathlib.Numerals.{add-one}
-use native.Mathlib.Omega.{arith}
-use borrow.Author.Tests.{eqb-true, eqb-false, lt-ltb, le-ltb, ltb-true, ltb-false}
-use lib.Dec.{eqb, ltb}
-use lib.ListN.{length, get_or, set, replicate, length-append, length-replicate, get_or-append}
+use Rattle.std.proofs.Common.{◌≡◌, refl, sym, ap, ◌∙◌, Bool, true, false, ◌||◌, cond, List, [], ◌∷◌, ◌++◌, ℕ, zero, suc, ◌+◌, ◌-◌, ◌≤◌, ◌<◌, add-one, arith, eqb-true, lt-ltb, le-ltb, ltb-true, ltb-false, eqb, ltb, length, get_or, set, replicate, length-append}
+use mathlib.Core.Bool.{or-false, or_assoc}
+use borrow.Author.Tests.{eqb-false}
+use lib.ListN.{get_or-append}
 use lib.Seq.{get_or_at}
 use Rattle.lists.specs.Tests.{cases}
 use Rattle.lists.specs.Lists.{any}
@@ -55,11 +50,6 @@ module _ (step x : ℕ) (ups grantors holders : List ℕ) where
   pub rooms_read : (n i : ℕ) → i < n → get_or (rooms_of step x ups grantors holders n) i 0 ≡ room_at i
   unfolding rooms_of
   rooms_read n i h = get_or-append (before n) (replicate (claim_limit - n) 0) 0 i (omega (arith, rooms_length n)) ∙ rooms_at n i h
-
-  pub rooms_long : (n : ℕ) → n ≤ claim_limit → length (rooms_of step x ups grantors holders n) ≡ claim_limit
-  unfolding rooms_of
-  rooms_long n few =
-      length-append (before n) (replicate (claim_limit - n) 0) ∙ rw (rooms_length n, length-replicate) (omega (arith, few))
 
 -- ---- the loop
 

@@ -1,15 +1,8 @@
 -- Which numbers are ids, told id by id, and the least that is none. Assumes nothing.
-use mathlib.Core.Path.{◌≡◌, refl, sym, ap, ◌∙◌}
-use mathlib.Core.Bool.{Bool, true, false, ◌||◌, or-true, or-false}
-use mathlib.Core.List.{List, [], ◌∷◌, ◌++◌}
-use Prim.Native.Nat.{ℕ, suc, ◌+◌, ◌-◌, ◌≤◌, ◌<◌}
-use native.Mathlib.Nat.{zero-add}
-use native.Mathlib.Numerals.{add-one}
-use native.Mathlib.Omega.{arith}
-use borrow.Author.Tests.{ne_eqb, eqb-true, eqb-false}
-use lib.Dec.{eqb}
-use lib.ListN.{length, take, get_or, set, replicate, length-map, length-set, length-take}
-use lib.Seq.{take-suc, get_or-set_same, get_or-set_other, ext_get_or}
+use Rattle.std.proofs.Common.{◌≡◌, refl, sym, ap, ◌∙◌, Bool, true, false, ◌||◌, List, [], ◌∷◌, ◌++◌, ℕ, suc, ◌+◌, ◌-◌, ◌≤◌, ◌<◌, zero-add, add-one, arith, ne_eqb, eqb-true, eqb, length, take, get_or, set, replicate, length-set, length-take, take-suc, get_or-set_same, get_or-set_other, ext_get_or}
+use mathlib.Core.Bool.{or-true, or-false}
+use borrow.Author.Tests.{eqb-false}
+use lib.ListN.{length-map}
 use Rattle.lists.specs.Tests.{cases}
 use Rattle.lists.specs.Lists.{any, counted}
 use Rattle.lists.specs.Each.{any_append}
@@ -75,20 +68,18 @@ module _ {ids : List ℕ} {n : ℕ} where
       one_more : take (i + 1) ids ≡ take i ids ++ (get_or ids i 0 ∷ [])
       one_more = ap (λ k. take k ids) (add-one i) ∙ take-suc ids i 0 (omega (arith, s.long))
 
-      pub using_hit : get_or ids i 0 < ids_tried → Using ids n (set used (get_or ids i 0) true) (i + 1)
-      using_hit small =
-          record {
-            within = omega arith;
-            long = s.long;
-            told = ap (λ l. set l (get_or ids i 0) true) s.told ∙ used_more (take i ids) (get_or ids i 0) small ∙ ap ids_used (sym one_more);
-          }
+      module _ {id : ℕ} (read : id ≡ get_or ids i 0) where
+        pub using_hit : id < ids_tried → Using ids n (set used id true) (i + 1)
+        using_hit small =
+            record {
+              within = omega arith;
+              long = s.long;
+              told = ap (λ l. set l id true) s.told ∙ used_more (take i ids) id small ∙ ap ids_used (rw read (sym one_more));
+            }
 
-      pub using_past : ids_tried ≤ get_or ids i 0 → Using ids n used (i + 1)
-      using_past great =
-          record { within = omega arith; long = s.long; told = s.told ∙ used_other (take i ids) (get_or ids i 0) great ∙ ap ids_used (sym one_more) }
-
-    pub using_done : n ≤ i → used ≡ ids_used (take n ids)
-    using_done h = let end : i ≡ n = omega (arith, s.within) in s.told ∙ ap (λ k. ids_used (take k ids)) end
+        pub using_past : ids_tried ≤ id → Using ids n used (i + 1)
+        using_past great =
+            record { within = omega arith; long = s.long; told = s.told ∙ used_other (take i ids) id great ∙ ap ids_used (rw read (sym one_more)) }
 
 -- ---- the loop over the numbers
 
@@ -139,9 +130,6 @@ module _ {s : List ℕ} {n : ℕ} {used : List Bool} where
     one_less : id ≤ n → n + 1 - id ≡ suc (n + 1 - suc id)
     one_less h = omega (arith, h)
 
-    pub trying_small : id < 258
-    trying_small = omega (arith, t.most, t.few)
-
     pub trying_next : id ≤ n → get_or used id false ≡ true → Trying s n used (id + 1)
     trying_next h e =
         record {
@@ -162,7 +150,9 @@ module _ {s : List ℕ} {n : ℕ} {used : List Bool} where
         ∙ ap (λ k. free_from k id (take n (claims_in s))) (one_less h)
         ∙ free_found (take n (claims_in s)) (n + 1 - suc id) id (sym (told_read h) ∙ e))
 
-    pub trying_done : n < id → id ≡ least_free (take n (claims_in s))
+    -- after the last one the next is free
+    pub trying_done : n < id → n + 1 ≡ least_free (take n (claims_in s))
     trying_done h =
         let none : n + 1 - id ≡ 0 = omega (arith, h, t.most) in
-        sym (t.ahead ∙ ap (λ k. free_from k id (take n (claims_in s))) none ∙ free_last (take n (claims_in s)) id)
+        let next : n + 1 ≡ id = omega (arith, h, t.most) in
+        next ∙ sym (t.ahead ∙ ap (λ k. free_from k id (take n (claims_in s))) none ∙ free_last (take n (claims_in s)) id)

@@ -1,20 +1,18 @@
 -- Working: The planner by columns: the claims under which a claim of the actor may be drawn, the least free id, and what each signer would sign. It is
 -- shaped for the code; what it comes to is `planned_proposed` of proposals/Planning, by the contract of `propose`.
-use Rattle.std.specs.Prelude.{Bool, false, not, ◌&&◌, ◌||◌, cond, List, [], ◌∷◌, ◌++◌, map, ℕ, zero, suc, ◌-◌, min, eqb, ltb, take, get_or, replicate}
+use Rattle.std.specs.Prelude.{Option, Some, None, Bool, false, not, ◌&&◌, ◌||◌, cond, List, [], ◌∷◌, ◌++◌, map, ℕ, zero, suc, ◌-◌, min, eqb, ltb, take, get_or, replicate}
 use Rattle.lists.specs.Lists.{any, counted}
 use Rattle.lists.specs.Fills.{filled_by}
 use Rattle.rights.specs.Rights.{delegating, has_right, bars_machine, worth_of}
 use Rattle.paths.specs.Containment.{contained}
 use Rattle.register.specs.Limits.{resource_limit, claim_limit, weight_limit, left_limit, machine_kind, tells_left}
-use Rattle.register.specs.Register.{path_of, no_resource, no_claim, Shaped}
+use Rattle.register.specs.Register.{path_of, no_resource, Shaped}
 use Rattle.register.specs.declared.Claim.{Claim}
 use Rattle.register.specs.declared.Resources.{Resources}
 use Rattle.register.specs.declared.Register.{Register}
 use Rattle.columns.specs.Columns.{beside}
 use Rattle.columns.specs.Sheet.{column_of, claim_at, claims_in, grantor_column, holder_column}
 use Rattle.columns.specs.declared.ActorColumns.{ActorColumns}
-use Rattle.columns.specs.declared.Place.{Place}
-use Rattle.columns.specs.declared.Place.TheVariants.{At, Nowhere}
 use Rattle.refusals.specs.Refusals.{Test}
 use Rattle.refusals.specs.declared.Refusal.TheVariants.{Unsound, Range, Absent}
 use Rattle.actions.specs.declared.Usage.{Usage}
@@ -23,10 +21,9 @@ use Rattle.soundness.specs.Opened.{Opened}
 use Rattle.soundness.specs.declared.Findings.{Findings}
 use Rattle.gate.specs.Judged.{sheet_ends}
 use Rattle.gate.specs.declared.Counts.{Counts}
-use Rattle.proposals.specs.Proposals.{least_free, a_grant}
+use Rattle.proposals.specs.Proposals.{least_free}
 use Rattle.proposals.specs.Marks.{or_else}
 use Rattle.proposals.specs.Asked.{Asked}
-use Rattle.proposals.specs.declared.Proposal.{Proposal}
 
 -- the tests of the call by what was found out for each
 abbrev pub tests_on : Bool → Bool → Bool → List Test
@@ -94,9 +91,9 @@ unfoldable pub marks_by : ℕ → Usage → ℕ → List ℕ → List ℕ → Li
 marks_by version u moment s ends rooms n = filled_by claim_limit (mark_at version u moment s ends rooms) n false
 
 -- the first place of a list of places
-abbrev pub place_first : List ℕ → Place
-place_first [] = Nowhere
-place_first (j ∷ l) = At j
+abbrev pub place_first : List ℕ → Option ℕ
+place_first [] = None
+place_first (j ∷ l) = Some j
 
 -- the first marked claim of g, among the first n
 abbrev pub marked_of : List ℕ → List Bool → ℕ → ℕ → Bool
@@ -146,10 +143,10 @@ abbrev pub signed_through : (ℕ → List Claim) → List ℕ → List Claim
 signed_through f [] = []
 signed_through f (g ∷ gs) = or_else (f g) (signed_through f gs)
 
--- a grant of the first of a list, and neither kind where there is none
-abbrev pub grant_first : List Claim → Proposal
-grant_first [] = record { kind = 0; claim = no_claim }
-grant_first (c ∷ cs) = a_grant c
+-- the first of a list of claims, if there is one
+abbrev pub first_claim : List Claim → Option Claim
+first_claim [] = None
+first_claim (c ∷ cs) = Some c
 
 -- what the actor would be granted, but for who grants it, under what and with which weight
 abbrev pub blank_for : List ℕ → ℕ → ℕ → Usage → Claim

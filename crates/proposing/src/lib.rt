@@ -6,27 +6,33 @@
 // keeper signs a root, any other below his first marked claim. No grant is tried.
 #![tactic(auto)]
 
-ghost use Rattle.std.specs.Prelude.{◌≡◌, false, ◌≤◌, length, take};
+ghost use Rattle.std.specs.Prelude.{◌≡◌, false, ◌≤◌, length, take, Ok};
 ghost use Rattle.register.specs.Limits.{claim_limit};
 ghost use Rattle.register.specs.Register.{path_of};
 ghost use Rattle.paths.specs.Containment.{contained};
 ghost use Rattle.columns.specs.Sheet.{sheet_limit, claims_in};
 ghost use Rattle.refusals.specs.Refusals.{outcome_of};
 ghost use Rattle.actions.specs.Actions.{one_use, is_permitted};
-ghost use Rattle.refusals.specs.declared.Outcome.TheVariants.{Accepted};
 ghost use Rattle.soundness.specs.Opened.{Opened};
 ghost use Rattle.proposals.specs.Proposals.{signers_of, ask_tests, permits, least_free, no_grant, a_grant, proposes, unproposed, proposed_first, proposed};
 ghost use Rattle.proposals.specs.Marks.{clear, by_marks};
-ghost use Rattle.proposing.specs.Planned.{tests_on, Ready, clean_at, owner_allows, hands_taken, room_of_root, room_under, rooms_of, marked_by, marks_by, place_first, first_marked, ids_used, signed_as, may_sign_by, signing_by, signed_through, grant_first, drawn_by};
+ghost use Rattle.proposing.specs.Planned.{tests_on, Ready, clean_at, owner_allows, hands_taken, room_of_root, room_under, rooms_of, marked_by, marks_by, place_first, first_marked, ids_used, signed_as, may_sign_by, signing_by, signed_through, first_claim, drawn_by};
 
 use actions::{Decision, Usage};
-use columns::{ActorColumns, Place};
+use columns::ActorColumns;
 use gate::Counts;
-use paths::Reach;
 use proposals::{Proposal, Proposed, Signers};
-use refusals::{Outcome, Refusal};
+use refusals::Refusal;
 use register::{Actor, Claim, Register, Resource, Resources};
 use soundness::Findings;
+
+// What is asked: whose use it is, which, and when.
+#[derive(Clone, Copy)]
+struct Ask {
+    actor: u32,
+    usage: Usage,
+    moment: u64,
+}
 
 // How many numbers are looked at for a free id: one more than there may be claims, and 0.
 const TRIED: usize = 257;
@@ -34,19 +40,19 @@ const TRIED: usize = 257;
 // ---- the tests
 
 // Tests 1, 2 and 3, by what was found out for each.
-fn asked(sound: bool, inside: bool, known: bool) -> Outcome
+fn asked(sound: bool, inside: bool, known: bool) -> Result<(), Refusal>
     ensures { result ≡ outcome_of (tests_on sound inside known) }
 {
     if !sound {
-        return Outcome::Refused(Refusal::Unsound);
+        return Err(Refusal::Unsound);
     }
     if !inside {
-        return Outcome::Refused(Refusal::Range);
+        return Err(Refusal::Range);
     }
     if !known {
-        return Outcome::Refused(Refusal::Absent);
+        return Err(Refusal::Absent);
     }
-    Outcome::Accepted
+    Ok(())
 }
 
 // A refusal, beside which stands neither kind of proposal.
@@ -54,7 +60,7 @@ fn refused(why: Refusal) -> Proposed
     ensures { result ≡ unproposed why }
 {
     Proposed {
-        outcome: Outcome::Refused(why),
+        outcome: Err(why),
         proposal: Proposal {
             kind: 0,
             claim: Claim::none(),
@@ -67,7 +73,7 @@ fn no_grant() -> Proposed
     ensures { result ≡ proposes no_grant }
 {
     Proposed {
-        outcome: Outcome::Accepted,
+        outcome: Ok(()),
         proposal: Proposal {
             kind: Proposal::NO_GRANT,
             claim: Claim::none(),
@@ -79,11 +85,7 @@ fn no_grant() -> Proposed
 fn is_permitted(d: Decision) -> bool
     ensures { result ≡ is_permitted d }
 {
-    match d {
-        Decision::Permitted => true,
-        Decision::Refused => false,
-        Decision::Stopped(_) => false,
-    }
+    matches!(d, Decision::Permitted)
 }
 
 // ---- what must hold whoever signs
@@ -92,12 +94,11 @@ fn is_permitted(d: Decision) -> bool
 fn contains_itself(o: Resource) -> bool
     ensures { result ≡ contained (path_of o) (path_of o) }
 {
-    let len = lists::least(o.len as usize, Register::PATH);
-    let p = o.path;
-    let s: &[u8] = &p;
-    match paths::contains(&s[..len], &s[..len]) {
-        Reach::Outside => false,
-        Reach::Inside(_) => true,
+    let len = (o.len as usize).min(Register::PATH);
+    let path = &o.path[..len];
+    match paths::contains(path, path) {
+        None => false,
+        Some(_) => true,
     }
 }
 
@@ -105,12 +106,7 @@ fn contains_itself(o: Resource) -> bool
 fn is_clean(k: Resources, spot: usize) -> bool
     ensures { result ≡ clean_at k spot }
 {
-    if spot < lists::least(k.count, Register::RESOURCES) {
-        let o = k.list[spot];
-        contains_itself(o)
-    } else {
-        false
-    }
+    spot < k.count.min(Register::RESOURCES) && contains_itself(k.list[spot])
 }
 
 // Whether the actor is no machine, or one with an owner who is permitted the use.
@@ -144,29 +140,22 @@ fn gate_permits(
 }
 
 // Whether anything may be signed at all: there is room for a claim, the used path has no `..`, and the owner of a machine is permitted the use.
-fn is_clear(
-    r: Register,
-    sheet: &[u32],
-    found: Findings,
-    actor: u32,
-    usage: Usage,
-    moment: u64,
-) -> bool
-    requires { Ready r sheet.now found actor usage moment }
-    ensures { result ≡ clear r actor usage moment }
+fn is_clear(r: Register, sheet: &[u32], found: Findings, ask: Ask) -> bool
+    requires { Ready r sheet.now found ask.actor ask.usage ask.moment }
+    ensures { result ≡ clear r ask.actor ask.usage ask.moment }
 {
     if Register::CLAIMS <= r.claims.count {
         return false;
     }
     let k = r.resources;
-    let spot = coverage::spot(&found.resources.reports, k.count, usage.resource);
+    let spot = coverage::spot(&found.resources.reports, k.count, ask.usage.resource);
     if !is_clean(k, spot) {
         return false;
     }
     let n = r.actors.count;
-    let owner = gate::owner_of(&found.actors.names, &found.actors.owners, n, actor);
-    let permitted = gate_permits(r, sheet, found, owner, usage, moment);
-    owner_allows(found.actors, n, actor, owner, permitted)
+    let owner = gate::owner_of(&found.actors.names, &found.actors.owners, n, ask.actor);
+    let permitted = gate_permits(r, sheet, found, owner, ask.usage, ask.moment);
+    owner_allows(found.actors, n, ask.actor, owner, permitted)
 }
 
 // ---- the marks
@@ -209,15 +198,12 @@ fn rooms<'a>(
     ensures { result ≡ rooms_of step x ups.now grantors.now holders.now n }
 {
     let mut found = [0u32; Register::CLAIMS];
-    let mut i: usize = 0;
-    while i < n {
+    for i in 0..n {
         let up = ups[i] as usize;
         if up < i {
             found[i] = room_under(step, holders[i], x, found[up]);
-            i += 1;
         } else {
             found[i] = room_of_root(grantors[i], holders[i], x);
-            i += 1;
         }
     }
     found
@@ -249,28 +235,24 @@ fn marks<'a>(
     ensures { result ≡ marks_by version usage moment sheet.now ends.now rooms.now n }
 {
     let mut found = [false; Register::CLAIMS];
-    let mut i: usize = 0;
-    while i < n {
+    for i in 0..n {
         let c = columns::claim_at(sheet, i);
         found[i] = is_marked(version, usage, moment, c, ends[i], rooms[i]);
-        i += 1;
     }
     found
 }
 
 // The first place among the first `n` at which `g` holds a marked claim.
-fn first_marked<'a>(holders: &'a [u32], marks: &'a [bool], n: usize, g: u32) -> Place
+fn first_marked<'a>(holders: &'a [u32], marks: &'a [bool], n: usize, g: u32) -> Option<usize>
     requires { (n ≤ claim_limit) × (length holders.now ≡ claim_limit) × (length marks.now ≡ claim_limit) }
     ensures { result ≡ place_first (first_marked holders.now marks.now n g) }
 {
-    let mut i: usize = 0;
-    while i < n {
+    for i in 0..n {
         if (holders[i] == g) & marks[i] {
-            return Place::At(i);
+            return Some(i);
         }
-        i += 1;
     }
-    Place::Nowhere
+    None
 }
 
 // ---- the least free id
@@ -281,14 +263,10 @@ fn used_ids(ids: &[u32], n: usize) -> [bool; TRIED]
     ensures { result ≡ ids_used (take n ids.now) }
 {
     let mut used = [false; TRIED];
-    let mut i: usize = 0;
-    while i < n {
-        let id = ids[i] as usize;
-        if id < TRIED {
-            used[id] = true;
-            i += 1;
-        } else {
-            i += 1;
+    for id in &ids[..n] {
+        let at = *id as usize;
+        if at < TRIED {
+            used[at] = true;
         }
     }
     used
@@ -300,15 +278,12 @@ fn least_free(sheet: &[u32], n: usize) -> u32
     ensures { result ≡ least_free (take n (claims_in sheet.now)) }
 {
     let used = used_ids(columns::column(sheet, columns::IDS), n);
-    let mut id: usize = 1;
-    while id <= n {
-        if used[id] {
-            id += 1;
-        } else {
+    for id in 1..=n {
+        if !used[id] {
             return id as u32;
         }
     }
-    id as u32
+    (n + 1) as u32
 }
 
 // ---- the signers
@@ -318,15 +293,10 @@ fn signed_as(blank: Claim, g: u32, parent: u32, weight: u32) -> Claim
     ensures { result ≡ signed_as blank g parent weight }
 {
     Claim {
-        id: blank.id,
         parent,
         grantor: g,
-        holder: blank.holder,
-        resource: blank.resource,
-        rights: blank.rights,
         weight,
-        left: blank.left,
-        expiry: blank.expiry,
+        ..blank
     }
 }
 
@@ -343,27 +313,20 @@ fn may_sign(actors: ActorColumns, h: usize, rights: u32, g: u32) -> bool
     !rights::bars_machine(rights)
 }
 
-// A grant of a claim.
-fn grant_of(c: Claim) -> Proposal
-    ensures { result ≡ a_grant c }
+// A claim is to be granted.
+fn granted(c: Claim) -> Proposed
+    ensures { result ≡ proposes (a_grant c) }
 {
-    Proposal {
-        kind: Proposal::GRANT,
-        claim: c,
+    Proposed {
+        outcome: Ok(()),
+        proposal: Proposal {
+            kind: Proposal::GRANT,
+            claim: c,
+        },
     }
 }
 
-// Neither kind of proposal.
-fn nothing() -> Proposal
-    ensures { result ≡ (unproposed Refusal.NoProposal).proposal }
-{
-    Proposal {
-        kind: 0,
-        claim: Claim::none(),
-    }
-}
-
-// What `g` would sign: the keeper a root, another below his first marked claim; neither kind where that is nothing.
+// What `g` would sign: the keeper a root, another below his first marked claim; None where that is nothing.
 fn signed_by<'a>(
     counts: Counts,
     found: Findings,
@@ -371,9 +334,9 @@ fn signed_by<'a>(
     marks: &'a [bool],
     blank: Claim,
     g: u32,
-) -> Proposal
+) -> Option<Claim>
     requires { (counts.claims ≤ claim_limit) × (length sheet.now ≡ sheet_limit) × (length marks.now ≡ claim_limit) }
-    ensures { result ≡ grant_first (signing_by counts found sheet.now marks.now blank g) }
+    ensures { result ≡ first_claim (signing_by counts found sheet.now marks.now blank g) }
 {
     let kept = columns::is_beside(
         &found.resources.reports,
@@ -383,18 +346,18 @@ fn signed_by<'a>(
         g,
     );
     if kept {
-        return grant_of(signed_as(blank, g, 0, register::WEIGHT_LIMIT));
+        return Some(signed_as(blank, g, 0, register::WEIGHT_LIMIT));
     }
     if !may_sign(found.actors, counts.actors, blank.rights, g) {
-        return nothing();
+        return None;
     }
     let holders = columns::column(sheet, columns::HOLDERS);
     let place = first_marked(holders, marks, counts.claims, g);
     match place {
-        Place::Nowhere => nothing(),
-        Place::At(j) => {
+        None => None,
+        Some(j) => {
             let p = columns::claim_at(sheet, j);
-            grant_of(signed_as(blank, g, p.id, p.weight))
+            Some(signed_as(blank, g, p.id, p.weight))
         }
     }
 }
@@ -411,17 +374,11 @@ fn sign<'a>(
     requires { (counts.claims ≤ claim_limit) × (length sheet.now ≡ sheet_limit) × (length marks.now ≡ claim_limit) }
     ensures { result ≡ proposed_first (signed_through (signing_by counts found sheet.now marks.now blank) (signers_of s)) }
 {
-    let top = lists::least(s.count, Signers::MOST);
-    let mut i: usize = 0;
-    while i < top {
-        let proposal = signed_by(counts, found, sheet, marks, blank, s.list[i]);
-        if proposal.kind == Proposal::GRANT {
-            return Proposed {
-                outcome: Outcome::Accepted,
-                proposal,
-            };
+    let top = s.count.min(Signers::MOST);
+    for g in &s.list[..top] {
+        if let Some(claim) = signed_by(counts, found, sheet, marks, blank, *g) {
+            return granted(claim);
         }
-        i += 1;
     }
     refused(Refusal::NoProposal)
 }
@@ -443,31 +400,25 @@ fn draw(
     counts: Counts,
     found: Findings,
     sheet: &[u32],
-    actor: u32,
-    usage: Usage,
-    moment: u64,
+    ask: Ask,
     signers: Signers,
 ) -> Proposed
     requires { (counts.claims ≤ claim_limit) × (length sheet.now ≡ sheet_limit) }
-    ensures { result ≡ proposed_first (drawn_by version counts found sheet.now actor usage moment (signers_of signers)) }
+    ensures { result ≡ proposed_first (drawn_by version counts found sheet.now ask.actor ask.usage ask.moment (signers_of signers)) }
 {
     let n = counts.claims;
     let grantors = columns::column(sheet, columns::GRANTORS);
     let holders = columns::column(sheet, columns::HOLDERS);
     let ends = gate::claim_ends(sheet, &found.ups, n);
     let step = hands_taken(version);
-    let left = rooms(step, &found.ups, grantors, holders, n, actor);
-    let marked = marks(version, usage, moment, sheet, &ends, &left, n);
+    let left = rooms(step, &found.ups, grantors, holders, n, ask.actor);
+    let marked = marks(version, ask.usage, ask.moment, sheet, &ends, &left, n);
     let blank = Claim {
         id: least_free(sheet, n),
-        parent: 0,
-        grantor: 0,
-        holder: actor,
-        resource: usage.resource,
-        rights: rights::worth(usage.right),
-        weight: 0,
-        left: 0,
-        expiry: 0,
+        holder: ask.actor,
+        resource: ask.usage.resource,
+        rights: rights::worth(ask.usage.right),
+        ..Claim::none()
     };
     sign(counts, found, sheet, &marked, blank, signers)
 }
@@ -475,22 +426,14 @@ fn draw(
 // ---- the planner
 
 // The planner past the tests.
-fn propose_by(
-    r: Register,
-    sheet: &[u32],
-    found: Findings,
-    actor: u32,
-    usage: Usage,
-    moment: u64,
-    signers: Signers,
-) -> Proposed
-    requires { (Ready r sheet.now found actor usage moment) × (outcome_of (ask_tests r actor usage moment signers) ≡ Accepted) }
-    ensures { result ≡ by_marks r actor usage moment signers }
+fn propose_by(r: Register, sheet: &[u32], found: Findings, ask: Ask, signers: Signers) -> Proposed
+    requires { (Ready r sheet.now found ask.actor ask.usage ask.moment) × (outcome_of (ask_tests r ask.actor ask.usage ask.moment signers) ≡ (Ok tt)) }
+    ensures { result ≡ by_marks r ask.actor ask.usage ask.moment signers }
 {
-    if gate_permits(r, sheet, found, actor, usage, moment) {
+    if gate_permits(r, sheet, found, ask.actor, ask.usage, ask.moment) {
         return no_grant();
     }
-    if !is_clear(r, sheet, found, actor, usage, moment) {
+    if !is_clear(r, sheet, found, ask) {
         return refused(Refusal::NoProposal);
     }
     let counts = Counts {
@@ -498,25 +441,27 @@ fn propose_by(
         resources: r.resources.count,
         claims: r.claims.count,
     };
-    draw(
-        r.version, counts, found, sheet, actor, usage, moment, signers,
-    )
+    draw(r.version, counts, found, sheet, ask, signers)
 }
 
 // The planner.
 pub fn propose(r: Register, actor: u32, usage: Usage, moment: u64, signers: Signers) -> Proposed
     ensures { result ≡ proposed r actor usage moment signers }
 {
-    let a = r.actors;
-    let o = r.resources;
-    let k = r.claims;
     let mut sheet = [0u32; columns::SHEET];
-    let found = soundness::examine(&mut sheet, r.version, a, o, k);
+    let found = soundness::examine(&mut sheet, r.version, r.actors, r.resources, r.claims);
     let inside = proposals::asks_fit(usage, moment, signers);
-    let known = columns::is_among(&found.actors.names, a.count, actor);
+    let known = columns::is_among(&found.actors.names, r.actors.count, actor);
     let outcome = asked(found.sound, inside, known);
     match outcome {
-        Outcome::Refused(why) => refused(why),
-        Outcome::Accepted => propose_by(r, &sheet, found, actor, usage, moment, signers),
+        Err(why) => refused(why),
+        Ok(()) => {
+            let ask = Ask {
+                actor,
+                usage,
+                moment,
+            };
+            propose_by(r, &sheet, found, ask, signers)
+        }
     }
 }

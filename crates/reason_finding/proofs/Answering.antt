@@ -1,9 +1,5 @@
 -- The answer to why, where a test stops the call and where none does, by what was found of the register. Assumes nothing.
-use mathlib.Core.Path.{◌≡◌, sym, ap, ◌∙◌}
-use mathlib.Core.Bool.{true, false}
-use mathlib.Core.List.{List}
-use Prim.Native.Nat.{ℕ}
-use lib.Dec.{leb}
+use Rattle.std.proofs.Common.{Result, Err, Ok, ◌≡◌, sym, ap, ◌∙◌, true, false, List, ℕ, leb}
 use Rattle.lists.specs.Tests.{and_right}
 use Rattle.rights.specs.Rights.{is_right}
 use Rattle.register.specs.Limits.{id_limit}
@@ -17,8 +13,6 @@ use Rattle.soundness.specs.Judged.{findings_by}
 use Rattle.soundness.specs.declared.Findings.{Findings}
 use Rattle.refusals.specs.Refusals.{outcome_of}
 use Rattle.refusals.proofs.Laws.{outcome_pass, outcome_fail}
-use Rattle.refusals.specs.declared.Outcome.{Outcome}
-use Rattle.refusals.specs.declared.Outcome.TheVariants.{Accepted, Refused}
 use Rattle.refusals.specs.declared.Refusal.{Refusal}
 use Rattle.refusals.specs.declared.Refusal.TheVariants.{Unsound}
 use Rattle.actions.specs.Actions.{one_use}
@@ -45,7 +39,7 @@ module _ (r : Register) (x : ℕ) (u : Usage) (moment : ℕ) where
 
   module _ (h : sound r ≡ true) {sheet : List ℕ} (put : sheet ≡ sheet_of r.claims) {found : Findings}
       (told : found ≡ findings_by r.version r.actors r.resources sheet r.claims.count) {a : Action} (of-action : a ≡ one_use x u moment)
-      {outcome : Outcome} (of-outcome : outcome ≡ outcome_of (lent_tests found.actors.names r.actors.count a)) where
+      {outcome : Result Unit Refusal} (of-outcome : outcome ≡ outcome_of (lent_tests found.actors.names r.actors.count a)) where
     found_there : found ≡ findings_by r.version r.actors r.resources (sheet_of r.claims) r.claims.count
     found_there = told ∙ ap (λ s. findings_by r.version r.actors r.resources s r.claims.count) put
 
@@ -57,10 +51,10 @@ module _ (r : Register) (x : ℕ) (u : Usage) (moment : ℕ) where
         ∙ ap outcome_of (tests_natural r (one_use x u moment))
         ∙ rw (up_to_first no_actor r.actors.count r.actors.list) (sym (outcome_pass _ _ h))
 
-    pub why_stopped : (why : Refusal) → outcome ≡ Refused why → use_told_of (refused_for why) ≡ use_told_of (why_use r x u moment)
+    pub why_stopped : (why : Refusal) → outcome ≡ Err why → use_told_of (refused_for why) ≡ use_told_of (why_use r x u moment)
     why_stopped why e = ap use_told_of (sym (why_refused r x u moment why (sym tested ∙ e)))
 
-    pub why_held : Shaped r → outcome ≡ Accepted → {lens ends bytes : List ℕ} {spot : ℕ} → lens ≡ (laid r.resources).lens
+    pub why_held : Shaped r → outcome ≡ Ok tt → {lens ends bytes : List ℕ} {spot : ℕ} → lens ≡ (laid r.resources).lens
         → ends ≡ sheet_ends sheet found.ups r.claims.count → bytes ≡ (laid r.resources).bytes
         → spot ≡ spot_in found.resources.reports r.resources.count u.resource → {answer : UseTold}
         → answer ≡ use_by (counts_of r) found lens ends sheet bytes (record { actor = x; right = u.right; spot = spot; moment = moment })

@@ -1,11 +1,6 @@
 -- The claims above the one at a place, by the places of the parents: those of its chain. Assumes nothing.
-use mathlib.Core.Path.{◌≡◌, sym, ap, ◌∙◌}
-use mathlib.Core.Bool.{true}
-use mathlib.Core.List.{map}
-use Prim.Native.Nat.{ℕ, ◌≤◌, ◌<◌}
-use native.Mathlib.Omega.{arith}
-use lib.ListN.{length, take, length-map, get_or-map}
-use lib.Seq.{take_all}
+use Rattle.std.proofs.Common.{◌≡◌, sym, ap, ◌∙◌, true, map, ℕ, ◌≤◌, ◌<◌, arith, length, take, take_all}
+use lib.ListN.{length-map, get_or-map}
 use Rattle.register.specs.Limits.{hop_limit}
 use Rattle.register.specs.Register.{claims_of, no_claim, Shaped}
 use Rattle.register.specs.Chain.{latest, above}

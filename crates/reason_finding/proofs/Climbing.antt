@@ -1,13 +1,8 @@
 -- The walk up the chain of a claim by the places of the parents: what is put into the array on the way, and the first that is not current. Assumes nothing.
-use mathlib.Core.Path.{◌≡◌, refl, sym, ap, ◌∙◌}
-use mathlib.Core.Bool.{true, false, not, ◌&&◌}
-use mathlib.Core.List.{List, [], ◌∷◌, ◌++◌, map, map-append, append-nil}
-use Prim.Native.Nat.{ℕ, zero, suc, ◌+◌, ◌-◌, ◌≤◌, ◌<◌}
-use native.Mathlib.Omega.{arith}
-use borrow.Author.Tests.{ltb-true, ltb-false}
-use lib.Dec.{ltb}
-use lib.ListN.{length, take, get_or, set, replicate, length-append, length-map}
-use lib.Seq.{take_all, take-append_seam, append_snoc}
+use Rattle.std.proofs.Common.{◌≡◌, refl, sym, ap, ◌∙◌, true, false, not, ◌&&◌, List, [], ◌∷◌, ◌++◌, map, append-nil, ℕ, zero, suc, ◌+◌, ◌-◌, ◌≤◌, ◌<◌, arith, ltb-true, ltb-false, ltb, length, take, get_or, set, replicate, length-append, take_all}
+use mathlib.Core.List.{map-append}
+use lib.ListN.{length-map}
+use lib.Seq.{take-append_seam, append_snoc}
 use Rattle.lists.specs.Tests.{cases, and_left, and_right}
 use Rattle.lists.specs.Fills.{put_first}
 use Rattle.register.specs.Limits.{hop_limit}
@@ -40,18 +35,6 @@ pub record Climbing (sheet ups : List ℕ) (from : ℕ) (chain : List ℕ) (keep
   pub kept : keeper ≡ (root_of (claim_at sheet from) (map (claim_at sheet) passed)).grantor
 
 module _ {sheet ups : List ℕ} {from : ℕ} where
-  pub climbing_start : {c : Claim} {up : ℕ} → c ≡ claim_at sheet from → up ≡ get_or ups from from
-      → Climbing sheet ups from (set (replicate chain_limit 0) 0 c.id) c.grantor from up 1
-  climbing_start e f = record {
-    passed = [];
-    above = refl;
-    next = f;
-    many = refl;
-    most = omega arith;
-    held = ap (λ d. d.id ∷ replicate hop_limit 0) e;
-    kept = ap (λ d. d.grantor) e;
-  }
-
   module _ {chain : List ℕ} {keeper at up count : ℕ} (s : Climbing sheet ups from chain keeper at up count) where
     pub climbing_next : (ltb up at && ltb count chain_limit) ≡ true → {c : Claim} {further : ℕ} → c ≡ claim_at sheet up → further ≡ get_or ups up up
         → Climbing sheet ups from (set chain count c.id) c.grantor up further (count + 1)

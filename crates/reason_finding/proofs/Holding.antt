@@ -1,13 +1,8 @@
 -- The nearest claim that an actor holds and that contains the used resource, by columns: for any test that its rights column and its containment tell.
 -- Assumes nothing.
-use mathlib.Core.Path.{◌≡◌, refl, sym, ap, ◌∙◌}
-use mathlib.Core.Bool.{Bool, true, not, ◌&&◌, and-true}
-use mathlib.Core.List.{List, map}
-use Prim.Native.Nat.{ℕ, ◌≤◌, ◌<◌, min}
-use native.Mathlib.Omega.{arith}
-use borrow.Author.Tests.{lt-ltb}
-use lib.Dec.{eqb, ltb}
-use lib.ListN.{length, get_or, length-map, length-take, length-replicate, get_or-map, get_or-replicate}
+use Rattle.std.proofs.Common.{Option, ℕ, None, Some, ◌≡◌, refl, sym, ap, ◌∙◌, Bool, true, not, ◌&&◌, List, map, ◌≤◌, ◌<◌, min, arith, lt-ltb, eqb, ltb, length, get_or, length-take}
+use mathlib.Core.Bool.{and-true}
+use lib.ListN.{length-map, length-replicate, get_or-map, get_or-replicate}
 use Rattle.lists.specs.Tests.{and_right}
 use Rattle.lists.specs.Lists.{counted, filter}
 use Rattle.lists.specs.Each.{all_imp}
@@ -19,8 +14,6 @@ use Rattle.register.specs.Register.{claims_of, no_claim, Shaped}
 use Rattle.register.specs.declared.Claim.{Claim}
 use Rattle.register.specs.declared.Register.{Register}
 use Rattle.columns.specs.Columns.{resource_id, claimed_of, holder_of}
-use Rattle.columns.specs.declared.Place.{Place}
-use Rattle.columns.specs.declared.Place.TheVariants.{At, Nowhere}
 use Rattle.soundness_rules.specs.Sound.{sound}
 use Rattle.soundness_rules.proofs.Registers.{sound_out}
 use Rattle.actions.specs.declared.Usage.{Usage}
@@ -39,12 +32,12 @@ use Rattle.reasons.specs.Reasons.{used_reach}
 use Rattle.reason_finding.specs.Finding.{always}
 
 -- whether a place is one of the first n
-abbrev pub placed_in : ℕ → Place → Bool
-placed_in n (At j) = ltb j n
-placed_in n Nowhere = true
+abbrev pub placed_in : ℕ → Option ℕ → Bool
+placed_in n (Some j) = ltb j n
+placed_in n None = true
 
 -- the place at which the nearest claim that passes a test stands
-abbrev pub tested_place : Register → Usage → (Claim → Bool) → Place
+abbrev pub tested_place : Register → Usage → (Claim → Bool) → Option ℕ
 tested_place r u test = nearest_from (λ j. test (claim_standing r j)) (reach_for r u) 0 0 (claim_places r)
 
 pub tested_read : (r : Register) (u : Usage) (test : Claim → Bool)

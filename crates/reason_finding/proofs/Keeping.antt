@@ -1,21 +1,13 @@
 -- A loop over the first actors of an array that keeps the ids of those who pass a test in an array, from the front, and counts them. Assumes nothing.
-use mathlib.Core.Path.{◌≡◌, sym, ap, ◌∙◌}
-use mathlib.Core.Bool.{Bool, true, false, not}
-use mathlib.Core.List.{List, [], ◌∷◌, ◌++◌, map, map-append}
-use Prim.Native.Nat.{ℕ, ◌+◌, ◌-◌, ◌≤◌, ◌<◌, min}
-use native.Mathlib.Numerals.{add-one}
-use native.Mathlib.Omega.{arith}
-use lib.ListN.{length, take, get_or, set, replicate, length-append, length-map, length-take}
-use lib.Seq.{take-suc, take_all, get_or-take}
+use Rattle.std.proofs.Common.{◌≡◌, sym, ap, ◌∙◌, Bool, true, false, not, List, [], ◌∷◌, ◌++◌, map, ℕ, ◌+◌, ◌-◌, ◌≤◌, ◌<◌, min, add-one, arith, length, take, get_or, set, replicate, length-append, length-take, take-suc, get_or-take}
+use mathlib.Core.List.{map-append}
+use lib.ListN.{length-map}
 use Rattle.lists.specs.Fills.{put_first}
 use Rattle.lists.specs.Filters.{filter_nil, dropping_length, filter_last, filter_past}
 use Rattle.lists.specs.Lists.{filter}
-use Rattle.refusals.specs.declared.Outcome.TheVariants.{Accepted}
 use Rattle.register.specs.Limits.{actor_limit}
 use Rattle.register.specs.Register.{no_actor}
 use Rattle.register.specs.declared.Actor.{Actor}
-use Rattle.reasons.specs.Holders.{holders_of}
-use Rattle.reasons.specs.declared.Holders.{Holders}
 
 -- the ids of those who pass
 abbrev pub ids_of : (Actor → Bool) → List Actor → List ℕ
@@ -55,8 +47,8 @@ module _ {p : Actor → Bool} {k : ℕ} {actors : List Actor} {top : ℕ} where
           let below : i < k = omega (arith, s.whole, length-take k actors) in
           rw (add-one) (take-suc (take k actors) i no_actor inside) ∙ ap (λ a. take i (take k actors) ++ (a ∷ [])) (get_or-take k actors i no_actor below)
 
-      pub keeping_hit : p here ≡ true → Keeping p k actors top (i + 1) (count + 1) (set ids count here.id)
-      keeping_hit e =
+      kept_here : p here ≡ true → Keeping p k actors top (i + 1) (count + 1) (set ids count here.id)
+      kept_here e =
           let kept : List ℕ = ids_of p (take i (take k actors)) in
           let more : ids_of p (take (i + 1) (take k actors)) ≡ kept ++ (here.id ∷ []) =
           ap (ids_of p) one_more ∙ ap (map (λ a. a.id)) (filter_last p (take i (take k actors)) here e)
@@ -70,14 +62,15 @@ module _ {p : Actor → Bool} {k : ℕ} {actors : List Actor} {top : ℕ} where
             held = rw (more, s.held) (put_first kept actor_limit count 0 here.id (sym s.many) free);
           }
 
-      pub keeping_miss : p here ≡ false → Keeping p k actors top (i + 1) count ids
-      keeping_miss e =
+      -- the actor a is read there
+      pub keeping_hit : {a : Actor} → a ≡ here → p a ≡ true → Keeping p k actors top (i + 1) (count + 1) (set ids count a.id)
+      keeping_hit read e = rw read (kept_here (ap p (sym read) ∙ e))
+
+      missed_here : p here ≡ false → Keeping p k actors top (i + 1) count ids
+      missed_here e =
           let same : ids_of p (take (i + 1) (take k actors)) ≡ ids_of p (take i (take k actors)) =
           ap (ids_of p) one_more ∙ ap (map (λ a. a.id)) (filter_past p (take i (take k actors)) here e) in
           record { within = omega arith; whole = s.whole; room = s.room; many = rw same s.many; held = rw same s.held }
 
-    -- after the loop: all who pass the test
-    pub keeping_done : top ≤ i → ◌≡◌ {A = Holders} (record { outcome = Accepted; ids = ids; count = count }) (holders_of Accepted (ids_of p (take k actors)))
-    keeping_done h =
-        let all : take i (take k actors) ≡ take k actors = take_all i (take k actors) (omega (arith, s.whole)) in
-        rw (← all) (rw (← s.many, s.held))
+      pub keeping_miss : {a : Actor} → a ≡ here → p a ≡ false → Keeping p k actors top (i + 1) count ids
+      keeping_miss read e = missed_here (ap p (sym read) ∙ e)

@@ -2,7 +2,6 @@ pub mod Owned
 pub mod Keeping
 pub mod Marking
 pub mod Deciding
-pub mod Asking
 pub mod Permitting
 pub mod Climbing
 pub mod Holding

@@ -1,13 +1,9 @@
 -- Who may by the columns of a register: the holders of the claims that cover the use are those by whom the register has it covered. Assumes nothing.
-use mathlib.Core.Path.{◌≡◌, refl, sym, ap, ◌∙◌, fun_ext}
-use mathlib.Core.Bool.{Bool, true, false, not, ◌&&◌, ◌||◌, cond, and-true, and-false}
-use mathlib.Core.List.{List, map}
-use Prim.Native.Nat.{ℕ, ◌≤◌, ◌<◌, min}
-use native.Mathlib.Omega.{arith}
-use borrow.Author.Tests.{lt-ltb, ltb-true, ltb-false, le-ltb, ne_eqb, eqb-false, eqb-true, eq-eqb}
-use lib.Dec.{eqb, ltb, leb}
-use lib.ListN.{length, get_or, take, length-take, length-map, length-replicate, get_or-map, get_or-eq_default, get_or-replicate}
-use lib.Seq.{take_at}
+use Rattle.std.proofs.Common.{Option, ℕ, None, Some, Ok, ◌≡◌, refl, sym, ap, ◌∙◌, Bool, true, false, not, ◌&&◌, ◌||◌, cond, List, map, ◌≤◌, ◌<◌, min, arith, lt-ltb, ltb-true, ltb-false, le-ltb, ne_eqb, eqb-true, eq-eqb, eqb, ltb, leb, length, get_or, take, length-take, take_at}
+use mathlib.Core.Path.{fun_ext}
+use mathlib.Core.Bool.{and-true, and-false}
+use borrow.Author.Tests.{eqb-false}
+use lib.ListN.{length-map, length-replicate, get_or-map, get_or-eq_default, get_or-replicate}
 use Rattle.lists.specs.Tests.{cases, and_right}
 use Rattle.lists.specs.Lists.{any}
 use Rattle.lists.specs.Each.{all_imp, any_map, any_same, every_all}
@@ -25,15 +21,12 @@ use Rattle.columns.specs.Columns.{resource_id, public_of, holder_of, rights_of, 
 use Rattle.columns.specs.Laws.{place_found_lem, up_to_first}
 use Rattle.columns.specs.Sheet.{sheet_of, column_of, holder_column, rights_column}
 use Rattle.columns.specs.SheetLaws.{sheet_claims}
-use Rattle.columns.specs.declared.Place.{Place}
-use Rattle.columns.specs.declared.Place.TheVariants.{At, Nowhere}
 use Rattle.lookup.specs.Finding.{place_number}
 use Rattle.soundness_rules.specs.Sound.{sound, human, actor_fits}
 use Rattle.soundness_rules.proofs.Registers.{sound_out, actor_fits_out}
 use Rattle.soundness_rules.proofs.Sameness.{sound_same}
 use Rattle.soundness.specs.Judged.{findings_by}
 use Rattle.soundness.specs.declared.Findings.{Findings}
-use Rattle.refusals.specs.declared.Outcome.TheVariants.{Accepted}
 use Rattle.actions.specs.declared.Usage.{Usage}
 use Rattle.gate_rules.specs.Gate.{contains, covering, covers}
 use Rattle.gate_rules.specs.Authority.{IsIn}
@@ -81,17 +74,17 @@ module _ (o : Resources) (spot : ℕ) (few : o.count ≤ resource_limit) (stands
       (λ e. rw e (length-replicate {A = Bool} resource_limit false))
 
   -- by the place of a claim's resource
-  marks_place : (p : Place) → ((k : ℕ) → p ≡ At k → k < o.count)
+  marks_place : (p : Option ℕ) → ((k : ℕ) → p ≡ Some k → k < o.count)
       → get_or (containers_of o spot) (place_number claim_limit p) false ≡ ltb (spot_of p) resource_limit && (ltb spot resource_limit && containing o (spot_of p) spot)
-  marks_place (At k) below =
+  marks_place (Some k) below =
       let here : k < resource_limit = omega (arith, below k refl, few) in
       rw (lt-ltb k resource_limit here) (marks_at k (below k refl))
-  marks_place Nowhere below = get_or-eq_default (containers_of o spot) false (omega (arith, marks_length))
+  marks_place None below = get_or-eq_default (containers_of o spot) false (omega (arith, marks_length))
 
 -- a spot that is one is that of a place
-spot_below : (n : ℕ) (p : Place) → ((k : ℕ) → p ≡ At k → k < n) → spot_of p < resource_limit → spot_of p < n
-spot_below n (At k) below inside = below k refl
-spot_below n Nowhere below inside = absurd (omega arith)
+spot_below : (n : ℕ) (p : Option ℕ) → ((k : ℕ) → p ≡ Some k → k < n) → spot_of p < resource_limit → spot_of p < n
+spot_below n (Some k) below inside = below k refl
+spot_below n None below inside = absurd (omega arith)
 
 -- ---- the holders of the claims that cover
 
@@ -112,7 +105,7 @@ module _ (r : Register) (shaped : Shaped r) (h : sound r ≡ true) (u : Usage) (
   few : r.resources.count ≤ resource_limit
   few = (sound_out r h).limits.resource_count
 
-  below : (x k : ℕ) → place_by r x ≡ At k → k < r.resources.count
+  below : (x k : ℕ) → place_by r x ≡ Some k → k < r.resources.count
   below x k e = (place_found_lem (map resource_id r.resources.list) x r.resources.count k e).0
 
   abbrev marks : List Bool
@@ -245,7 +238,7 @@ module _ (r : Register) (shaped : Shaped r) (u : Usage) (moment : ℕ) (h : soun
       → {ends : List ℕ} → ends ≡ sheet_ends s f.ups r.claims.count
       → {theirs : List ℕ} → theirs ≡ coverers_of (column_of holder_column s) (column_of rights_column s) ends f.spots marks r.claims.count u.right moment
       → {public : ℕ} → public ≡ get_or f.resources.publics spot 0
-      → {answer : Holders} → answer ≡ holders_of Accepted (ids_of (may_by (eqb u.right reading && eqb public 1) (take r.claims.count theirs)) (actors_of r.actors))
+      → {answer : Holders} → answer ≡ holders_of (Ok tt) (ids_of (may_by (eqb u.right reading && eqb public 1) (take r.claims.count theirs)) (actors_of r.actors))
       → answer ≡ who_held r u moment
   held_found put told of-spot of-marks of-ends of-theirs of-public answered =
-      answered ∙ rw (of-theirs, of-public, of-marks, of-ends, of-spot, told, put) (ap (holders_of Accepted) asked_natural) ∙ sym (held_asked r u moment h fits)
+      answered ∙ rw (of-theirs, of-public, of-marks, of-ends, of-spot, told, put) (ap (holders_of (Ok tt)) asked_natural) ∙ sym (held_asked r u moment h fits)

@@ -1,12 +1,8 @@
 -- The reason by the columns of a register is that of the register, and so is the whole answer. Assumes nothing.
-use mathlib.Core.Path.{◌≡◌, refl, sym, ap, ◌∙◌, fun_ext}
-use mathlib.Core.Bool.{Bool, true, false, not, ◌&&◌, cond, and-true}
-use mathlib.Core.List.{List, ◌∷◌, map}
-use Prim.Native.Nat.{ℕ, ◌<◌}
-use native.Mathlib.Omega.{arith}
-use borrow.Author.Tests.{ltb-true, eqb-true, eq-eqb}
-use lib.Dec.{eqb, ltb}
-use lib.ListN.{length, get_or, take, get_or-map, get_or-replicate, length-take}
+use Rattle.std.proofs.Common.{Option, ℕ, None, Some, Ok, ◌≡◌, refl, sym, ap, ◌∙◌, Bool, true, false, not, ◌&&◌, cond, List, ◌∷◌, map, ◌<◌, arith, ltb-true, eqb-true, eq-eqb, eqb, ltb, length, get_or, take, length-take}
+use mathlib.Core.Path.{fun_ext}
+use mathlib.Core.Bool.{and-true}
+use lib.ListN.{get_or-map, get_or-replicate}
 use Rattle.lists.specs.Tests.{cases, clash, and_left, and_right, and_both}
 use Rattle.lists.specs.Counts.{every_counted_sound}
 use Rattle.rights.specs.Rights.{right_count, is_right, has_right}
@@ -20,14 +16,11 @@ use Rattle.columns.specs.Columns.{actor_id, actor_kind, actor_owner, claim_id, p
 use Rattle.columns.specs.Laws.{up_to_first, beside_natural}
 use Rattle.columns.specs.Sheet.{sheet_limit, sheet_of, claim_at, column_of, id_column, parent_column, holder_column, resource_column, rights_column, weight_column}
 use Rattle.columns.specs.SheetLaws.{column_natural, sheet_long, claims_in_at, sheet_claims}
-use Rattle.columns.specs.declared.Place.{Place}
-use Rattle.columns.specs.declared.Place.TheVariants.{At, Nowhere}
 use Rattle.lookup.specs.Asked.{asked_at}
 use Rattle.soundness_rules.specs.Sound.{sound, is_machine}
 use Rattle.soundness.specs.Judged.{findings_by}
 use Rattle.soundness.specs.declared.Findings.{Findings}
 use Rattle.actions.specs.declared.Usage.{Usage}
-use Rattle.refusals.specs.declared.Outcome.TheVariants.{Accepted}
 use Rattle.coverage.specs.Laid.{laid}
 use Rattle.coverage.specs.Coverage.{nearest_covering}
 use Rattle.coverage.specs.Gathering.{held_places}
@@ -55,11 +48,11 @@ unfolding has_right
 whole_has b e = every_counted_sound (has_right 131071) right_count 0 refl b (omega arith) (omega (arith, ltb-true b right_count e))
 
 -- what is told at a place
-told_at_lem : (p : Place) (n : ℕ) (tell : ℕ → Told) (rest : Told) (r : Register) (moment : ℕ) (by : Claim → Reason) (more : Reason) → placed_in n p ≡ true
+told_at_lem : (p : Option ℕ) (n : ℕ) (tell : ℕ → Told) (rest : Told) (r : Register) (moment : ℕ) (by : Claim → Reason) (more : Reason) → placed_in n p ≡ true
     → ((j : ℕ) → j < n → tell j ≡ told_of (telling r moment (by (claim_standing r j)))) → rest ≡ told_of (telling r moment more)
     → told_at tell p rest ≡ told_of (telling r moment (reason_from by (only_at (claim_standing r) p) more))
-told_at_lem (At j) n tell rest r moment by more inside each other = each j (ltb-true j n inside)
-told_at_lem Nowhere n tell rest r moment by more inside each other = other
+told_at_lem (Some j) n tell rest r moment by more inside each other = each j (ltb-true j n inside)
+told_at_lem None n tell rest r moment by more inside each other = other
 
 module _ (r : Register) (shaped : Shaped r) (h : sound (sheeted r) ≡ true) where
   abbrev sheet : List ℕ
@@ -114,7 +107,7 @@ module _ (r : Register) (shaped : Shaped r) (h : sound (sheeted r) ≡ true) whe
     many = length (claims_of (sheeted r).claims)
 
     -- the place of the claim relied on, of the nearest held with the right, of the nearest held
-    abbrev placed : List ℕ → List ℕ → Place
+    abbrev placed : List ℕ → List ℕ → Option ℕ
     placed ends rights = held_place (column_of holder_column sheet) ends rights found.spots (laid r.resources).bytes (laid r.resources).lens r.claims.count asked
 
     columns_natural : (ends rights : List ℕ) → placed ends rights
@@ -198,10 +191,10 @@ module _ (r : Register) (shaped : Shaped r) (h : sound (sheeted r) ≡ true) whe
 -- ---- the owner of a machine
 module _ (r : Register) (h : sound r ≡ true) (x : ℕ) (u : Usage) (moment : ℕ) where
   -- of the one machine with the number x, by its place
-  placed_owner : (a : Actor) (p : Place) → asked_at no_actor r.actors.list (λ b. eqb b.owner a.owner) p ≡ true
+  placed_owner : (a : Actor) (p : Option ℕ) → asked_at no_actor r.actors.list (λ b. eqb b.owner a.owner) p ≡ true
       → owner_at (map actor_owner r.actors.list) p ≡ a.owner
-  placed_owner a (At j) e = get_or-map actor_owner r.actors.list j no_actor ∙ eqb-true (get_or r.actors.list j no_actor).owner a.owner e
-  placed_owner a Nowhere e = clash false e refl
+  placed_owner a (Some j) e = get_or-map actor_owner r.actors.list j no_actor ∙ eqb-true (get_or r.actors.list j no_actor).owner a.owner e
+  placed_owner a None e = clash false e refl
 
   pub owner_natural : cond (is_machine (actors_of r.actors) x) (owner_number r x) 0 ≡ machine_owner r x
   owner_natural =
@@ -263,7 +256,7 @@ module _ (r s : Register) (resources : resources_of r.resources ≡ resources_of
   told_same : (y : ℕ) → telling r moment (reason_of r moment y u) ≡ telling s moment (reason_of s moment y u)
   told_same y = ap (telling r moment) (reason_same y) ∙ telling_same (reason_of s moment y u)
 
-  same_told : (x : ℕ) → actors_of r.actors ≡ actors_of s.actors → why_on Accepted r x u moment ≡ why_on Accepted s x u moment
+  same_told : (x : ℕ) → actors_of r.actors ≡ actors_of s.actors → why_on (Ok tt) r x u moment ≡ why_on (Ok tt) s x u moment
   same_told x actors =
       let owner : machine_owner r x ≡ machine_owner s x = ap (λ l. first_owner (first_of (λ a. eqb x a.id && eqb machine_kind a.kind) l)) actors in
       rw (owner, told_same x, told_same (machine_owner s x))
@@ -282,7 +275,7 @@ module _ (r : Register) (shaped : Shaped r) (h : sound (sheeted r) ≡ true) (x 
   told_owners owner = cases (eqb owner 0) (λ e. rw e) (λ e. rw e (reason_natural r shaped h owner u moment timely ranged))
 
   pub use_natural : use_by (counts_of r) (found r shaped h) (laid r.resources).lens (sheet_ends (sheet r shaped h) (found r shaped h).ups r.claims.count) (sheet r shaped h)
-      (laid r.resources).bytes (asked r shaped h x u moment timely ranged) ≡ use_told_of (why_on Accepted r x u moment)
+      (laid r.resources).bytes (asked r shaped h x u moment timely ranged) ≡ use_told_of (why_on (Ok tt) r x u moment)
   unfolding use_by
   use_natural =
       rw (machine_owner_natural, reason_natural r shaped h x u moment timely ranged, told_owners (machine_owner (sheeted r) x))

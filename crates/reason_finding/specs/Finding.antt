@@ -1,15 +1,12 @@
 -- Working: The reason of an actor for a use by the columns of a register. It is that of the register (`reason_natural`, `use_natural`).
-use Rattle.std.specs.Prelude.{not, cond, List, ◌∷◌, map, ℕ, eqb, length, take, replicate}
+use Rattle.std.specs.Prelude.{not, cond, List, ◌∷◌, map, ℕ, eqb, length, take, replicate, Option, None, Some, Ok}
 use Rattle.register.specs.Limits.{claim_limit, hop_limit, moment_end, machine_kind}
 use Rattle.register.specs.Chain.{current}
 use Rattle.register.specs.declared.Claim.{Claim}
 use Rattle.columns.specs.Columns.{places_up, latest_place, beside}
 use Rattle.columns.specs.Sheet.{column_of, claim_at, holder_column, rights_column}
-use Rattle.columns.specs.declared.Place.{Place}
-use Rattle.columns.specs.declared.Place.TheVariants.{At, Nowhere}
 use Rattle.soundness_rules.specs.Roots.{root_of}
 use Rattle.soundness.specs.declared.Findings.{Findings}
-use Rattle.refusals.specs.declared.Outcome.TheVariants.{Accepted}
 use Rattle.coverage.specs.Coverage.{nearest_covering}
 use Rattle.coverage.specs.Gathering.{held_places}
 use Rattle.gate_rules.specs.Gate.{first_of}
@@ -44,7 +41,7 @@ abbrev pub ended_by : List ℕ → List ℕ → ℕ → ℕ → ℕ
 ended_by sheet ups moment from = first_id (first_of (λ d. not (current moment d)) (claim_at sheet from ∷ higher_by sheet ups from))
 
 -- the nearest claim with the right that the actor holds and that has not ended
-abbrev pub held_place : List ℕ → List ℕ → List ℕ → List ℕ → List ℕ → List ℕ → ℕ → Ask → Place
+abbrev pub held_place : List ℕ → List ℕ → List ℕ → List ℕ → List ℕ → List ℕ → ℕ → Ask → Option ℕ
 held_place holders ends rights spots bytes lens n ask =
     nearest_covering (held_places holders ends n ask.actor ask.moment) rights spots bytes lens ask.right ask.spot
 
@@ -56,9 +53,9 @@ abbrev pub whole : List ℕ
 whole = replicate claim_limit 131071
 
 -- what is told of the claim at a place, or else
-abbrev pub told_at : (ℕ → Told) → Place → Told → Told
-told_at by (At j) more = by j
-told_at by Nowhere more = more
+abbrev pub told_at : (ℕ → Told) → Option ℕ → Told → Told
+told_at by (Some j) more = by j
+told_at by None more = more
 
 module _ (n : ℕ) (found : Findings) (lens : List ℕ) where
   unfoldable pub lacking_by : List ℕ → List ℕ → Ask → Told
@@ -92,7 +89,7 @@ unfoldable pub use_by : Counts → Findings → List ℕ → List ℕ → List �
 use_by counts found lens ends sheet bytes ask =
     let owner = owner_for found counts.actors ask.actor in
     record {
-      outcome = Accepted;
+      outcome = Ok tt;
       actor = reason_by counts.claims found lens ends sheet bytes ask;
       owner = owner;
       owners = cond (eqb owner 0) (told_of (telling_none 0)) (reason_by counts.claims found lens ends sheet bytes (ask_of ask owner));

@@ -5,7 +5,7 @@
 // Why: of the claims that an actor holds the nearest is looked for, among the live ones, then among all, then for any right.
 #![tactic(auto)]
 
-ghost use Rattle.std.specs.Prelude.{◌≡◌, false, [], map, length, take, get_or};
+ghost use Rattle.std.specs.Prelude.{◌≡◌, false, [], map, length, take, get_or, Ok, Err};
 ghost use Rattle.lists.specs.Lists.{filter};
 ghost use Rattle.paths.specs.Containment.{contained};
 ghost use Rattle.register.specs.Limits.{claim_limit};
@@ -18,11 +18,9 @@ ghost use Rattle.reason_finding.specs.Covering.{containers_of, coverer_of, cover
 ghost use Rattle.reason_finding.specs.Finding.{held_place, chain_told, ended_by, lacking_by, missing_by, reason_by, owner_for, use_by};
 
 use actions::Usage;
-use columns::Place;
 use gate::Counts;
-use paths::Reach;
 use reasons::{Holders, Told, UseTold};
-use refusals::{Outcome, Refusal};
+use refusals::Refusal;
 use register::{Actor, Actors, Register, Resource, Resources};
 use soundness::Findings;
 
@@ -44,10 +42,10 @@ fn ask_fits(usage: Usage, moment: u64) -> bool
 
 // The answer of a call that is refused: nobody.
 fn nobody(why: Refusal) -> Holders
-    ensures { result ≡ holders_of (Outcome.Refused why) [] }
+    ensures { result ≡ holders_of (Err why) [] }
 {
     Holders {
-        outcome: Outcome::Refused(why),
+        outcome: Err(why),
         ids: [0; Register::ACTORS],
         count: 0,
     }
@@ -57,15 +55,11 @@ fn nobody(why: Refusal) -> Holders
 fn is_within(outer: Resource, inner: Resource) -> bool
     ensures { result ≡ contained (path_of outer) (path_of inner) }
 {
-    let long = lists::least(outer.len as usize, Register::PATH);
-    let wide = lists::least(inner.len as usize, Register::PATH);
-    let p = outer.path;
-    let q = inner.path;
-    let s: &[u8] = &p;
-    let t: &[u8] = &q;
-    match paths::contains(&s[..long], &t[..wide]) {
-        Reach::Inside(_) => true,
-        Reach::Outside => false,
+    let long = (outer.len as usize).min(Register::PATH);
+    let wide = (inner.len as usize).min(Register::PATH);
+    match paths::contains(&outer.path[..long], &inner.path[..wide]) {
+        Some(_) => true,
+        None => false,
     }
 }
 
@@ -74,16 +68,14 @@ fn containers(o: Resources, spot: usize) -> [bool; Register::RESOURCES]
     ensures { result ≡ containers_of o spot }
 {
     let mut marks = [false; Register::RESOURCES];
-    let top = lists::least(o.count, Register::RESOURCES);
+    let top = o.count.min(Register::RESOURCES);
     if top <= spot {
         return marks;
     }
     let inner = o.list[spot];
-    let mut i: usize = 0;
-    while i < top {
+    for i in 0..top {
         let outer = o.list[i];
         marks[i] = is_within(outer, inner);
-        i += 1;
     }
     marks
 }
@@ -92,7 +84,7 @@ fn containers(o: Resources, spot: usize) -> [bool; Register::RESOURCES]
 fn is_marked(marks: &[bool], at: usize) -> bool
     ensures { result ≡ get_or marks.now at false }
 {
-    if at < marks.len() { marks[at] } else { false }
+    at < marks.len() && marks[at]
 }
 
 // The holder of a claim that covers a use: its resource is marked, it has not ended, and it has the right. 0 of any other.
@@ -123,15 +115,13 @@ fn coverers<'a>(
 {
     let holders = columns::column(sheet, columns::HOLDERS);
     let rights = columns::column(sheet, columns::RIGHTS);
-    let top = lists::least(n, Register::CLAIMS);
+    let top = n.min(Register::CLAIMS);
     let mut found = [0u32; Register::CLAIMS];
-    let mut i: usize = 0;
-    while i < top {
+    for i in 0..top {
         let holder = columns::number_at(holders, i);
         let held = columns::number_at(rights, i);
         let marked = is_marked(marks, spots[i] as usize);
         found[i] = coverer(holder, ends[i], held, marked, right, moment);
-        i += 1;
     }
     found
 }
@@ -152,24 +142,19 @@ fn may(freely: bool, coverers: &[u32], n: usize, a: Actor) -> bool
 
 // Of the actors those who may.
 fn permitted(actors: Actors, freely: bool, coverers: &[u32], n: usize) -> Holders
-    ensures { result ≡ holders_of Outcome.Accepted (map (λ a. a.id) (filter (may_by freely (take n coverers.now)) (actors_of actors))) }
+    ensures { result ≡ holders_of (Ok tt) (map (λ a. a.id) (filter (may_by freely (take n coverers.now)) (actors_of actors))) }
 {
-    let top = lists::least(actors.count, Register::ACTORS);
+    let top = actors.count.min(Register::ACTORS);
     let mut ids = [0u32; Register::ACTORS];
     let mut count: usize = 0;
-    let mut i: usize = 0;
-    while i < top {
-        let a = actors.list[i];
-        if may(freely, coverers, n, a) {
+    for a in &actors.list[..top] {
+        if may(freely, coverers, n, *a) {
             ids[count] = a.id;
             count += 1;
-            i += 1;
-        } else {
-            i += 1;
         }
     }
     Holders {
-        outcome: Outcome::Accepted,
+        outcome: Ok(()),
         ids,
         count,
     }
@@ -259,8 +244,7 @@ fn ended<'a>(sheet: &'a [u32], ups: &'a [u16], from: usize, moment: u64) -> u32
     ensures { result ≡ ended_by sheet.now ups.now moment from }
 {
     let mut at = from;
-    let mut steps: usize = 0;
-    while steps < Told::CHAIN {
+    for _step in 0..Told::CHAIN {
         let claim = columns::claim_at(sheet, at);
         if !claim.is_current(moment) {
             return claim.id;
@@ -270,106 +254,124 @@ fn ended<'a>(sheet: &'a [u32], ups: &'a [u16], from: usize, moment: u64) -> u32
             return 0;
         }
         at = up;
-        steps += 1;
     }
     0
 }
 
-// The nearest claim with the right that the actor holds and that has not ended, by these columns.
-fn nearest<'a>(
-    holders: &'a [u32],
+// What is lent of a register that was examined: how many stand in it, what was found of it, where the path of each resource lies and how long it is, the
+// end of each claim, and the sheet of the claims.
+#[derive(Clone, Copy)]
+struct Lent<'a> {
+    counts: Counts,
+    found: &'a Findings,
+    bytes: &'a [u8],
+    lens: &'a [usize],
     ends: &'a [u64],
-    rights: &'a [u32],
-    spots: &'a [u16],
-    bytes: &'a [u8],
-    lens: &'a [usize],
-    n: usize,
-    ask: Ask,
-) -> Place
-    ensures { result ≡ held_place holders.now ends.now rights.now spots.now bytes.now lens.now n ask }
-{
-    let held = coverage::gather(holders, ends, n, ask.actor, ask.moment);
-    coverage::nearest_covering(
-        &held.places,
-        held.count,
-        rights,
-        spots,
-        bytes,
-        lens,
-        ask.right,
-        ask.spot,
-    )
+    sheet: &'a [u32],
 }
 
-// The reason where no claim that the actor holds has the right: the nearest that it holds, whatever its rights, or none.
-fn lacking<'a>(
-    n: usize,
-    found: Findings,
-    lens: &'a [usize],
-    sheet: &'a [u32],
-    bytes: &'a [u8],
-    ask: Ask,
-) -> Told
-    ensures { result ≡ lacking_by n found lens.now sheet.now bytes.now ask }
-{
-    let holders = columns::column(sheet, columns::HOLDERS);
-    let always = [register::MOMENT_END; Register::CLAIMS];
-    let whole = [EVERY_RIGHT; Register::CLAIMS];
-    let place = nearest(holders, &always, &whole, &found.spots, bytes, lens, n, ask);
-    match place {
-        Place::At(j) => told(Told::LACKS, sheet, &found.ups, j),
-        Place::Nowhere => no_claim(Told::UNHELD),
+impl<'a> Lent<'a> {
+    // The nearest claim with the right that the actor holds and that has not ended, by these ends and these rights.
+    fn nearest(self, ends: &'a [u64], rights: &'a [u32], ask: Ask) -> Option<usize>
+        ensures { result ≡ held_place (column_of holder_column self.entry.sheet.now) ends.now rights.now self.entry.found.now.spots self.entry.bytes.now self.entry.lens.now self.entry.counts.claims ask }
+    {
+        let holders = columns::column(self.sheet, columns::HOLDERS);
+        let held = coverage::gather(holders, ends, self.counts.claims, ask.actor, ask.moment);
+        coverage::nearest_covering(
+            &held.places,
+            held.count,
+            rights,
+            &self.found.spots,
+            self.bytes,
+            self.lens,
+            ask.right,
+            ask.spot,
+        )
     }
-}
 
-// The reason where the actor does not cover the use: the nearest claim held that has the right, which is not live, or else what it lacks.
-fn missing<'a>(
-    n: usize,
-    found: Findings,
-    lens: &'a [usize],
-    sheet: &'a [u32],
-    bytes: &'a [u8],
-    ask: Ask,
-) -> Told
-    ensures { result ≡ missing_by n found lens.now sheet.now bytes.now ask }
-{
-    let holders = columns::column(sheet, columns::HOLDERS);
-    let rights = columns::column(sheet, columns::RIGHTS);
-    let always = [register::MOMENT_END; Register::CLAIMS];
-    let place = nearest(holders, &always, rights, &found.spots, bytes, lens, n, ask);
-    match place {
-        Place::At(j) => {
-            let mut reason = told(Told::NOT_LIVE, sheet, &found.ups, j);
-            reason.ended = ended(sheet, &found.ups, j, ask.moment);
-            reason
+    // The reason where no claim that the actor holds has the right: the nearest that it holds, whatever its rights, or none.
+    fn lacking(self, ask: Ask) -> Told
+        ensures { result ≡ lacking_by self.entry.counts.claims self.entry.found.now self.entry.lens.now self.entry.sheet.now self.entry.bytes.now ask }
+    {
+        let always = [register::MOMENT_END; Register::CLAIMS];
+        let whole = [EVERY_RIGHT; Register::CLAIMS];
+        match self.nearest(&always, &whole, ask) {
+            Some(j) => told(Told::LACKS, self.sheet, &self.found.ups, j),
+            None => no_claim(Told::UNHELD),
         }
-        Place::Nowhere => lacking(n, found, lens, sheet, bytes, ask),
     }
-}
 
-// The reason of an actor: the claim relied on, or a public READ, or what is missing.
-fn reason<'a>(
-    n: usize,
-    found: Findings,
-    lens: &'a [usize],
-    ends: &'a [u64],
-    sheet: &'a [u32],
-    bytes: &'a [u8],
-    ask: Ask,
-) -> Told
-    ensures { result ≡ reason_by n found lens.now ends.now sheet.now bytes.now ask }
-{
-    let holders = columns::column(sheet, columns::HOLDERS);
-    let rights = columns::column(sheet, columns::RIGHTS);
-    let place = nearest(holders, ends, rights, &found.spots, bytes, lens, n, ask);
-    match place {
-        Place::At(j) => told(Told::RELIES, sheet, &found.ups, j),
-        Place::Nowhere => {
-            let public = columns::number_at(&found.resources.publics, ask.spot);
-            if (ask.right == rights::READ) & (public == 1) {
-                return no_claim(Told::PUBLIC);
+    // The reason where the actor does not cover the use: the nearest claim held that has the right, which is not live, or else what it lacks.
+    fn missing(self, ask: Ask) -> Told
+        ensures { result ≡ missing_by self.entry.counts.claims self.entry.found.now self.entry.lens.now self.entry.sheet.now self.entry.bytes.now ask }
+    {
+        let rights = columns::column(self.sheet, columns::RIGHTS);
+        let always = [register::MOMENT_END; Register::CLAIMS];
+        match self.nearest(&always, rights, ask) {
+            Some(j) => {
+                let ended = ended(self.sheet, &self.found.ups, j, ask.moment);
+                Told {
+                    ended,
+                    ..told(Told::NOT_LIVE, self.sheet, &self.found.ups, j)
+                }
             }
-            missing(n, found, lens, sheet, bytes, ask)
+            None => self.lacking(ask),
+        }
+    }
+
+    // The reason of an actor: the claim relied on, or a public READ, or what is missing.
+    fn reason(self, ask: Ask) -> Told
+        ensures { result ≡ reason_by self.entry.counts.claims self.entry.found.now self.entry.lens.now self.entry.ends.now self.entry.sheet.now self.entry.bytes.now ask }
+    {
+        let rights = columns::column(self.sheet, columns::RIGHTS);
+        match self.nearest(self.ends, rights, ask) {
+            Some(j) => told(Told::RELIES, self.sheet, &self.found.ups, j),
+            None => {
+                let public = columns::number_at(&self.found.resources.publics, ask.spot);
+                if (ask.right == rights::READ) & (public == 1) {
+                    return no_claim(Told::PUBLIC);
+                }
+                self.missing(ask)
+            }
+        }
+    }
+
+    // The owner of the machine numbered `x`; 0 where it has none, or is no machine.
+    fn machine_owner(self, x: u32) -> u32
+        ensures { result ≡ owner_for self.entry.found.now self.entry.counts.actors x }
+    {
+        let n = self.counts.actors;
+        let a = &self.found.actors;
+        if columns::is_beside(&a.names, &a.kinds, n, x, Actor::MACHINE) {
+            return gate::owner_of(&a.names, &a.owners, n, x);
+        }
+        0
+    }
+
+    // The reason of an actor and, of a machine with an owner, his.
+    fn both(self, ask: Ask) -> UseTold
+        ensures { result ≡ use_by self.entry.counts self.entry.found.now self.entry.lens.now self.entry.ends.now self.entry.sheet.now self.entry.bytes.now ask }
+    {
+        let actor = self.reason(ask);
+        let owner = self.machine_owner(ask.actor);
+        if owner == 0 {
+            return UseTold {
+                outcome: Ok(()),
+                actor,
+                owner: 0,
+                owners: no_claim(Told::UNASKED),
+            };
+        }
+        let theirs = Ask {
+            actor: owner,
+            ..ask
+        };
+        let owners = self.reason(theirs);
+        UseTold {
+            outcome: Ok(()),
+            actor,
+            owner,
+            owners,
         }
     }
 }
@@ -380,65 +382,11 @@ fn unasked(why: Refusal) -> UseTold
 {
     let none = no_claim(Told::UNASKED);
     UseTold {
-        outcome: Outcome::Refused(why),
+        outcome: Err(why),
         actor: none,
         owner: 0,
         owners: none,
     }
-}
-
-// The reason of an actor and, of a machine with an owner, his.
-fn both<'a>(
-    counts: Counts,
-    found: Findings,
-    lens: &'a [usize],
-    ends: &'a [u64],
-    sheet: &'a [u32],
-    bytes: &'a [u8],
-    ask: Ask,
-) -> UseTold
-    ensures { result ≡ use_by counts found lens.now ends.now sheet.now bytes.now ask }
-{
-    let actor = reason(counts.claims, found, lens, ends, sheet, bytes, ask);
-    let owner = machine_owner(found, counts.actors, ask.actor);
-    if owner == 0 {
-        return UseTold {
-            outcome: Outcome::Accepted,
-            actor,
-            owner: 0,
-            owners: no_claim(Told::UNASKED),
-        };
-    }
-    let theirs = Ask {
-        actor: owner,
-        right: ask.right,
-        spot: ask.spot,
-        moment: ask.moment,
-    };
-    let owners = reason(counts.claims, found, lens, ends, sheet, bytes, theirs);
-    UseTold {
-        outcome: Outcome::Accepted,
-        actor,
-        owner,
-        owners,
-    }
-}
-
-// The owner of the machine numbered `x` among the first `n` actors; 0 where it has none, or is no machine.
-fn machine_owner(found: Findings, n: usize, x: u32) -> u32
-    ensures { result ≡ owner_for found n x }
-{
-    let machine = columns::is_beside(
-        &found.actors.names,
-        &found.actors.kinds,
-        n,
-        x,
-        Actor::MACHINE,
-    );
-    if machine {
-        return gate::owner_of(&found.actors.names, &found.actors.owners, n, x);
-    }
-    0
 }
 
 // Why an actor may make a use at a moment or may not.
@@ -461,8 +409,8 @@ pub fn why_use(r: Register, actor: u32, usage: Usage, moment: u64) -> UseTold
     let action = actions::one_use(actor, usage, moment);
     let outcome = gate::action_outcome(&found.actors.names, counts.actors, action);
     match outcome {
-        Outcome::Refused(why) => unasked(why),
-        Outcome::Accepted => {
+        Err(why) => unasked(why),
+        Ok(()) => {
             let spot = coverage::spot(&found.resources.reports, counts.resources, usage.resource);
             let ask = Ask {
                 actor,
@@ -470,7 +418,15 @@ pub fn why_use(r: Register, actor: u32, usage: Usage, moment: u64) -> UseTold
                 spot,
                 moment,
             };
-            both(counts, found, &lens, &ends, &sheet, &bytes, ask)
+            let lent = Lent {
+                counts,
+                found: &found,
+                bytes: &bytes,
+                lens: &lens,
+                ends: &ends,
+                sheet: &sheet,
+            };
+            lent.both(ask)
         }
     }
 }

@@ -1,8 +1,5 @@
 -- Case R of 01 at two moments: each kind of reason, who may, and what is told of an actor and its owner. All by computing. Assumes nothing.
-use mathlib.Core.Path.{◌≡◌, refl}
-use mathlib.Core.List.{List, [], ◌∷◌, ◌++◌}
-use Prim.Native.Nat.{ℕ, ◌-◌}
-use lib.ListN.{replicate, length}
+use Rattle.std.proofs.Common.{Err, Ok, ◌≡◌, refl, List, [], ◌∷◌, ◌++◌, ℕ, ◌-◌, replicate, length}
 use Rattle.lists.specs.Lists.{dropping, distinct, same}
 use Rattle.rights.specs.Rights.{has_right, has_rights, bars_machine}
 use Rattle.paths.specs.Containment.{components, climbing, trimmed, starting, contained, reached}
@@ -15,7 +12,6 @@ use Rattle.register.specs.declared.Register.{Register}
 use Rattle.soundness_rules.specs.Sound.{actor_fits, resource_fits, claim_fits, names_stand, root_kept, drawn_from, machine_may, over_chain, drawn, fresh, alone, over, acceptable, sound_claims, sound_actors, sound_resources, within_limits, sound}
 use Rattle.refusals.specs.Refusals.{outcome_of}
 use Rattle.refusals.specs.declared.Refusal.TheVariants.{Absent, Range}
-use Rattle.refusals.specs.declared.Outcome.TheVariants.{Accepted, Refused}
 use Rattle.actions.specs.declared.Usage.{Usage}
 use Rattle.actions.specs.Actions.{action_fits}
 use Rattle.gate_rules.specs.Gate.{gate_tests, action_tests, public_read, contains, covering, covers, first_of, reach_of}
@@ -106,9 +102,9 @@ unfolding who_may who_tests may_use covers outcome_of dropping sound within_limi
 holders = (refl, refl, refl, refl, refl, refl, refl, refl, refl)
 
 -- of machine 2 its owner is told beside it; of what the gate stops, nothing
-answers : (why_use case_r 2 (reads 10) 1999 ≡ record { outcome = Accepted; reason = told 1 (2 ∷ 1 ∷ []) 1 0; owner = 1; owner_reason = told 1 (1 ∷ []) 1 0 })
-    × (why_use case_r 1 (reads 10) 1999 ≡ record { outcome = Accepted; reason = told 1 (1 ∷ []) 1 0; owner = 0; owner_reason = told 0 [] 0 0 })
-    × (why_use case_r 3 (reads 10) 1999 ≡ record { outcome = Refused Absent; reason = told 0 [] 0 0; owner = 0; owner_reason = told 0 [] 0 0 })
-    × (why_use case_r 2 (record { resource = 10; right = 17 }) 1999 ≡ record { outcome = Refused Range; reason = told 0 [] 0 0; owner = 0; owner_reason = told 0 [] 0 0 })
+answers : (why_use case_r 2 (reads 10) 1999 ≡ record { outcome = Ok tt; reason = told 1 (2 ∷ 1 ∷ []) 1 0; owner = 1; owner_reason = told 1 (1 ∷ []) 1 0 })
+    × (why_use case_r 1 (reads 10) 1999 ≡ record { outcome = Ok tt; reason = told 1 (1 ∷ []) 1 0; owner = 0; owner_reason = told 0 [] 0 0 })
+    × (why_use case_r 3 (reads 10) 1999 ≡ record { outcome = Err Absent; reason = told 0 [] 0 0; owner = 0; owner_reason = told 0 [] 0 0 })
+    × (why_use case_r 2 (record { resource = 10; right = 17 }) 1999 ≡ record { outcome = Err Range; reason = told 0 [] 0 0; owner = 0; owner_reason = told 0 [] 0 0 })
 unfolding why_use gate_tests action_tests action_fits reason_of outcome_of dropping sound within_limits sound_actors sound_resources sound_claims acceptable alone over claim_fits names_stand root_kept machine_may drawn fresh over_chain drawn_from actor_fits resource_fits distinct public_read contains covering first_of reach_of has_right has_rights bars_machine chain circling root_granted same components climbing trimmed starting contained reached
 answers = (refl, refl, refl, refl)

@@ -1,10 +1,8 @@
 -- Laws: Who may: an actor is listed exactly where the action with the one use is permitted. Assumes nothing.
-use Rattle.std.specs.Prelude.{◌≡◌, Bool, ◌&&◌, ◌||◌, ℕ, ◌≤◌, ◌^◌, length}
+use Rattle.std.proofs.Common.{◌≡◌, Bool, ◌&&◌, ◌||◌, ℕ, ◌≤◌, ◌^◌, length, Err, Ok, ap, sym, ◌∙◌, arith, length-take, List, [], ◌∷◌, map, eqb-true, le-leb}
 use Rattle.std.proofs.Math.Path.{refl}
-use Rattle.std.proofs.Common.{ap, sym, ◌∙◌, arith, length-take}
 use Rattle.std.proofs.Math.Bool.{true, false, not}
-use mathlib.Core.List.{List, [], ◌∷◌, map}
-use borrow.Author.Tests.{eqb-true, le-leb, not-true}
+use borrow.Author.Tests.{not-true}
 use Rattle.std.proofs.Math.Dec.{eqb, leb, ltb}
 use Rattle.std.proofs.lemmas.List.{length-map}
 use Rattle.lists.specs.Tests.{cases, clash, and_left, and_right, and_both, or_other}
@@ -20,7 +18,6 @@ use Rattle.soundness_rules.specs.Sound.{sound, human, actor_fits}
 use Rattle.soundness_rules.proofs.Registers.{sound_out, actor_fits_out}
 use Rattle.refusals.specs.Refusals.{Test, outcome_of, is_accepted}
 use Rattle.refusals.proofs.Laws.{outcome_cases, outcome_pass, outcome_fail, accepted_out, accepted_in}
-use Rattle.refusals.specs.declared.Outcome.TheVariants.{Accepted, Refused}
 use Rattle.refusals.specs.declared.Refusal.TheVariants.{Unsound, Range}
 use Rattle.actions.specs.Actions.{one_use, flag_count, use_limit, govern_limit, action_fits}
 use Rattle.actions.specs.declared.Usage.{Usage}
@@ -50,7 +47,7 @@ module _ (r : Register) (u : Usage) (moment : ℕ) where
     ranged : leb u.resource id_limit && is_right u.right ≡ true
     timely : ltb moment moment_end ≡ true
 
-  who_asked_out : outcome_of (who_tests r u moment) ≡ Accepted → WhoAsked
+  who_asked_out : outcome_of (who_tests r u moment) ≡ Ok tt → WhoAsked
   unfolding who_tests
   who_asked_out h =
       let told = accepted_out (who_tests r u moment) h in
@@ -60,13 +57,13 @@ module _ (r : Register) (u : Usage) (moment : ℕ) where
         timely = and_right (leb u.resource id_limit && is_right u.right) (ltb moment moment_end) told.1.0;
       }
 
-  who_asked_in : WhoAsked → outcome_of (who_tests r u moment) ≡ Accepted
+  who_asked_in : WhoAsked → outcome_of (who_tests r u moment) ≡ Ok tt
   unfolding who_tests
   who_asked_in h =
       accepted_in (who_tests r u moment)
       (h.soundly, (and_both (leb u.resource id_limit && is_right u.right) (ltb moment moment_end) h.ranged h.timely, tt))
 
-  who_accepted : outcome_of (who_tests r u moment) ≡ Accepted → who_may r u moment ≡ map (λ a. a.id) (filter (may_use r moment u) (actors_of r.actors))
+  who_accepted : outcome_of (who_tests r u moment) ≡ Ok tt → who_may r u moment ≡ map (λ a. a.id) (filter (may_use r moment u) (actors_of r.actors))
   unfolding who_may
   who_accepted e = rw e
 
@@ -78,7 +75,7 @@ module _ (r : Register) (u : Usage) (moment : ℕ) where
   abbrev listed_actor : ℕ → Actor → Bool
   listed_actor x a = may_use r moment u a && eqb x a.id
 
-  who_listed : (x : ℕ) → outcome_of (who_tests r u moment) ≡ Accepted → any (eqb x) (who_may r u moment) ≡ any (listed_actor x) (actors_of r.actors)
+  who_listed : (x : ℕ) → outcome_of (who_tests r u moment) ≡ Ok tt → any (eqb x) (who_may r u moment) ≡ any (listed_actor x) (actors_of r.actors)
   who_listed x e =
       ap (any (eqb x)) (who_accepted e)
       ∙ any_map (λ a. a.id) (eqb x) (filter (may_use r moment u) (actors_of r.actors))
@@ -269,16 +266,16 @@ module _ (r : Register) (u : Usage) (moment : ℕ) where
   rest = record { passed = ask_fits u moment; refusal = Range } ∷ []
 
   -- the answer where a test stops the call, and where none does
-  pub held_unsound : sound r ≡ false → who_held r u moment ≡ holders_of (Refused Unsound) []
+  pub held_unsound : sound r ≡ false → who_held r u moment ≡ holders_of (Err Unsound) []
   unfolding who_held who_tests who_may
   held_unsound e = rw (outcome_fail (record { passed = sound r; refusal = Unsound }) rest e)
 
   module _ (h : sound r ≡ true) where
-    pub held_ranged : ask_fits u moment ≡ false → who_held r u moment ≡ holders_of (Refused Range) []
+    pub held_ranged : ask_fits u moment ≡ false → who_held r u moment ≡ holders_of (Err Range) []
     unfolding who_held who_tests who_may
     held_ranged e =
         rw (outcome_pass (record { passed = sound r; refusal = Unsound }) rest h ∙ outcome_fail (record { passed = ask_fits u moment; refusal = Range }) [] e)
 
-    pub held_asked : ask_fits u moment ≡ true → who_held r u moment ≡ holders_of Accepted (map (λ a. a.id) (filter (may_use r moment u) (actors_of r.actors)))
+    pub held_asked : ask_fits u moment ≡ true → who_held r u moment ≡ holders_of (Ok tt) (map (λ a. a.id) (filter (may_use r moment u) (actors_of r.actors)))
     unfolding who_held who_tests who_may
     held_asked e = rw (accepted_in (who_tests r u moment) (h, (e, tt)))

@@ -1,9 +1,5 @@
 -- What is proved of the reason of an actor for a use. TheoremsWho has what is proved of permission. Assumes nothing.
-use mathlib.Core.Path.{◌≡◌}
-use mathlib.Core.Bool.{true, false, cond}
-use mathlib.Core.List.{[], ◌∷◌}
-use Prim.Native.Nat.{ℕ, suc, ◌≤◌}
-use lib.Dec.{eqb}
+use Rattle.std.proofs.Common.{◌≡◌, true, false, cond, [], ◌∷◌, ℕ, suc, ◌≤◌, eqb}
 use Rattle.lists.specs.Lists.{any}
 use Rattle.register.specs.declared.Resource.{Resource}
 use Rattle.register.specs.declared.Claim.{Claim}

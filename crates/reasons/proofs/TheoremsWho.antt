@@ -1,10 +1,5 @@
 -- What is proved of who may make a use, and of the answer to why one actor may. Assumes nothing.
-use mathlib.Core.Path.{◌≡◌}
-use mathlib.Core.Bool.{true, false, not, ◌&&◌, ◌||◌}
-use mathlib.Core.List.{[]}
-use Prim.Native.Nat.{ℕ, ◌≤◌}
-use lib.Dec.{eqb}
-use lib.ListN.{length}
+use Rattle.std.proofs.Common.{Err, ◌≡◌, true, false, not, ◌&&◌, ◌||◌, [], ℕ, ◌≤◌, eqb, length}
 use Rattle.lists.specs.Lists.{any}
 use Rattle.register.specs.Limits.{actor_limit, machine_kind}
 use Rattle.register.specs.Register.{actors_of, resources_of}
@@ -13,7 +8,6 @@ use Rattle.register.specs.declared.Register.{Register}
 use Rattle.soundness_rules.specs.Sound.{is_machine}
 use Rattle.refusals.specs.Refusals.{outcome_of}
 use Rattle.refusals.specs.declared.Refusal.{Refusal}
-use Rattle.refusals.specs.declared.Outcome.TheVariants.{Refused}
 use Rattle.actions.specs.Actions.{one_use}
 use Rattle.actions.specs.declared.Usage.{Usage}
 use Rattle.actions.specs.declared.Decision.TheVariants.{Permitted}
@@ -44,8 +38,8 @@ pub who_absent : (r : Register) (u : Usage) (moment : ℕ) → any (λ o. eqb u.
 who_absent = holding.who_absent
 
 -- 10a. The answer to why of a call that the gate stops has its refusal, and zeros.
-pub why_refused : (r : Register) (x : ℕ) (u : Usage) (moment : ℕ) (why : Refusal) → outcome_of (gate_tests r (one_use x u moment)) ≡ Refused why
-    → why_use r x u moment ≡ why_on (Refused why) r x u moment
+pub why_refused : (r : Register) (x : ℕ) (u : Usage) (moment : ℕ) (why : Refusal) → outcome_of (gate_tests r (one_use x u moment)) ≡ Err why
+    → why_use r x u moment ≡ why_on (Err why) r x u moment
 why_refused = uses.why_refused
 
 -- 10b. What is told permits exactly where the gate permits the action with the one use: whatever the register, the actor, the use and the moment.

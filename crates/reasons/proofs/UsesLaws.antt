@@ -1,5 +1,5 @@
 -- Laws: The answer to why of a call that is stopped and of one that is not, and the owner of a machine of the register. Assumes nothing.
-use Rattle.std.specs.Prelude.{◌≡◌, Bool, true, ◌&&◌, ℕ, eqb}
+use Rattle.std.specs.Prelude.{◌≡◌, Bool, true, ◌&&◌, ℕ, eqb, Err, Ok}
 use Rattle.std.proofs.Math.Path.{ap}
 use Rattle.std.proofs.Common.{◌∙◌}
 use Rattle.lists.specs.Tests.{and_left, and_both}
@@ -10,7 +10,6 @@ use Rattle.register.specs.declared.Register.{Register}
 use Rattle.soundness_rules.specs.Sound.{sound}
 use Rattle.refusals.specs.Refusals.{outcome_of}
 use Rattle.refusals.specs.declared.Refusal.{Refusal}
-use Rattle.refusals.specs.declared.Outcome.TheVariants.{Accepted, Refused}
 use Rattle.actions.specs.Actions.{one_use}
 use Rattle.actions.specs.declared.Usage.{Usage}
 use Rattle.gate_rules.specs.Gate.{gate_tests}
@@ -30,10 +29,10 @@ module _ (r : Register) (x : ℕ) (u : Usage) (moment : ℕ) where
       ∙ ap (λ b. b.owner) (only r u moment x soundly a at named found.0 found.1.place
       (and_left (eqb x found.0.id) (eqb machine_kind found.0.kind) found.1.passes))
 
-  pub why_accepted : outcome_of (gate_tests r (one_use x u moment)) ≡ Accepted → why_use r x u moment ≡ why_on Accepted r x u moment
+  pub why_accepted : outcome_of (gate_tests r (one_use x u moment)) ≡ Ok tt → why_use r x u moment ≡ why_on (Ok tt) r x u moment
   unfolding why_use
   why_accepted e = ap (λ o. why_on o r x u moment) e
 
-  pub why_refused : (why : Refusal) → outcome_of (gate_tests r (one_use x u moment)) ≡ Refused why → why_use r x u moment ≡ why_on (Refused why) r x u moment
+  pub why_refused : (why : Refusal) → outcome_of (gate_tests r (one_use x u moment)) ≡ Err why → why_use r x u moment ≡ why_on (Err why) r x u moment
   unfolding why_use
   why_refused why e = ap (λ o. why_on o r x u moment) e

@@ -1,9 +1,5 @@
 -- The answer to why a use may be made tells of permission what the gate decides. Assumes nothing.
-use mathlib.Core.Path.{◌≡◌, refl, sym, ◌∙◌}
-use mathlib.Core.Bool.{true, false, ◌&&◌, ◌||◌, not, cond}
-use Prim.Native.Nat.{ℕ}
-use borrow.Author.Tests.{eqb-true}
-use lib.Dec.{eqb}
+use Rattle.std.proofs.Common.{◌≡◌, refl, sym, ◌∙◌, true, false, ◌&&◌, ◌||◌, not, cond, ℕ, eqb-true, eqb}
 use Rattle.lists.specs.Tests.{cases, clash, and_both}
 use Rattle.register.specs.Limits.{machine_kind}
 use Rattle.register.specs.Register.{actors_of}

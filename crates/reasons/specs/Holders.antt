@@ -1,5 +1,6 @@
 -- Believed: Who may make a use at a moment: in register order, those for whom the action with this one use is permitted.
-use Rattle.std.specs.Prelude.{Bool, not, ◌&&◌, ◌||◌, cond, List, [], ◌∷◌, ◌++◌, map, ℕ, ◌-◌, eqb, leb, ltb, length, replicate}
+use Rattle.refusals.specs.declared.Refusal.{Refusal}
+use Rattle.std.specs.Prelude.{Bool, not, ◌&&◌, ◌||◌, cond, List, [], ◌∷◌, ◌++◌, map, ℕ, ◌-◌, eqb, leb, ltb, length, replicate, Result}
 use Rattle.lists.specs.Lists.{filter}
 use Rattle.rights.specs.Rights.{is_right}
 use Rattle.register.specs.Limits.{id_limit, moment_end, machine_kind, actor_limit}
@@ -8,7 +9,6 @@ use Rattle.register.specs.declared.Actor.{Actor}
 use Rattle.register.specs.declared.Register.{Register}
 use Rattle.soundness_rules.specs.Sound.{sound}
 use Rattle.refusals.specs.Refusals.{Test, outcome_of, is_accepted}
-use Rattle.refusals.specs.declared.Outcome.{Outcome}
 use Rattle.refusals.specs.declared.Refusal.TheVariants.{Unsound, Range}
 use Rattle.actions.specs.declared.Usage.{Usage}
 use Rattle.gate_rules.specs.Gate.{covers}
@@ -33,7 +33,7 @@ who_may r u moment =
     cond (is_accepted (outcome_of (who_tests r u moment))) (map (λ a. a.id) (filter (may_use r moment u) (actors_of r.actors))) []
 
 -- the answer: the outcome, the ids with their number, and zeros past them
-abbrev pub holders_of : Outcome → List ℕ → Holders
+abbrev pub holders_of : Result Unit Refusal → List ℕ → Holders
 holders_of o ids = record { outcome = o; ids = ids ++ replicate (actor_limit - length ids) 0; count = length ids }
 
 unfoldable pub who_held : Register → Usage → ℕ → Holders

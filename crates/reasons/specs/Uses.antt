@@ -1,12 +1,10 @@
 -- Believed: The answer to why an actor may make a use or may not: the gate's refusal, or the reason of the actor and, of a machine with an owner, the owner's.
-use Rattle.std.specs.Prelude.{Bool, ◌&&◌, ◌||◌, not, cond, List, [], ◌∷◌, ◌++◌, ℕ, suc, ◌-◌, eqb, length, replicate}
+use Rattle.std.specs.Prelude.{Bool, ◌&&◌, ◌||◌, not, cond, List, [], ◌∷◌, ◌++◌, ℕ, suc, ◌-◌, eqb, length, replicate, Result, Err, Ok}
 use Rattle.register.specs.Limits.{machine_kind, hop_limit}
 use Rattle.register.specs.Register.{actors_of}
 use Rattle.register.specs.declared.Actor.{Actor}
 use Rattle.register.specs.declared.Register.{Register}
 use Rattle.refusals.specs.Refusals.{outcome_of, is_accepted}
-use Rattle.refusals.specs.declared.Outcome.{Outcome}
-use Rattle.refusals.specs.declared.Outcome.TheVariants.{Accepted, Refused}
 use Rattle.refusals.specs.declared.Refusal.{Refusal}
 use Rattle.actions.specs.Actions.{one_use}
 use Rattle.actions.specs.declared.Usage.{Usage}
@@ -24,23 +22,23 @@ abbrev pub machine_owner : Register → ℕ → ℕ
 machine_owner r x = first_owner (first_of (λ a. eqb x a.id && eqb machine_kind a.kind) (actors_of r.actors))
 
 pub record UseTelling : Type 0 where
-  pub outcome : Outcome
+  pub outcome : Result Unit Refusal
   pub reason : Telling
   pub owner : ℕ
   pub owner_reason : Telling
 
 -- nothing was asked
 abbrev pub refused_for : Refusal → UseTelling
-refused_for why = record { outcome = Refused why; reason = telling_none 0; owner = 0; owner_reason = telling_none 0 }
+refused_for why = record { outcome = Err why; reason = telling_none 0; owner = 0; owner_reason = telling_none 0 }
 
-abbrev pub why_on : Outcome → Register → ℕ → Usage → ℕ → UseTelling
-why_on Accepted r x u moment = record {
-  outcome = Accepted;
+abbrev pub why_on : Result Unit Refusal → Register → ℕ → Usage → ℕ → UseTelling
+why_on (Ok _) r x u moment = record {
+  outcome = Ok tt;
   reason = telling r moment (reason_of r moment x u);
   owner = machine_owner r x;
   owner_reason = cond (eqb (machine_owner r x) 0) (telling_none 0) (telling r moment (reason_of r moment (machine_owner r x) u));
 }
-why_on (Refused why) r x u moment = refused_for why
+why_on (Err why) r x u moment = refused_for why
 
 unfoldable pub why_use : Register → ℕ → Usage → ℕ → UseTelling
 why_use r x u moment = why_on (outcome_of (gate_tests r (one_use x u moment))) r x u moment

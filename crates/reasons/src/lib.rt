@@ -2,13 +2,13 @@
 // Here are the types; in specs/ the definitions that the calls are proved to equal.
 #![tactic(auto)]
 
-use refusals::Outcome;
+use refusals::Refusal;
 use register::Register;
 
 // Who may make a use, by their ids in register order; zeros past the count, and all zeros where the call is refused.
 #[derive(Clone, Copy)]
 pub struct Holders {
-    pub outcome: Outcome,
+    pub outcome: Result<(), Refusal>,
     pub ids: [u32; Register::ACTORS],
     pub count: usize,
 }
@@ -46,7 +46,7 @@ impl Told {
 // Why an actor may make a use or may not: its reason and, of a machine with an owner, his number and his reason. Refused: zeros.
 #[derive(Clone, Copy)]
 pub struct UseTold {
-    pub outcome: Outcome,
+    pub outcome: Result<(), Refusal>,
     pub actor: Told,
     pub owner: u32,
     pub owners: Told,

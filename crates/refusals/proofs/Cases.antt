@@ -1,14 +1,9 @@
 -- The numbers of the refusals and the outcome of small lists of tests. All by computing. Assumes
 -- nothing.
-use mathlib.Core.Path.{◌≡◌, refl}
-use mathlib.Core.Bool.{Bool, true, false}
-use mathlib.Core.List.{List, [], ◌∷◌, map}
-use Prim.Native.Nat.{ℕ}
+use Rattle.std.proofs.Common.{Err, Ok, ◌≡◌, refl, Bool, true, false, [], ◌∷◌, map}
 use Rattle.refusals.specs.Refusals.{number_of, Test, outcome_of}
 use Rattle.refusals.specs.declared.Refusal.{Refusal}
 use Rattle.refusals.specs.declared.Refusal.TheVariants.{Unsound, Range, Absent, Stands, Full, NotKeeper, Ownerless, NotByMachine, NoParent, NotHeld, NotLive, NoDelegate, RightLacking, WeightAbove, TooManyHops, Circle, NoClaim, NoGrantor, Form, Count, Buffer, TooDeep, TooManyActions, JsonForm, JsonLacks, NoProposal, NotPermitted, NoEntry, BookFull, BadBook, Doubled, BadOwner, BadKeeper}
-use Rattle.refusals.specs.declared.Outcome.{Outcome}
-use Rattle.refusals.specs.declared.Outcome.TheVariants.{Accepted, Refused}
 
 -- 01's and 02's numbers in their order
 numbers_told : map number_of (
@@ -33,6 +28,6 @@ outcomes_told : map outcome_of (
     ∷ (test false Range ∷ test true Absent ∷ [])
     ∷ (test false Range ∷ test false Absent ∷ [])
     ∷ [])
-    ≡ Accepted ∷ Accepted ∷ Refused Absent ∷ Refused Range ∷ Refused Range ∷ []
+    ≡ (Ok tt) ∷ (Ok tt) ∷ Err Absent ∷ Err Range ∷ Err Range ∷ []
 unfolding outcome_of
 outcomes_told = refl

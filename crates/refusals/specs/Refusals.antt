@@ -1,9 +1,7 @@
 -- Believed: 01's number of each refusal, and the outcome of ordered tests.
-use Rattle.std.specs.Prelude.{Bool, true, false, cond, List, [], ◌∷◌, ℕ}
+use Rattle.std.specs.Prelude.{Bool, true, false, cond, List, [], ◌∷◌, ℕ, Result, Err, Ok}
 use Rattle.refusals.specs.declared.Refusal.{Refusal}
 use Rattle.refusals.specs.declared.Refusal.TheVariants.{Unsound, Range, Absent, Stands, Full, NotKeeper, Ownerless, NotByMachine, NoParent, NotHeld, NotLive, NoDelegate, RightLacking, WeightAbove, TooManyHops, Circle, NoClaim, NoGrantor, Form, Count, Buffer, TooDeep, TooManyActions, JsonForm, JsonLacks, NoProposal, NotPermitted, NoEntry, BookFull, BadBook, Doubled, BadOwner, BadKeeper}
-use Rattle.refusals.specs.declared.Outcome.{Outcome}
-use Rattle.refusals.specs.declared.Outcome.TheVariants.{Accepted, Refused}
 
 abbrev pub number_of : Refusal → ℕ
 number_of Unsound = 1
@@ -46,11 +44,11 @@ pub record Test : Type 0 where
   pub refusal : Refusal
 
 -- the first test that is not passed decides
-unfoldable pub outcome_of : List Test → Outcome
-outcome_of [] = Accepted
-outcome_of (t ∷ tests) = let more = outcome_of tests in cond t.passed more (Refused t.refusal)
+unfoldable pub outcome_of : List Test → Result Unit Refusal
+outcome_of [] = Ok tt
+outcome_of (t ∷ tests) = let more = outcome_of tests in cond t.passed more (Err t.refusal)
 
 -- whether an outcome is acceptance
-abbrev pub is_accepted : Outcome → Bool
-is_accepted Accepted = true
-is_accepted (Refused why) = false
+abbrev pub is_accepted : Result Unit Refusal → Bool
+is_accepted (Ok _) = true
+is_accepted (Err why) = false

@@ -1,12 +1,9 @@
 -- Chains, hop counts, circles and liveness on a small list of claims, once yes and once no. All by
 -- computing. Assumes nothing.
-use mathlib.Core.Path.{◌≡◌, refl}
-use mathlib.Core.Bool.{true, false}
-use mathlib.Core.List.{List, [], ◌∷◌, map}
-use Prim.Native.Nat.{ℕ}
+use Rattle.std.proofs.Common.{◌≡◌, refl, true, false, List, [], ◌∷◌, map, ℕ}
 use Rattle.register.specs.Limits.{is_id}
 use Rattle.register.specs.Register.{with_left, claim_as}
-use Rattle.register.specs.Chain.{latest, chain, above, hops_of, chain_of, root_granted, circling, expired, current, live, weighing}
+use Rattle.register.specs.Chain.{latest, chain, hops_of, chain_of, root_granted, circling, expired, live, weighing}
 use Rattle.register.specs.declared.Claim.{Claim}
 
 abbrev claim : ℕ → ℕ → ℕ → ℕ → ℕ → ℕ → Claim

@@ -1,8 +1,5 @@
 -- What is proved of the sameness of registers. Assumes nothing.
-use mathlib.Core.Path.{◌≡◌}
-use mathlib.Core.Bool.{false}
-use mathlib.Core.List.{map}
-use Prim.Native.Nat.{ℕ}
+use Rattle.std.proofs.Common.{◌≡◌, false, map, ℕ}
 use Rattle.register.specs.Limits.{tells_left}
 use Rattle.register.specs.Register.{with_left, Same, with_claims}
 use Rattle.register.specs.declared.Claim.{Claim}

@@ -1,9 +1,5 @@
 -- Outside version 2 registers whose claims differ in what they hold as left are the same. Assumes nothing.
-use mathlib.Core.Path.{◌≡◌, refl, ap, sym, ◌∙◌}
-use mathlib.Core.Bool.{false}
-use mathlib.Core.List.{List, [], ◌∷◌, map}
-use Prim.Native.Nat.{ℕ}
-use lib.ListN.{take}
+use Rattle.std.proofs.Common.{◌≡◌, refl, ap, sym, ◌∙◌, false, List, [], ◌∷◌, map, ℕ, take}
 use Rattle.lists.specs.Each.{take_map}
 use Rattle.register.specs.Limits.{tells_left}
 use Rattle.register.specs.Register.{claims_of, with_left, Same, with_claims}

@@ -1,7 +1,5 @@
 -- The definitions on small values, computed. Assumes nothing.
-use mathlib.Core.Path.{◌≡◌, refl}
-use mathlib.Core.List.{[], ◌∷◌}
-use Prim.Native.Nat.{ℕ}
+use Rattle.std.proofs.Common.{◌≡◌, refl, [], ◌∷◌}
 use Rattle.register_bytes.specs.Bytes.{actor_size, resource_size, claim_size, actor_count_at, resources_at, resource_count_at, claims_at, claim_count_at, version_at, register_size, number_in, bytes_of}
 
 -- the least byte stands first, and past the end there are zeros

@@ -1,24 +1,14 @@
 -- A record is read where its bytes stand, and the bytes of a record that was read are those that stand there: for an actor, a resource, a claim and a
 -- whole register. Assumes nothing.
-use mathlib.Core.Path.{◌≡◌, refl, sym, ap, ◌∙◌}
-use mathlib.Core.Bool.{true}
-use mathlib.Core.List.{List, [], ◌∷◌, ◌++◌, map, append_assoc, append-nil}
-use Prim.Native.Nat.{ℕ, zero, suc, ◌+◌, ◌*◌, ◌^◌, ◌≤◌, ◌<◌}
-use native.Mathlib.Omega.{arith}
-use borrow.Author.Tests.{eq-eqb}
-use lib.ListN.{length, take, drop, get_or, length-append, length-take, length-drop}
-use lib.Seq.{take_at, take_all}
+use Rattle.std.proofs.Common.{◌≡◌, sym, ap, ◌∙◌, List, [], ◌∷◌, ◌++◌, map, append_assoc, ℕ, ◌+◌, ◌*◌, ◌^◌, ◌≤◌, ◌<◌, arith, length, take, drop, get_or, length-append, take_at}
 use Rattle.lists.specs.Lists.{All}
-use Rattle.lists.specs.Each.{all_imp}
-use Rattle.register.specs.Limits.{actor_limit, resource_limit, claim_limit, path_limit}
-use Rattle.register.specs.Register.{Shaped}
+use Rattle.register.specs.Limits.{path_limit}
 use Rattle.register.specs.declared.Actor.{Actor}
 use Rattle.register.specs.declared.Resource.{Resource}
 use Rattle.register.specs.declared.Claim.{Claim}
-use Rattle.register.specs.declared.Register.{Register}
 use Rattle.lists.specs.Lists.{counted}
-use Rattle.register_bytes.specs.Bytes.{number_size, wide_size, actor_size, resource_size, claim_size, actor_count_at, resources_at, resource_count_at, claims_at, claim_count_at, version_at, register_size, number_in, field_in, actor_in, resource_in, claim_in, records_in, register_at, register_in, bytes_of, bytes_of_all, actor_fields, resource_fields, claim_fields, actor_image, resource_image, claim_image, image_of, Wide}
-use Rattle.register_bytes.specs.Laws.{records_length, records_counted}
+use Rattle.register_bytes.specs.Bytes.{number_size, wide_size, actor_size, resource_size, claim_size, number_in, field_in, actor_in, resource_in, claim_in, bytes_of, bytes_of_all, actor_fields, resource_fields, claim_fields, actor_image, resource_image, claim_image}
+use Rattle.register_bytes.specs.Laws.{records_counted}
 use Rattle.register_bytes.proofs.Reading.{bytes_of_length, behind, number_read, all_length, records_read, joined, number_written, records_written}
 
 -- ---- numbers that stand one behind the other

@@ -3,3 +3,4 @@ pub mod Imaging
 pub mod Whole
 pub mod Theorems
 pub mod Cases
+pub mod Firsts

@@ -1,12 +1,6 @@
 -- What is read at a place is what was written there, and what is written of what was read are the bytes that stand there. Assumes nothing.
-use mathlib.Core.Path.{◌≡◌, refl, sym, ap, ◌∙◌, subst}
-use mathlib.Core.List.{List, [], ◌∷◌, ◌++◌, append_assoc}
-use Prim.Native.Nat.{ℕ, zero, suc, ◌+◌, ◌*◌, ◌/◌, ◌%◌, ◌^◌, ◌≤◌, ◌<◌}
-use native.Mathlib.Nat.{mod-add-div, div-lt_iff_lt-mul, zero-lt-suc, pow-suc, pow-zero, add-mul-div_left, add-mul-mod_self_left, div-eq_of_lt, mod-eq_of_lt}
-use native.Mathlib.Numerals.{add-one}
-use native.Mathlib.Omega.{arith}
-use lib.ListN.{length, take, drop, get_or, length-append, length-drop}
-use lib.Seq.{drop-cons, drop-drop, drop_at, take-add, get_or-drop}
+use Rattle.std.proofs.Common.{◌≡◌, refl, sym, ap, ◌∙◌, subst, List, [], ◌∷◌, ◌++◌, append_assoc, ℕ, zero, suc, ◌+◌, ◌*◌, ◌/◌, ◌%◌, ◌^◌, ◌≤◌, ◌<◌, div-lt_iff_lt-mul, zero-lt-suc, pow-suc, add-one, arith, length, take, drop, get_or, length-append, drop-cons, drop-drop, drop_at, take-add, get_or-drop}
+use native.Mathlib.Nat.{mod-add-div, pow-zero}
 use Rattle.lists.specs.Lists.{All}
 use Rattle.register_bytes.specs.Bytes.{number_in, records_in, bytes_of, bytes_of_all}
 

@@ -1,18 +1,9 @@
 -- A whole register is read from its bytes, and bytes of a register's length are those of the register that they hold. Assumes nothing.
-use mathlib.Core.Path.{◌≡◌, refl, sym, ap, ◌∙◌}
-use mathlib.Core.List.{List, [], ◌∷◌, ◌++◌, append-nil}
-use Prim.Native.Nat.{ℕ, ◌+◌, ◌*◌, ◌^◌, ◌≤◌, ◌<◌}
-use native.Mathlib.Omega.{arith}
-use borrow.Author.Tests.{eq-eqb}
-use lib.ListN.{length, take, drop, length-append, length-drop, take-append-drop}
-use lib.Seq.{take_all, drop-drop}
+use Rattle.std.proofs.Common.{◌≡◌, refl, sym, ap, ◌∙◌, List, [], ◌∷◌, ◌++◌, append-nil, ℕ, ◌+◌, ◌*◌, ◌^◌, ◌≤◌, ◌<◌, arith, eq-eqb, length, take, drop, length-append, length-drop, take-append-drop, take_all, drop-drop}
 use Rattle.lists.specs.Lists.{All}
 use Rattle.lists.specs.Each.{all_imp, all_both}
 use Rattle.register.specs.Limits.{actor_limit, resource_limit, claim_limit, path_limit}
 use Rattle.register.specs.Register.{Shaped}
-use Rattle.register.specs.declared.Actor.{Actor}
-use Rattle.register.specs.declared.Resource.{Resource}
-use Rattle.register.specs.declared.Claim.{Claim}
 use Rattle.register.specs.declared.Register.{Register}
 use Rattle.register_bytes.specs.Bytes.{number_size, wide_size, actor_size, resource_size, claim_size, actor_count_at, resources_at, resource_count_at, claims_at, claim_count_at, version_at, register_size, number_in, actor_in, resource_in, claim_in, records_in, register_at, register_in, bytes_of, bytes_of_all, actor_fields, resource_fields, claim_fields, actor_image, resource_image, claim_image, image_of, Wide}
 use Rattle.register_bytes.specs.Laws.{register_in_lem}

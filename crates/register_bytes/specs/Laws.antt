@@ -1,13 +1,11 @@
 -- Laws: The records that are read one behind the other, by their places; and which bytes hold a register. Assumes nothing.
-use Rattle.std.specs.Prelude.{◌≡◌, List, [], ◌∷◌, map, length, take, drop, get_or}
+use Rattle.std.specs.Prelude.{◌≡◌, List, ◌∷◌, map, length, drop, get_or, ℕ, zero, suc, ◌+◌, ◌*◌, ◌≤◌, ◌<◌}
+use Rattle.std.proofs.Common.{sym, ◌∙◌, eq-eqb, ne_eqb, length-take, length-drop, arith}
 use Rattle.std.proofs.Math.Path.{refl, ap}
-use Rattle.std.proofs.Common.{sym, ◌∙◌, eq-eqb, ne_eqb, length-take, length-drop}
-use Prim.Native.Nat.{ℕ, zero, suc, ◌+◌, ◌*◌, ◌≤◌, ◌<◌}
-use native.Mathlib.Omega.{arith}
 use Rattle.lists.specs.Lists.{All, counted}
 use Rattle.register.specs.Limits.{actor_limit, resource_limit, claim_limit, path_limit}
 use Rattle.register.specs.Register.{Shaped}
-use Rattle.register_bytes.specs.Bytes.{number_size, wide_size, actor_size, resource_size, claim_size, resources_at, claims_at, register_size, actor_in, resource_in, claim_in, number_in, field_in, records_in, register_at, versionless, register_in}
+use Rattle.register_bytes.specs.Bytes.{number_size, wide_size, actor_size, resource_size, claim_size, resources_at, claims_at, register_size, actor_in, resource_in, claim_in, number_in, records_in, register_at, versionless, register_in}
 
 module _ {A : Type 0} (read : ℕ → A) (size : ℕ) where
   pub records_length : (n at : ℕ) → length (records_in read size at n) ≡ n
@@ -65,10 +63,6 @@ register_in_lem bytes long = rw (eq-eqb (length bytes) register_size long)
 pub register_other : (bytes : List ℕ) → (length bytes ≡ register_size → ⊥) → register_in bytes ≡ versionless
 unfolding register_in
 register_other bytes other = rw (ne_eqb (length bytes) register_size other)
-
--- the first of the numbers that stand from a place on
-pub field_first : (at : ℕ) (bytes : List ℕ) → number_in number_size at bytes ≡ field_in bytes at 0
-field_first at bytes = let same : at + 0 * number_size ≡ at = omega arith in ap (λ k. number_in number_size k bytes) (sym same)
 
 -- the register that is read has its shape
 pub register_shaped : (bytes : List ℕ) → length bytes ≡ register_size → Shaped (register_at bytes)

@@ -1,32 +1,24 @@
 -- Claims of a list stored one after the other, where they stand: each with the hands that it has left, by the hops that are kept of those before it. Assumes nothing.
-use mathlib.Core.Path.{◌≡◌, refl, sym, ap, ◌∙◌}
-use mathlib.Core.Bool.{cond}
-use mathlib.Core.List.{List, [], ◌∷◌, ◌++◌, map, append_assoc}
-use Prim.Native.Nat.{ℕ, suc, ◌+◌, ◌-◌, ◌≤◌, ◌<◌}
-use native.Mathlib.Numerals.{add-one}
-use native.Mathlib.Omega.{arith}
-use borrow.Author.Tests.{eqb-true, eqb-false, lt-leb}
-use lib.Dec.{eqb, leb}
-use lib.ListN.{length, take, drop, get_or, set, length-map, length-set, length-take, length-drop, length-append, length-reverse, get_or-map}
-use lib.Seq.{take-suc, drop-cons, set_at, get_or-append_seam, get_or-set_same, get_or-set_other}
+use Rattle.std.proofs.Common.{Option, ℕ, ◌≡◌, refl, sym, ap, ◌∙◌, cond, List, [], ◌∷◌, ◌++◌, map, append_assoc, suc, ◌+◌, ◌≤◌, ◌<◌, add-one, arith, eqb-true, eqb, leb, length, take, drop, get_or, set, length-set, length-take, take-suc, drop-cons, get_or-set_same, get_or-set_other}
+use borrow.Author.Tests.{eqb-false, lt-leb}
+use lib.ListN.{length-map, length-reverse, get_or-map}
+use lib.Seq.{set_at, get_or-append_seam}
 use Rattle.lists.specs.Tests.{cases}
 use Rattle.register.specs.Limits.{claim_limit}
 use Rattle.register.specs.Register.{with_left, no_claim}
 use Rattle.register.specs.Laws.{bare}
 use Rattle.register.specs.Chain.{latest}
 use Rattle.register.specs.declared.Claim.{Claim}
-use Rattle.register.specs.declared.Claims.{Claims}
 use Rattle.columns.specs.Columns.{claim_id, parent_of, latest_place, chain_places}
 use Rattle.columns.specs.Laws.{place_cases, place_found_lem, chain_places_at, chain_places_nowhere, chain_places_zero}
 use Rattle.columns.specs.Laws as column-laws
-use Rattle.columns.specs.declared.Place.{Place}
 use Rattle.lookup.specs.Finding.{place_number, earlier_places, earlier_found}
 use Rattle.lookup.specs.declared.Found.{Found}
 use Rattle.lookup.specs.Laws.{earlier_at}
 use Rattle.soundness_rules.specs.Sound.{stored, each_stored}
 use Rattle.soundness_rules.proofs.Alike.{each_stored_bare, stored_claims_next}
 use Rattle.claim_judging.specs.Over.{hands_at}
-use Rattle.register_reading.specs.Lefts.{hops_by, links_of, stored_in}
+use Rattle.register_reading.specs.Lefts.{hops_by, links_of}
 use Rattle.register_reading.specs.declared.Links.{Links}
 
 -- the places of the parents, by the ids and the parents of the claims
@@ -38,7 +30,7 @@ places_told cs n linked found = ap (λ f. f.places) found ∙ ap (λ m. earlier_
 -- the hops of a claim before place i, by those that are kept
 module _ (ids parents hops : List ℕ) (i p : ℕ) (few : i ≤ claim_limit)
     (kept : (j : ℕ) → j < i → get_or hops j 0 ≡ length (chain_places ids parents j (get_or parents j 0))) where
-  abbrev looked : Place → ℕ
+  abbrev looked : Option ℕ → ℕ
   looked w = cond (leb claim_limit (place_number claim_limit w)) 0 (get_or hops (place_number claim_limit w) 0 + 1)
 
   hops_chain : hops_by hops p (place_number claim_limit (latest_place ids i p)) ≡ length (chain_places ids parents i p)
@@ -94,12 +86,6 @@ stored_length version cs =
     ∙ ap length (each_stored_bare version (latest cs))
     ∙ length-map (latest cs) bare
     ∙ length-reverse cs
-
--- the list has as many places as it came with
-pub storing_long : {version : ℕ} {cs : List Claim} {n : ℕ} {list : List Claim} {hops : List ℕ} {i : ℕ} → Storing version cs n list hops i → n ≤ claim_limit
-    → length cs ≡ claim_limit → length list ≡ claim_limit
-storing_long {version} {cs} {n} {list} {hops} {i} p short long =
-    omega (arith, ap length p.put, length-append (latest (each_stored version (latest (take i cs)))) (drop i cs), stored_length version (take i cs), length-take i cs, length-drop i cs, long, short, p.within)
 
 module _ {version : ℕ} {cs : List Claim} {n : ℕ} {list : List Claim} {hops : List ℕ} {i : ℕ} (p : Storing version cs n list hops i) (short : n ≤ claim_limit)
     (long : length cs ≡ claim_limit) (inside : i < n) {ups : List ℕ} (of-ups : ups ≡ earlier_places (map claim_id cs) (map parent_of cs) n) where
@@ -168,11 +154,3 @@ module _ {version : ℕ} {cs : List Claim} {n : ℕ} {list : List Claim} {hops :
           ∙ stored_claims_next version (take i cs) (get_or cs i no_claim)))
           ∙ ap (λ m. latest (each_stored version (latest (take m cs))) ++ drop m cs) (sym (add-one i));
     }
-
--- all are stored
-pub storing_done : {version : ℕ} {k : Claims} {list : List Claim} {hops : List ℕ} {i : ℕ} → Storing version k.list k.count list hops i → k.count ≤ i
-    → ◌≡◌ {A = Claims} (record { list = list; count = k.count }) (stored_in version k)
-storing_done {version} {k} {list} {hops} {i} p done =
-    let whole : i ≡ k.count = omega (arith, p.within, done) in
-    ap (λ l. record { list = l; count = k.count })
-    (p.put ∙ ap (λ m. latest (each_stored version (latest (take m k.list))) ++ drop m k.list) whole)

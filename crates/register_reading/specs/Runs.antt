@@ -1,18 +1,16 @@
 -- Laws: Numbers read one behind the other by the code: what they are, and where the reading then stands. Assumes nothing.
-use Rattle.std.specs.Prelude.{ℕ, ◌+◌, ◌-◌, ◌≤◌, ◌≡◌, refl, List, [], ◌∷◌, Bool, true, false, cond, ◌&&◌, leb, length, drop, replicate}
+use Rattle.std.specs.Prelude.{ℕ, ◌+◌, ◌≤◌, ◌≡◌, refl, List, [], ◌∷◌, Bool, true, false, cond, ◌&&◌, leb, length, drop}
 use Rattle.std.proofs.Math.Path.{ap}
-use Rattle.std.proofs.Common.{◌∙◌, arith, le-leb, length-append}
-use Rattle.std.proofs.lemmas.List.{length-replicate}
+use Rattle.std.proofs.Common.{◌∙◌, arith, le-leb}
 use Rattle.lists.specs.Tests.{cases}
-use Rattle.register.specs.Limits.{path_limit, tells_left}
+use Rattle.register.specs.Limits.{tells_left}
 use Rattle.refusals.specs.declared.Refusal.{Refusal}
 use Rattle.refusals.specs.declared.Refusal.TheVariants.{Form}
-use Rattle.lines.specs.Reading.{State, going, failed, Read, LineForm, decimal, read_form}
+use Rattle.lines.specs.Reading.{State, going, failed, LineForm, decimal, read_form}
 use Rattle.lines.proofs.Laws.{form_bound}
-use Rattle.lines.specs.Answers.{FieldSays, ScopeSays, state_of}
+use Rattle.lines.specs.Answers.{FieldSays, state_of}
 use Rattle.lines.specs.declared.Cursor.{Cursor}
-use Rattle.lines.specs.declared.Field.{Field}
-use Rattle.lines.specs.declared.Scope.{Scope}
+use Rattle.lines.specs.declared.Reading.{Reading}
 use Rattle.text_rules.specs.Records.{values, passed}
 use Rattle.text_rules.specs.Registers.{expiry_form, claim_from}
 use Rattle.register_reading.specs.Lefts.{left_form, read_left}
@@ -27,7 +25,7 @@ unfolding values passed
 run_none s st = record { got = refl; stands = refl }
 
 -- one line in front
-pub run_next : (s : List ℕ) (f : LineForm) (forms : List LineForm) (st : State) (r : Field) (numbers : List ℕ) (end : State) →
+pub run_next : (s : List ℕ) (f : LineForm) (forms : List LineForm) (st : State) (r : Reading ℕ) (numbers : List ℕ) (end : State) →
     FieldSays s r (read_form f st) → Run s forms (state_of s r.cursor) numbers end → Run s (f ∷ forms) st (r.value ∷ numbers) end
 unfolding values passed
 run_next s f forms st r numbers end says run = record {
@@ -36,12 +34,12 @@ run_next s f forms st r numbers end says run = record {
 }
 
 -- a number that was read is at most the greatest
-pub field_bound : (s : List ℕ) (key : List ℕ) (least greatest : ℕ) (above : Refusal) (st : State) (r : Field) →
+pub field_bound : (s : List ℕ) (key : List ℕ) (least greatest : ℕ) (above : Refusal) (st : State) (r : Reading ℕ) →
     FieldSays s r (read_form (decimal key least greatest above) st) → r.value ≤ greatest
 field_bound s key least greatest above st r says = rw says.value (form_bound key least greatest above st)
 
 -- the line of the hands left, where the version has one
-module _ (version : ℕ) (s : List ℕ) (st : State) (l : Field) (says : FieldSays s l (read_left version st)) where
+module _ (version : ℕ) (s : List ℕ) (st : State) (l : Reading ℕ) (says : FieldSays s l (read_left version st)) where
   left_told : tells_left version ≡ true → FieldSays s l (read_form left_form st)
   unfolding read_left
   left_told t = record {
@@ -57,7 +55,7 @@ module _ (version : ℕ) (s : List ℕ) (st : State) (l : Field) (says : FieldSa
   )
 
   -- it stands before that of the expiry
-  module _ (e : Field) (last : FieldSays s e (read_form expiry_form (state_of s l.cursor))) where
+  module _ (e : Reading ℕ) (last : FieldSays s e (read_form expiry_form (state_of s l.cursor))) where
     last_run : Run s (expiry_form ∷ []) (state_of s l.cursor) (e.value ∷ []) (state_of s e.cursor)
     last_run = run_next s expiry_form [] (state_of s l.cursor) e [] (state_of s e.cursor) last (run_none s (state_of s e.cursor))
 
@@ -84,12 +82,6 @@ module _ (version : ℕ) (s : List ℕ) (st : State) (l : Field) (says : FieldSa
       }
   claim_told id parent grantor holder resource rights weight expiry =
       cases (tells_left version) (λ t. rw t) (λ f. rw (f, (left_untold f).0))
-
--- a path that was read is no longer than its places
-pub scope_bound : (s : List ℕ) (read : Read (List ℕ)) (r : Scope) → ScopeSays s r read → length r.path ≡ path_limit → r.len ≤ path_limit
-scope_bound s read r says places =
-    let p = read.value in
-    omega (arith, says.len, ap length says.path, places, length-append p (replicate (path_limit - length p) 0), length-replicate {A = ℕ} (path_limit - length p) 0)
 
 -- a reading begins before the whole text, at line 1
 pub run_start : (s : List ℕ) (c : Cursor) → c ≡ record { at = 0; line = 0; on = true; refusal = Form } → state_of s c ≡ going s 1

@@ -1,13 +1,10 @@
 -- The empty register written: its text has 41 bytes, which a buffer of 41 takes and one of 40 does not. And a register that is not
 -- sound, before a buffer that is too short: 1 comes first. Computed. Assumes nothing.
-use mathlib.Core.Path.{◌≡◌, refl}
-use mathlib.Core.List.{[]}
-use lib.ListN.{replicate, drop}
+use Rattle.std.proofs.Common.{Ok, ◌≡◌, refl, [], replicate, drop}
 use Rattle.lists.specs.Lists.{splice, distinct}
 use Rattle.register.specs.Register.{empty_register}
 use Rattle.register.specs.declared.Register.{Register}
 use Rattle.soundness_rules.specs.Sound.{sound_actors, sound_resources, sound_claims, within_limits, sound}
-use Rattle.refusals.specs.declared.Outcome.TheVariants.{Accepted}
 use Rattle.refusals.specs.declared.Refusal.TheVariants.{Unsound, Buffer}
 use Rattle.decimals.specs.Decimals.{digits, digits_with}
 use Rattle.lines.specs.Lines.{decimal_line}
@@ -16,7 +13,7 @@ use Rattle.text_rules.specs.Registers.{register_text}
 use Rattle.register_writing.specs.Writing.{register_written, register_buffer}
 use Rattle.buffers.specs.Delivery.{unwritten, delivered}
 
-empty_written : register_written empty_register (replicate 41 0) ≡ record { outcome = Accepted; length = 41 }
+empty_written : register_written empty_register (replicate 41 0) ≡ record { outcome = Ok tt; length = 41 }
 unfolding register_written delivered sound within_limits sound_actors sound_resources sound_claims distinct empty_register register_text decimal_line digits digits_with texts
 empty_written = refl
 

@@ -1,14 +1,6 @@
 -- What writing a register answers where it is sound and where it is not, the length of a path, and that the text of a register is that of the one whose
 -- claims are read from their sheet. Assumes nothing.
-use Prim.Native.Nat.{ℕ, ◌≤◌, ◌<◌}
-use mathlib.Core.Path.{◌≡◌, refl, ap, ◌∙◌}
-use mathlib.Core.List.{List, ◌++◌}
-use mathlib.Core.Bool.{true, false}
-use native.Mathlib.Omega.{arith}
-use lib.Dec.{leb}
-use lib.ListN.{length, get_or, take}
-use lib.Seq.{get_or-take, length-take-le}
-use borrow.Author.Tests.{le-leb, leb-true}
+use Rattle.std.proofs.Common.{ℕ, ◌≤◌, ◌<◌, ◌≡◌, refl, ap, ◌∙◌, List, ◌++◌, true, false, arith, leb, length, get_or, take, get_or-take, length-take-le, le-leb, leb-true}
 use Rattle.lists.specs.Each.{all_imp, every_all, all_every, every_at}
 use Rattle.register.specs.Limits.{actor_limit, resource_limit, claim_limit, path_limit}
 use Rattle.register.specs.Register.{actors_of, resources_of}

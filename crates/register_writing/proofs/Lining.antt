@@ -1,9 +1,5 @@
 -- The text of numbers, a line for each, put line by line. Assumes nothing.
-use Prim.Native.Nat.{ℕ, ◌+◌, ◌≤◌}
-use mathlib.Core.Path.{◌≡◌, ap, ◌∙◌}
-use mathlib.Core.Bool.{cond}
-use mathlib.Core.List.{List, [], ◌∷◌}
-use lib.ListN.{length}
+use Rattle.std.proofs.Common.{ℕ, ◌+◌, ◌≤◌, ◌≡◌, ap, ◌∙◌, cond, List, [], ◌∷◌, length}
 use Rattle.lists.specs.Tests.{cases}
 use Rattle.register.specs.Limits.{left_limit, tells_left}
 use Rattle.text_rules.specs.Keys.{left_key}

@@ -20,7 +20,7 @@ ghost use Rattle.register_writing.specs.Writing.{register_written, register_buff
 ghost use Rattle.register_writing.specs.Lengths.{paths_fit};
 
 use buffers::Written;
-use refusals::{Outcome, Refusal};
+use refusals::Refusal;
 use register::{Actor, Actors, Claim, Register, Resource, Resources};
 
 // Puts the line of a resource's path into the buffer at `at`, and answers the position behind it.
@@ -30,10 +30,7 @@ fn put_scope(buf: &mut [u8], at: usize, o: Resource) -> usize
     ensures written { buf.new ≡ splice at (scope_line (path_of o)) buf.old }
 {
     let path_at = buffers::put_bytes(buf, at, b"scope=");
-    let len = o.len as usize;
-    let path = o.path;
-    let bytes: &[u8] = &path;
-    let end_at = buffers::put_bytes(buf, path_at, &bytes[..len]);
+    let end_at = buffers::put_bytes(buf, path_at, &o.path[..o.len as usize]);
     buffers::put_bytes(buf, end_at, b"\n")
 }
 
@@ -95,11 +92,8 @@ fn put_actors(buf: &mut [u8], at: usize, k: Actors) -> usize
     ensures written { buf.new ≡ splice at (section_text actors_key actor_limit actor_text (actors_of k)) buf.old }
 {
     let mut end = buffers::put_line(buf, at, b"actors=", k.count as u64);
-    let mut i: usize = 0;
-    while i < k.count {
-        let a = k.list[i];
-        end = put_actor(buf, end, a);
-        i += 1;
+    for a in &k.list[..k.count] {
+        end = put_actor(buf, end, *a);
     }
     end
 }
@@ -111,11 +105,8 @@ fn put_resources(buf: &mut [u8], at: usize, k: Resources) -> usize
     ensures written { buf.new ≡ splice at (section_text resources_key resource_limit resource_text (resources_of k)) buf.old }
 {
     let mut end = buffers::put_line(buf, at, b"resources=", k.count as u64);
-    let mut i: usize = 0;
-    while i < k.count {
-        let o = k.list[i];
-        end = put_resource(buf, end, o);
-        i += 1;
+    for o in &k.list[..k.count] {
+        end = put_resource(buf, end, *o);
     }
     end
 }
@@ -127,11 +118,8 @@ fn put_claims(buf: &mut [u8], at: usize, version: u64, sheet: &[u32], n: usize) 
     ensures written { buf.new ≡ splice at (section_text claims_key claim_limit (claim_text version) (take n (claims_in sheet.now))) buf.old }
 {
     let mut end = buffers::put_line(buf, at, b"claims=", n as u64);
-    let mut i: usize = 0;
-    while i < n {
-        let c = columns::claim_at(sheet, i);
-        end = put_claim(buf, end, version, c);
-        i += 1;
+    for i in 0..n {
+        end = put_claim(buf, end, version, columns::claim_at(sheet, i));
     }
     end
 }
@@ -154,19 +142,22 @@ pub fn write(r: Register, buf: &mut [u8]) -> Written
     ensures answer { result ≡ register_written r buf.old }
     ensures buffer { buf.new ≡ register_buffer r buf.old }
 {
-    let a = r.actors;
-    let o = r.resources;
-    let k = r.claims;
     let mut sheet = [0u32; columns::SHEET];
-    let found = soundness::examine(&mut sheet, r.version, a, o, k);
+    let found = soundness::examine(&mut sheet, r.version, r.actors, r.resources, r.claims);
     if !found.sound {
         return Written {
-            outcome: Outcome::Refused(Refusal::Unsound),
+            outcome: Err(Refusal::Unsound),
             length: 0,
         };
     }
     let mut made = [0u8; text_rules::REGISTER_TEXT];
-    let length = compose(&mut made, r.version, a, o, &sheet, k.count);
-    let text: &[u8] = &made;
-    buffers::deliver(buf, &text[..length])
+    let length = compose(
+        &mut made,
+        r.version,
+        r.actors,
+        r.resources,
+        &sheet,
+        r.claims.count,
+    );
+    buffers::deliver(buf, &made[..length])
 }

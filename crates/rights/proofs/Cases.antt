@@ -1,7 +1,5 @@
 -- The definitions of rights on small values, each once yes and once no. Assumes nothing.
-use mathlib.Core.Path.{◌≡◌, refl}
-use mathlib.Core.Bool.{true, false}
-use Prim.Native.Nat.{◌-◌}
+use Rattle.std.proofs.Common.{◌≡◌, refl, true, false, ◌-◌}
 use Rattle.rights.specs.Rights.{is_right, worth_of, machine_grants, is_rights, has_right, has_rights, bars_machine}
 
 policy_modify_is_right : is_right 16 ≡ true

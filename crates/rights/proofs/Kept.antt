@@ -1,13 +1,8 @@
 -- What a machine may not grant, summed over the table: the number that the sum comes to, and that it bars a machine from just what
 -- has one of its digits. Assumes nothing.
-use mathlib.Core.Path.{◌≡◌, refl, sym, ap, ◌∙◌}
-use mathlib.Core.Bool.{Bool, true, false, not, cond, beq}
-use Prim.Native.Nat.{ℕ, zero, suc, ◌+◌, ◌-◌, ◌^◌, ◌≤◌, ◌<◌, zero-le}
-use native.Mathlib.Numerals.{add-one}
-use native.Mathlib.Omega.{arith}
-use borrow.Author.Tests.{eq-eqb, ne_eqb, eqb-true, eqb-false, ltb-true, lt-ltb, not-true}
-use lib.Dec.{eqb}
-use lib.Bits.{bit_and}
+use Rattle.std.proofs.Common.{◌≡◌, refl, sym, ap, ◌∙◌, Bool, true, false, not, cond, ℕ, zero, suc, ◌+◌, ◌-◌, ◌^◌, ◌≤◌, ◌<◌, zero-le, add-one, arith, eq-eqb, ne_eqb, eqb-true, ltb-true, lt-ltb, eqb, bit_and}
+use mathlib.Core.Bool.{beq}
+use borrow.Author.Tests.{eqb-false, not-true}
 use Rattle.lists.specs.Tests.{iff_same, beq_same}
 use Rattle.lists.specs.Counts.{every_counted_sound}
 use Rattle.rights.specs.Rights.{right_count, machine_grants, bars_machine}
@@ -40,9 +35,6 @@ module _ (b n : ℕ) where
 pub record Summing (kept b : ℕ) : Type 0 where
   pub within : b ≤ right_count
   pub sum : kept + kept_from b (right_count - b) ≡ kept_all
-
-pub summing_start : Summing 0 0
-summing_start = record { within = omega arith; sum = omega arith }
 
 module _ {kept b : ℕ} (s : Summing kept b) (h : b < right_count) where
   more : right_count - b ≡ suc (right_count - (b + 1))

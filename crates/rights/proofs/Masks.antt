@@ -1,14 +1,11 @@
 -- What the binary digits of two numbers say of the number of their common digits: one right read through its worth, and every
 -- right of a number through a mask. Assumes nothing.
-use mathlib.Core.Path.{◌≡◌, refl, sym, ap, ap₂, ◌∙◌}
-use mathlib.Core.Bool.{Bool, true, beq}
-use Prim.Native.Nat.{ℕ, zero, suc, ◌+◌, ◌-◌, ◌*◌, ◌/◌, ◌%◌, ◌^◌, ◌≤◌, ◌<◌, zero-le, min}
-use native.Mathlib.Nat.{pow-suc, pow-succ', div-div-eq-div-mul, div-one, div-add-mod', mod-lt, min-eq_left, zero-lt-suc, mod-eq_of_lt}
-use native.Mathlib.Omega.{arith}
-use lib.Dec.{eqb, ltb}
-use lib.Bits.{bit_and, and_step, and_shr, and_mod, and_le_r, and_zero_r}
-use lib.Pow.{pow_pos, field, mod-mod-pow}
-use borrow.Author.Tests.{eq-eqb, eqb-true, eqb-false, ltb-true, lt-ltb}
+use Rattle.std.proofs.Common.{◌≡◌, refl, sym, ap, ap₂, ◌∙◌, Bool, true, ℕ, zero, suc, ◌+◌, ◌-◌, ◌*◌, ◌/◌, ◌%◌, ◌^◌, ◌≤◌, ◌<◌, zero-le, min, pow-suc, div-one, div-add-mod', mod-lt, zero-lt-suc, mod-eq_of_lt, arith, eqb, ltb, bit_and, pow_pos, eq-eqb, eqb-true, ltb-true, lt-ltb}
+use mathlib.Core.Bool.{beq}
+use native.Mathlib.Nat.{pow-succ', div-div-eq-div-mul, min-eq_left}
+use lib.Bits.{and_step, and_shr, and_mod, and_le_r, and_zero_r}
+use lib.Pow.{field, mod-mod-pow}
+use borrow.Author.Tests.{eqb-false}
 use Rattle.lists.specs.Tests.{cases, and_right, and_both, iff_same, beq_same}
 use Rattle.lists.specs.Lists.{every}
 use Rattle.lists.specs.Counts.{every_counted_sound}

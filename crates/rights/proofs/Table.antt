@@ -1,13 +1,6 @@
 -- The rule of the table of rights, turned from one test that antt computes over all of its rows into the rule at each place. Assumes nothing.
-use mathlib.Core.Path.{◌≡◌, refl, ap, ap₂}
-use mathlib.Core.Bool.{Bool, true, ◌&&◌, beq}
-use mathlib.Core.List.{List, [], ◌∷◌}
-use Prim.Native.Nat.{ℕ, zero, suc, ◌+◌, ◌^◌, ◌<◌}
-use native.Mathlib.Nat.{add-zero, zero-add, add-suc, suc-add}
-use native.Mathlib.Omega.{arith}
-use lib.Dec.{eqb}
-use lib.ListN.{length, get_or}
-use borrow.Author.Tests.{eqb-true}
+use Rattle.std.proofs.Common.{◌≡◌, refl, ap, ap₂, Bool, true, ◌&&◌, List, [], ◌∷◌, ℕ, zero, suc, ◌+◌, ◌^◌, ◌<◌, add-zero, zero-add, add-suc, suc-add, arith, eqb, length, get_or, eqb-true}
+use mathlib.Core.Bool.{beq}
 use Rattle.lists.specs.Tests.{and_left, and_right, beq_same}
 use Rattle.rights.specs.declared.Right.{Right}
 use Rattle.rights.specs.Rights.{right_count, machine_grants}

@@ -1,11 +1,6 @@
 -- What is proved of rights and rights numbers: the table's rule, what a worth is read as, what it is to have every right of a
 -- number, and what bars a machine. Assumes nothing.
-use mathlib.Core.Path.{◌≡◌}
-use mathlib.Core.Bool.{true, false, ◌||◌}
-use Prim.Native.Nat.{ℕ, ◌^◌, ◌<◌}
-use lib.Dec.{eqb}
-use lib.ListN.{get_or}
-use lib.Bits.{bit_and}
+use Rattle.std.proofs.Common.{◌≡◌, true, false, ◌||◌, ℕ, ◌^◌, ◌<◌, eqb, get_or, bit_and}
 use Rattle.rights.specs.Rights.{right_count, audit_writing, registry_modifying, policy_modifying, is_right, worth_of, machine_grants, is_rights, has_right, has_rights, bars_machine}
 use Rattle.rights.specs.Laws as laws
 use Rattle.rights.specs.Table.{the_table, no_row}

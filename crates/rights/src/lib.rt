@@ -177,15 +177,10 @@ pub fn has_all(n: u32, m: u32) -> bool
 pub fn bars_machine(n: u32) -> bool
     ensures { result ≡ bars_machine n }
 {
-    let table = RIGHTS;
     let mut kept: u32 = 0;
-    let mut b: usize = 0;
-    while b < COUNT {
-        if table[b].machine {
-            b += 1;
-        } else {
-            kept += table[b].worth;
-            b += 1;
+    for right in &RIGHTS {
+        if !right.machine {
+            kept += right.worth;
         }
     }
     n & kept != 0

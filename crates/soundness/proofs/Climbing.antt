@@ -1,19 +1,12 @@
 -- Claims judged over those before them, from the front: the first i of them are as they should be, and the hops of each are kept.
 -- Assumes nothing.
-use mathlib.Core.Path.{◌≡◌, refl, sym, ap, ◌∙◌}
-use mathlib.Core.Bool.{Bool, true, false, ◌&&◌, and-false}
-use mathlib.Core.List.{List, [], ◌∷◌, ◌++◌, map, reverse-append}
-use Prim.Native.Nat.{ℕ, zero, suc, ◌+◌, ◌≤◌, ◌<◌, min}
-use native.Mathlib.Numerals.{add-one}
-use native.Mathlib.Omega.{arith}
-use borrow.Author.Tests.{eqb-true, eqb-false}
-use lib.Dec.{eqb}
-use lib.ListN.{length, take, drop, get_or, set, take-append-drop, length-take, length-map, length-set, get_or-map}
-use lib.Seq.{take-suc, take-take, get_or-set_same, get_or-set_other}
-use Rattle.lists.specs.Tests.{cases, clash, and_left, and_right}
+use Rattle.std.proofs.Common.{Option, ℕ, None, Some, ◌≡◌, refl, sym, ap, ◌∙◌, Bool, true, false, List, ◌∷◌, ◌++◌, map, suc, ◌+◌, ◌≤◌, ◌<◌, min, add-one, arith, eqb-true, eqb, length, take, drop, get_or, set, take-append-drop, length-take, length-set, take-take, get_or-set_same, get_or-set_other}
+use borrow.Author.Tests.{eqb-false}
+use lib.ListN.{length-map, get_or-map}
+use Rattle.lists.specs.Tests.{cases, clash}
 use Rattle.lists.specs.Lists.{any, distinct}
 use Rattle.lists.specs.Loops.{drop_at}
-use Rattle.lists.specs.Distinct.{distinct_nil, distinct_last, distinct_again}
+use Rattle.lists.specs.Distinct.{distinct_again}
 use Rattle.register.specs.Limits.{claim_limit}
 use Rattle.register.specs.Register.{no_claim}
 use Rattle.register.specs.Chain.{latest, hops_of}
@@ -23,8 +16,6 @@ use Rattle.columns.specs.Laws.{place_cases, place_found_lem, nowhere_none, none_
 use Rattle.columns.specs.Laws as column-laws
 use Rattle.columns.specs.Sheet.{sheet_limit, column_of, claim_at, claims_in, id_column, parent_column, grantor_column, holder_column}
 use Rattle.columns.specs.SheetLaws.{claims_in_length, claims_in_at, column_natural}
-use Rattle.columns.specs.declared.Place.{Place}
-use Rattle.columns.specs.declared.Place.TheVariants.{At, Nowhere}
 use Rattle.lookup.specs.Finding.{place_number, asked, earlier_places}
 use Rattle.lookup.specs.Laws.{tabled_length, earlier_at}
 use Rattle.soundness_rules.specs.Sound.{over}
@@ -33,13 +24,13 @@ use Rattle.claim_judging.specs.OverLaws.{KeptPlaces, higher, root_stands, parent
 use Rattle.soundness.specs.Standing.{stand_next, stand_failed}
 
 -- a place told by its number: below the limit it is that, and the limit is none
-number_at : (p : Place) (x : ℕ) → x ≡ place_number claim_limit p → x < claim_limit → p ≡ At x
-number_at (At j) x e h = ap At (sym e)
-number_at Nowhere x e h = absurd (omega arith)
+number_at : (p : Option ℕ) (x : ℕ) → x ≡ place_number claim_limit p → x < claim_limit → p ≡ Some x
+number_at (Some j) x e h = ap Some (sym e)
+number_at None x e h = absurd (omega arith)
 
-number_none : (p : Place) (x : ℕ) → x ≡ place_number claim_limit p → ((j : ℕ) → p ≡ At j → j < claim_limit) → claim_limit ≤ x → p ≡ Nowhere
-number_none (At j) x e below h = absurd (omega (arith, below j refl))
-number_none Nowhere x e below h = refl
+number_none : (p : Option ℕ) (x : ℕ) → x ≡ place_number claim_limit p → ((j : ℕ) → p ≡ Some j → j < claim_limit) → claim_limit ≤ x → p ≡ None
+number_none (Some j) x e below h = absurd (omega (arith, below j refl))
+number_none None x e below h = refl
 
 -- of distinct numbers none stands before its place
 unseen : (l : List ℕ) (n i : ℕ) → distinct (take n l) ≡ true → i < n → i < length l → any (eqb (get_or l i 0)) (take i l) ≡ false
@@ -82,10 +73,10 @@ sheet_tables version s n short long distant parents granted held = record {
 }
 
 -- a claim as it was read off the sheet is the one in it, and what is asked of it and its parent is asked of those in it
-pub parent_read : (s : List ℕ) (i : ℕ) {c : Claim} → c ≡ claim_at s i → (get_or (claims_in s) i no_claim).parent ≡ c.parent
+parent_read : (s : List ℕ) (i : ℕ) {c : Claim} → c ≡ claim_at s i → (get_or (claims_in s) i no_claim).parent ≡ c.parent
 parent_read s i read = ap (λ c. c.parent) (claims_in_at s i ∙ sym read)
 
-pub over_read : (version : ℕ) (s ups grantors holders : List ℕ) (up steps i : ℕ) {p c : Claim} {answer : Bool} → p ≡ claim_at s up → c ≡ claim_at s i
+over_read : (version : ℕ) (s ups grantors holders : List ℕ) (up steps i : ℕ) {p c : Claim} {answer : Bool} → p ≡ claim_at s up → c ≡ claim_at s i
     → answer ≡ over_at version ups grantors holders up steps p c
     → answer ≡ over_at version ups grantors holders up steps (get_or (claims_in s) up no_claim) (get_or (claims_in s) i no_claim)
 over_read version s ups grantors holders up steps i parent claim told = told ∙ rw (parent, claim, claims_in_at s up, claims_in_at s i)
@@ -127,7 +118,7 @@ module _ {version : ℕ} {cs : List Claim} {n : ℕ} {grantors holders ups : Lis
   asked_inside : (f : Claim → ℕ) → i < min n (min claim_limit (length (map f cs)))
   asked_inside f = omega (arith, inside, t.short, t.long, length-map cs f)
 
-  pub ups_at : get_or ups i 0 ≡ place_number claim_limit (latest_place (map claim_id cs) i (get_or cs i no_claim).parent)
+  ups_at : get_or ups i 0 ≡ place_number claim_limit (latest_place (map claim_id cs) i (get_or cs i no_claim).parent)
   ups_at =
       rw t.parents (earlier_at (map claim_id cs) (map parent_of cs) n i 0 (asked_inside parent_of))
       ∙ ap (λ x. place_number claim_limit (latest_place (map claim_id cs) i x)) (get_or-map parent_of cs i no_claim)
@@ -138,14 +129,14 @@ module _ {version : ℕ} {cs : List Claim} {n : ℕ} {grantors holders ups : Lis
       rw t.parents (earlier_at (map claim_id cs) (map parent_of cs) n j 0 (omega (arith, before, inside, t.short, t.long, length-map cs parent_of)))
       ∙ ap (place_number claim_limit) e
 
-  below : (x j : ℕ) → latest_place (map claim_id cs) i x ≡ At j → j < claim_limit
+  below : (x j : ℕ) → latest_place (map claim_id cs) i x ≡ Some j → j < claim_limit
   below x j q = let found = place_found_lem (map claim_id cs) x i j q in omega (arith, found.0, inside, t.short)
 
   fails : over version (latest (take i cs)) (get_or cs i no_claim) ≡ false → stand_over version (latest (take n cs)) ≡ false
   fails = stand_failed version cs i n (omega (arith, t.long, t.short, inside)) inside
 
   -- its id does not stand before it
-  apart : latest_place (map claim_id cs) i (get_or cs i no_claim).id ≡ Nowhere
+  apart : latest_place (map claim_id cs) i (get_or cs i no_claim).id ≡ None
   apart =
       let there : i < length (map claim_id cs) = omega (arith, inside, t.short, t.long, length-map cs claim_id) in
       none_nowhere (map claim_id cs) (get_or cs i no_claim).id i
@@ -153,7 +144,7 @@ module _ {version : ℕ} {cs : List Claim} {n : ℕ} {grantors holders ups : Lis
       ∙ unseen (map claim_id cs) n i t.distant inside there)
 
   -- it is a root
-  pub root_passed : {hops : List ℕ} → Climbed version cs n hops i → (get_or cs i no_claim).parent ≡ 0 → Climbed version cs n (set hops i 0) (i + 1)
+  root_passed : {hops : List ℕ} → Climbed version cs n hops i → (get_or cs i no_claim).parent ≡ 0 → Climbed version cs n (set hops i 0) (i + 1)
   root_passed s e =
       climbed_next s t.long t.short inside 0 (root_stands version cs i (get_or cs i no_claim) apart e)
       (sym (ap (λ x. length (chain_places (map claim_id cs) (map parent_of cs) i x)) (get_or-map parent_of cs i no_claim ∙ e)
@@ -163,13 +154,13 @@ module _ {version : ℕ} {cs : List Claim} {n : ℕ} {grantors holders ups : Lis
 
   module _ (o : (get_or cs i no_claim).parent ≡ 0 → ⊥) where
     -- its parent stands nowhere before it
-    pub parent_failed : claim_limit ≤ get_or ups i 0 → stand_over version (latest (take n cs)) ≡ false
+    parent_failed : claim_limit ≤ get_or ups i 0 → stand_over version (latest (take n cs)) ≡ false
     parent_failed h =
         fails (parent_nowhere version cs i (get_or cs i no_claim) apart o
         (number_none (latest_place (map claim_id cs) i (get_or cs i no_claim).parent) (get_or ups i 0) ups_at (below (get_or cs i no_claim).parent) h))
 
     module _ (found : get_or ups i 0 < claim_limit) where
-      stood : latest_place (map claim_id cs) i (get_or cs i no_claim).parent ≡ At (get_or ups i 0)
+      stood : latest_place (map claim_id cs) i (get_or cs i no_claim).parent ≡ Some (get_or ups i 0)
       stood = number_at (latest_place (map claim_id cs) i (get_or cs i no_claim).parent) (get_or ups i 0) ups_at found
 
       parent_before : get_or ups i 0 < i
@@ -179,7 +170,7 @@ module _ {version : ℕ} {cs : List Claim} {n : ℕ} {grantors holders ups : Lis
       parent_steps : {hops : List ℕ} → Climbed version cs n hops i → get_or hops (get_or ups i 0) 0 + 1 ≤ i
       parent_steps s = omega (arith, s.low (get_or ups i 0) parent_before, parent_before)
 
-      pub parent_low : {hops : List ℕ} → Climbed version cs n hops i → get_or hops (get_or ups i 0) 0 + 1 < claim_limit
+      parent_low : {hops : List ℕ} → Climbed version cs n hops i → get_or hops (get_or ups i 0) 0 + 1 < claim_limit
       parent_low s = omega (arith, parent_steps s, inside, t.short)
 
       module _ {hops : List ℕ} (s : Climbed version cs n hops i) {answer : Bool}
@@ -193,10 +184,10 @@ module _ {version : ℕ} {cs : List Claim} {n : ℕ} {grantors holders ups : Lis
             ∙ rw (t.granted, t.held)
             (over_natural version cs i (get_or cs i no_claim) apart o (get_or ups i 0) stood ups (get_or hops (get_or ups i 0) 0) kept_ups steps_kept)
 
-        pub over_failed : answer ≡ false → stand_over version (latest (take n cs)) ≡ false
+        over_failed : answer ≡ false → stand_over version (latest (take n cs)) ≡ false
         over_failed h = fails (sym judged ∙ h)
 
-        pub over_passed : answer ≡ true → Climbed version cs n (set hops i (get_or hops (get_or ups i 0) 0 + 1)) (i + 1)
+        over_passed : answer ≡ true → Climbed version cs n (set hops i (get_or hops (get_or ups i 0) 0 + 1)) (i + 1)
         over_passed h =
             climbed_next s t.long t.short inside (get_or hops (get_or ups i 0) 0 + 1) (sym judged ∙ h)
             (add-one (get_or hops (get_or ups i 0) 0)
@@ -205,3 +196,32 @@ module _ {version : ℕ} {cs : List Claim} {n : ℕ} {grantors holders ups : Lis
             ∙ ap (λ x. length (chain_places (map claim_id cs) (map parent_of cs) i x)) (sym (get_or-map parent_of cs i no_claim))
             ∙ column-laws.hops_natural cs i)
             (parent_steps s)
+
+-- the same of claims as they are read off a sheet
+module _ (s : List ℕ) {version n : ℕ} {grantors holders ups : List ℕ} (t : Tables version (claims_in s) n grantors holders ups) {i : ℕ} (inside : i < n)
+    {c : Claim} (claim : c ≡ claim_at s i) where
+  pub root_read : {hops : List ℕ} → Climbed version (claims_in s) n hops i → c.parent ≡ 0 → Climbed version (claims_in s) n (set hops i 0) (i + 1)
+  root_read climbed e = root_passed t inside climbed (parent_read s i claim ∙ e)
+
+  module _ (o : c.parent ≡ 0 → ⊥) where
+    child : (get_or (claims_in s) i no_claim).parent ≡ 0 → ⊥
+    child root = o (sym (parent_read s i claim) ∙ root)
+
+    pub lost_read : claim_limit ≤ get_or ups i 0 → stand_over version (latest (take n (claims_in s))) ≡ false
+    lost_read = parent_failed t inside child
+
+    module _ (found : get_or ups i 0 < claim_limit) {hops : List ℕ} (climbed : Climbed version (claims_in s) n hops i) where
+      pub low_read : get_or hops (get_or ups i 0) 0 + 1 < claim_limit
+      low_read = parent_low t inside child found climbed
+
+      module _ {p : Claim} (parent : p ≡ claim_at s (get_or ups i 0)) {answer : Bool}
+          (told : answer ≡ over_at version ups grantors holders (get_or ups i 0) (get_or hops (get_or ups i 0) 0) p c) where
+        asked_read : answer ≡ over_at version ups grantors holders (get_or ups i 0) (get_or hops (get_or ups i 0) 0)
+            (get_or (claims_in s) (get_or ups i 0) no_claim) (get_or (claims_in s) i no_claim)
+        asked_read = over_read version s ups grantors holders (get_or ups i 0) (get_or hops (get_or ups i 0) 0) i parent claim told
+
+        pub failed_read : answer ≡ false → stand_over version (latest (take n (claims_in s))) ≡ false
+        failed_read = over_failed t inside child found climbed asked_read
+
+        pub passed_read : answer ≡ true → Climbed version (claims_in s) n (set hops i (get_or hops (get_or ups i 0) 0 + 1)) (i + 1)
+        passed_read = over_passed t inside child found climbed asked_read

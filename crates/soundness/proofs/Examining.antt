@@ -1,17 +1,12 @@
 -- What is found by columns: what was looked up, put together, decides where something is against it; else what is asked then does. Assumes
 -- nothing.
-use mathlib.Core.Path.{◌≡◌, sym, ap, ◌∙◌}
-use mathlib.Core.Bool.{Bool, true, false, ◌&&◌}
-use mathlib.Core.List.{List}
-use Prim.Native.Nat.{ℕ}
-use lib.Dec.{eqb, leb}
-use lib.ListN.{length, take}
+use Rattle.std.proofs.Common.{◌≡◌, sym, ap, ◌∙◌, Bool, true, false, ◌&&◌, List, ℕ, eqb, leb, length, take}
 use Rattle.register.specs.Limits.{actor_limit, resource_limit, claim_limit, version_one, version_two, ranged}
 use Rattle.register.specs.Chain.{latest}
 use Rattle.columns.specs.declared.ActorColumns.{ActorColumns}
 use Rattle.columns.specs.declared.ResourceColumns.{ResourceColumns}
 use Rattle.columns.specs.Sheet.{sheet_limit, column_of, claims_in, id_column, parent_column, resource_column}
-use Rattle.lookup.specs.Finding.{places_of, earlier_places, places_found, earlier_found}
+use Rattle.lookup.specs.Finding.{earlier_places, places_found, earlier_found}
 use Rattle.lookup.specs.declared.Found.{Found}
 use Rattle.claim_judging.specs.Over.{stand_over}
 use Rattle.soundness.specs.World.{actors_fit, human_ids, keepers_fit}

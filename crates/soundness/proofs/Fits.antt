@@ -1,9 +1,7 @@
 -- Which of an actor's and a resource's tests decides. Assumes nothing.
-use mathlib.Core.Path.{◌≡◌, refl}
-use mathlib.Core.Bool.{Bool, true, false, ◌&&◌, ◌||◌, and-true, and-false}
-use Prim.Native.Nat.{ℕ, ◌≤◌, ◌<◌}
-use borrow.Author.Tests.{ne_eqb, le-leb, lt-leb}
-use lib.Dec.{eqb, leb}
+use Rattle.std.proofs.Common.{◌≡◌, refl, Bool, true, false, ◌&&◌, ◌||◌, ℕ, ◌≤◌, ◌<◌, ne_eqb, le-leb, eqb, leb}
+use mathlib.Core.Bool.{and-true, and-false}
+use borrow.Author.Tests.{lt-leb}
 use Rattle.lists.specs.Lists.{every}
 use Rattle.register.specs.Limits.{human_kind, machine_kind, id_limit, path_limit, path_byte_least, path_byte_greatest, ranged, is_id}
 use Rattle.register.specs.Register.{path_of}

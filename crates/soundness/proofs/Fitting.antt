@@ -1,12 +1,5 @@
 -- The numbers of claims in range, column by column. Assumes nothing.
-use mathlib.Core.Path.{◌≡◌, refl, sym, ap, ◌∙◌}
-use mathlib.Core.Bool.{Bool, true, false, not, ◌&&◌, ◌||◌}
-use mathlib.Core.List.{List, [], ◌∷◌, map}
-use Prim.Native.Nat.{ℕ, ◌≤◌, min}
-use native.Mathlib.Omega.{arith}
-use borrow.Author.Tests.{le-leb}
-use lib.Dec.{leb, ltb}
-use lib.ListN.{length, take, get_or}
+use Rattle.std.proofs.Common.{◌≡◌, refl, sym, ap, ◌∙◌, Bool, true, false, not, ◌&&◌, ◌||◌, List, [], ◌∷◌, map, ℕ, ◌≤◌, min, arith, le-leb, leb, ltb, length, take, get_or}
 use Rattle.lists.specs.Lists.{every, counted, ands}
 use Rattle.lists.specs.Each.{every_both, joined_ands}
 use Rattle.rights.specs.Rights.{is_rights}

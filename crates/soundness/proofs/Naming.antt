@@ -1,11 +1,5 @@
 -- A loop that fills an array from the front with the humans' ids, 0 for any other actor. Assumes nothing.
-use mathlib.Core.Path.{◌≡◌, refl, ap, ◌∙◌}
-use mathlib.Core.List.{List, [], ◌∷◌, ◌++◌}
-use Prim.Native.Nat.{ℕ, zero, suc, ◌+◌, ◌-◌, ◌≤◌, ◌<◌, min}
-use native.Mathlib.Numerals.{add-one}
-use native.Mathlib.Omega.{arith}
-use lib.ListN.{length, take, get_or, set, replicate, length-take}
-use lib.Seq.{take-suc}
+use Rattle.std.proofs.Common.{◌≡◌, refl, ap, ◌∙◌, List, [], ◌∷◌, ◌++◌, ℕ, zero, suc, ◌+◌, ◌-◌, ◌≤◌, ◌<◌, min, add-one, arith, length, take, get_or, set, replicate, length-take, take-suc}
 use Rattle.lists.specs.Fills.{put_first}
 use Rattle.register.specs.Limits.{actor_limit}
 use Rattle.soundness.specs.World.{human_id, humans_in, human_ids}
@@ -27,13 +21,10 @@ humans_at (x ∷ ids) (k ∷ kinds) (suc i) h = humans_at ids kinds i (omega ari
 -- the first i places, of top that are to be filled, are
 pub record Naming (ids kinds : List ℕ) (n top i : ℕ) (humans : List ℕ) : Type 0 where
   pub within : i ≤ top
-  pub long : top ≡ min n (min actor_limit (min (length ids) (length kinds)))
+  pub long : top ≡ min (min (min n actor_limit) (length ids)) (length kinds)
   pub filled : humans ≡ take i (humans_in ids kinds) ++ replicate (actor_limit - i) 0
 
 module _ {ids kinds : List ℕ} {n top : ℕ} where
-  pub naming_start : top ≡ min n (min actor_limit (min (length ids) (length kinds))) → Naming ids kinds n top 0 (replicate actor_limit 0)
-  naming_start h = record { within = omega arith; long = h; filled = refl }
-
   module _ {i : ℕ} {humans : List ℕ} (s : Naming ids kinds n top i humans) where
     pub naming_next : {x : ℕ} → x ≡ human_id (get_or ids i 0) (get_or kinds i 0) → i < top → Naming ids kinds n top (i + 1) (set humans i x)
     naming_next {x} told h =

@@ -1,19 +1,10 @@
 -- Actors read off their columns from the front, each put to a test until one fails it. Assumes nothing.
-use mathlib.Core.Path.{◌≡◌, refl, sym, ap, ◌∙◌}
-use mathlib.Core.Bool.{Bool, true, false}
-use mathlib.Core.List.{List, [], ◌∷◌}
-use Prim.Native.Nat.{ℕ, zero, suc, ◌+◌, ◌-◌, ◌≤◌, ◌<◌, min}
-use native.Mathlib.Omega.{arith}
-use lib.ListN.{length, get_or}
+use Rattle.std.proofs.Common.{◌≡◌, refl, sym, ap, ◌∙◌, Bool, true, false, List, [], ◌∷◌, ℕ, zero, suc, ◌+◌, ◌<◌, min, arith, length, get_or}
 use Rattle.lists.specs.Lists.{every}
-use Rattle.lists.specs.Loops.{Loop, start, turn, next, done}
+use Rattle.lists.specs.Loops.{Loop, start, turn, next}
 use Rattle.register.specs.Register.{no_actor}
 use Rattle.soundness_rules.specs.Sound.{actor_fits}
 use Rattle.soundness.specs.World.{human_in, actors_in, actors_fit}
-
--- a place further on less is left
-pub less : (top i : ℕ) → i < top → top - (i + 1) < top - i
-less top i h = omega arith
 
 -- as many actors as the shortest of their columns has numbers, and each has its number of each
 actors_in_length : (ids kinds owners : List ℕ) → length (actors_in ids kinds owners) ≡ min (length ids) (min (length kinds) (length owners))
@@ -34,13 +25,13 @@ actors_in_at (x ∷ ids) (k ∷ kinds) (o ∷ owners) (suc i) h = actors_in_at i
 
 -- the loop has come to place i: every actor passes where every one of what is left does
 pub record Judging (ids kinds owners : List ℕ) (n top i : ℕ) : Type 0 where
-  pub long : top ≡ min n (min (length ids) (min (length kinds) (length owners)))
+  pub long : top ≡ min (min (min n (length ids)) (length kinds)) (length owners)
   pub loop : Loop (λ at m. every (actor_fits (human_in ids kinds n)) m) n (actors_in ids kinds owners) top i (actors_fit ids kinds owners n)
 
 module _ {ids kinds owners : List ℕ} {n top : ℕ} where
-  pub judging_start : top ≡ min n (min (length ids) (min (length kinds) (length owners))) → Judging ids kinds owners n top 0
+  pub judging_start : top ≡ min (min (min n (length ids)) (length kinds)) (length owners) → Judging ids kinds owners n top 0
   unfolding actors_fit
-  judging_start h = record { long = h; loop = start (h ∙ ap (min n) (sym (actors_in_length ids kinds owners))) refl }
+  judging_start h = record { long = h; loop = start (omega (arith, h, actors_in_length ids kinds owners)) refl }
 
   module _ {i : ℕ} (s : Judging ids kinds owners n top i) where
     module _ (h : i < top) {answer : Bool}
@@ -57,6 +48,3 @@ module _ {ids kinds owners : List ℕ} {n top : ℕ} where
 
       pub judging_next : answer ≡ true → Judging ids kinds owners n top (i + 1)
       judging_next e = record { long = s.long; loop = next s.loop h (turn s.loop no_actor h ∙ rw (sym read ∙ e)) }
-
-    pub judging_done : top ≤ i → actors_fit ids kinds owners n ≡ true
-    judging_done h = done s.loop h

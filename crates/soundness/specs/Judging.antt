@@ -1,10 +1,9 @@
 -- Laws: Claims judged by themselves, by what was looked up of each, and what that and the judgement over the earlier ones come to. Assumes
 -- nothing.
-use Rattle.std.specs.Prelude.{◌≡◌, refl, true, ◌&&◌, List, [], ◌∷◌, map, take, get_or}
+use Rattle.std.specs.Prelude.{◌≡◌, refl, true, ◌&&◌, List, [], ◌∷◌, map, take, get_or, ℕ, ◌≤◌, ◌<◌, min}
 use Rattle.std.proofs.Common.{sym, ◌∙◌, arith}
 use Rattle.std.proofs.Math.Path.{ap}
 use Rattle.std.proofs.Math.Bool.{Bool, and_assoc, and_comm}
-use Prim.Native.Nat.{ℕ, ◌≤◌, ◌<◌, min}
 use Rattle.std.proofs.Math.ListN.{length, get_or-map}
 use Rattle.std.proofs.lemmas.List.{length-map}
 use Rattle.lists.specs.Tests.{cases, and_middle}

@@ -1,10 +1,9 @@
 -- Laws: The judgement of a whole register by its columns: the tests that are asked first, what is left to ask where they pass, and that both
 -- come to 01's soundness (`columns_natural`). Assumes nothing.
 use Rattle.std.specs.Prelude.{◌≡◌, refl, Bool, false, ◌&&◌, List, [], ◌∷◌, map, ℕ, ◌≤◌, ◌<◌, min, eqb, leb, length, take, get_or}
-use Rattle.std.proofs.Common.{sym, ◌∙◌, arith}
+use Rattle.std.proofs.Common.{sym, ◌∙◌, arith, eq-eqb, eqb-true, le-leb, leb-true}
 use Rattle.std.proofs.Math.Path.{ap}
 use Rattle.std.proofs.Math.Bool.{true, and_assoc}
-use borrow.Author.Tests.{eq-eqb, eqb-true, le-leb, leb-true}
 use Rattle.std.proofs.lemmas.List.{length-map}
 use Rattle.std.proofs.Math.ListN.{get_or-map}
 use Rattle.lists.specs.Tests.{cases, clash, and_left, and_right}
@@ -19,19 +18,15 @@ use Rattle.register.specs.declared.Actors.{Actors}
 use Rattle.register.specs.declared.Resources.{Resources}
 use Rattle.columns.specs.Columns.{actor_id, actor_kind, actor_owner, resource_id, keeper_of, claim_id, actors_to, resources_to, actor_columns, resource_columns}
 use Rattle.columns.specs.Laws.{up_to_length, up_to_first, up_to_at}
-use Rattle.columns.specs.declared.ActorColumns.{ActorColumns}
-use Rattle.columns.specs.declared.ResourceColumns.{ResourceColumns}
 use Rattle.columns.specs.Sheet.{sheet_limit, column_of, claims_in, id_column, parent_column, resource_column}
 use Rattle.columns.specs.SheetLaws.{claims_in_length, column_natural, column_length}
-use Rattle.lookup.specs.Finding.{asked, places_of, earlier_places, places_found, earlier_found}
-use Rattle.lookup.specs.declared.Found.{Found}
+use Rattle.lookup.specs.Finding.{asked, places_of}
 use Rattle.soundness_rules.specs.Sound.{human, world_of, actor_fits, resource_fits, alone, sound_actors, sound_resources, within_limits, sound}
 use Rattle.soundness_rules.proofs.Registers.{sound_out, within_limits_in}
 use Rattle.claim_judging.specs.Over.{stand_over}
 use Rattle.soundness.specs.World.{actors_fit, human_ids, beyond, resources_alone, keepers_fit}
 use Rattle.soundness.specs.WorldLaws.{actors_natural, resources_natural}
 use Rattle.soundness.specs.Judged.{register_by, so_far, findings_in, findings_by, claims_alone, columns_sound, findings_over}
-use Rattle.soundness.specs.declared.Findings.{Findings}
 use Rattle.soundness.specs.Standing.{stand_distinct}
 use Rattle.soundness.specs.Judging.{sound_apart, claims_alone_natural}
 

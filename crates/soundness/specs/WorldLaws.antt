@@ -1,9 +1,8 @@
 -- Laws: What the tests of actors and resources by columns are in 01's words, where the columns are theirs. Assumes nothing.
-use Rattle.std.specs.Prelude.{◌≡◌, Bool, ◌&&◌, List, [], ◌∷◌, ◌++◌, map, eqb, ltb, leb, take, get_or, replicate}
-use Rattle.std.proofs.Math.Path.{refl, ap, fun_ext}
+use Rattle.std.specs.Prelude.{◌≡◌, Bool, ◌&&◌, List, [], ◌∷◌, ◌++◌, map, eqb, ltb, leb, take, get_or, replicate, ℕ, ◌-◌, ◌≤◌, ◌<◌, min}
 use Rattle.std.proofs.Common.{sym, ◌∙◌, arith, lt-ltb, ne_eqb, length-append, get_or-take}
+use Rattle.std.proofs.Math.Path.{refl, ap, fun_ext}
 use Rattle.std.proofs.Math.Bool.{true, false, and_comm, and-true, and-false}
-use Prim.Native.Nat.{ℕ, ◌-◌, ◌≤◌, ◌<◌, min}
 use Rattle.std.proofs.Math.ListN.{length, length-map, length-take}
 use Rattle.std.proofs.lemmas.List.{length-replicate}
 use Rattle.std.proofs.Math.Seq.{take-append_seam}

@@ -36,10 +36,8 @@ pub(crate) fn actors_fit<'a>(
 ) -> bool
     ensures { result ≡ actors_fit names.now kinds.now owners.now n }
 {
-    let long = lists::least(names.len(), lists::least(kinds.len(), owners.len()));
-    let top = lists::least(n, long);
-    let mut i: usize = 0;
-    while i < top {
+    let top = n.min(names.len()).min(kinds.len()).min(owners.len());
+    for i in 0..top {
         let a = Actor {
             id: names[i],
             kind: kinds[i],
@@ -48,7 +46,6 @@ pub(crate) fn actors_fit<'a>(
         if !actor_fits(names, kinds, n, a) {
             return false;
         }
-        i += 1;
     }
     true
 }
@@ -67,13 +64,10 @@ fn human_id(id: u32, kind: u32) -> u32
 fn human_ids<'a>(names: &'a [u32], kinds: &'a [u32], n: usize) -> [u32; Register::ACTORS]
     ensures { result ≡ human_ids names.now kinds.now n }
 {
-    let long = lists::least(names.len(), kinds.len());
-    let top = lists::least(n, lists::least(Register::ACTORS, long));
+    let top = n.min(Register::ACTORS).min(names.len()).min(kinds.len());
     let mut humans = [0; Register::ACTORS];
-    let mut i: usize = 0;
-    while i < top {
+    for i in 0..top {
         humans[i] = human_id(names[i], kinds[i]);
-        i += 1;
     }
     humans
 }
@@ -90,13 +84,11 @@ pub(crate) fn keepers_fit<'a>(
     ensures { result ≡ keepers_fit (human_ids names.now kinds.now n) n keepers.now m }
 {
     let humans = human_ids(names, kinds, n);
-    let top = lists::least(m, Register::RESOURCES);
+    let top = m.min(Register::RESOURCES);
     let keeping = lookup::places_of(&humans, n, keepers, top);
     let mut fit = true;
-    let mut i: usize = 0;
-    while i < top {
-        fit = fit & ((keeping.places[i] as usize) < Register::CLAIMS);
-        i += 1;
+    for place in &keeping.places[..top] {
+        fit &= (*place as usize) < Register::CLAIMS;
     }
     fit
 }

@@ -21,12 +21,10 @@ pub(crate) fn claims_over<'a>(version: u64, ups: &'a [u16], sheet: &'a [u32], n:
     let grantors = columns::column(sheet, columns::GRANTORS);
     let holders = columns::column(sheet, columns::HOLDERS);
     let mut hops = [0u8; Register::CLAIMS];
-    let mut i: usize = 0;
-    while i < n {
+    for i in 0..n {
         let c = columns::claim_at(sheet, i);
         if c.parent == 0 {
             hops[i] = 0;
-            i += 1;
         } else {
             let up = ups[i] as usize;
             if Register::CLAIMS <= up {
@@ -38,7 +36,6 @@ pub(crate) fn claims_over<'a>(version: u64, ups: &'a [u16], sheet: &'a [u32], n:
                 return false;
             }
             hops[i] = (steps + 1) as u8;
-            i += 1;
         }
     }
     true
@@ -62,8 +59,7 @@ pub(crate) fn claims_alone<'a>(
     let holders = columns::column(sheet, columns::HOLDERS);
     let named = lookup::both_places(&actors.names, h, grantors, holders, n);
     let mut stand = named.distinct;
-    let mut i: usize = 0;
-    while i < n {
+    for i in 0..n {
         let c = columns::claim_at(sheet, i);
         let grantor = named.first[i] as usize;
         let holder = named.second[i] as usize;
@@ -71,9 +67,7 @@ pub(crate) fn claims_alone<'a>(
         let kind = columns::number_at(&actors.kinds, grantor);
         let owner = columns::number_at(&actors.owners, grantor);
         let keeper = columns::number_at(keepers, report);
-        stand = stand
-            & claim_judging::stands_named(c, grantor, holder, report, kind, owner, keeper);
-        i += 1;
+        stand &= claim_judging::stands_named(c, grantor, holder, report, kind, owner, keeper);
     }
     stand & claims_fit(version, sheet, n)
 }

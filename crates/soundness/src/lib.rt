@@ -149,13 +149,10 @@ pub fn is_sound(r: Register) -> bool
 pub fn path_fits(o: Resource) -> bool
     ensures { result ≡ every (ranged path_byte_least path_byte_greatest) (path_of o) }
 {
-    let top = lists::least(o.len as usize, Register::PATH);
+    let top = (o.len as usize).min(Register::PATH);
     let mut fit = true;
-    let mut i: usize = 0;
-    while i < top {
-        let b = o.path[i];
-        fit = fit & ((register::PATH_BYTE_LEAST <= b) & (b <= register::PATH_BYTE_GREATEST));
-        i += 1;
+    for b in &o.path[..top] {
+        fit &= (register::PATH_BYTE_LEAST <= *b) & (*b <= register::PATH_BYTE_GREATEST);
     }
     fit
 }
@@ -186,13 +183,10 @@ pub fn resource_fits(kept: bool, o: Resource) -> bool
 fn resources_alone(o: Resources) -> bool
     ensures { result ≡ resources_alone o }
 {
-    let top = lists::least(o.count, Register::RESOURCES);
+    let top = o.count.min(Register::RESOURCES);
     let mut fit = true;
-    let mut i: usize = 0;
-    while i < top {
-        let x = o.list[i];
-        fit = fit & resource_fits(true, x);
-        i += 1;
+    for x in &o.list[..top] {
+        fit &= resource_fits(true, *x);
     }
     fit
 }

@@ -13,13 +13,10 @@ use register::Register;
 fn numbers_fit(column: &[u32], n: usize, least: u32, greatest: u32) -> bool
     ensures { result ≡ every (ranged least greatest) (take n column.now) }
 {
-    let top = lists::least(n, column.len());
+    let top = n.min(column.len());
     let mut fit = true;
-    let mut i: usize = 0;
-    while i < top {
-        let number = column[i];
-        fit = fit & ((least <= number) & (number <= greatest));
-        i += 1;
+    for number in &column[..top] {
+        fit &= (least <= *number) & (*number <= greatest);
     }
     fit
 }
@@ -28,12 +25,10 @@ fn numbers_fit(column: &[u32], n: usize, least: u32, greatest: u32) -> bool
 fn rights_fit(column: &[u32], n: usize) -> bool
     ensures { result ≡ every is_rights (take n column.now) }
 {
-    let top = lists::least(n, column.len());
+    let top = n.min(column.len());
     let mut fit = true;
-    let mut i: usize = 0;
-    while i < top {
-        fit = fit & rights::in_range(column[i]);
-        i += 1;
+    for number in &column[..top] {
+        fit &= rights::in_range(*number);
     }
     fit
 }
@@ -44,11 +39,9 @@ fn expiries_fit<'a>(expiries: &'a [u32], late: &'a [u32], n: usize) -> bool
     ensures { result ≡ every (expiry_fits expiries.now late.now) (counted 0 n) }
 {
     let mut fit = true;
-    let mut i: usize = 0;
-    while i < n {
+    for i in 0..n {
         let expiry = (expiries[i] as u64) + register::MOMENT_END * (late[i] as u64);
-        fit = fit & (expiry < register::MOMENT_END);
-        i += 1;
+        fit &= expiry < register::MOMENT_END;
     }
     fit
 }

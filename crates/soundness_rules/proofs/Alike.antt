@@ -1,11 +1,9 @@
 -- Laws: What soundness does not ask of claims: outside version 2 what they hold as left; and that claims stored with what they have left are judged
 -- in version 2 as they were. Assumes nothing.
-use Rattle.std.specs.Prelude.{◌≡◌, Bool, true, false, ◌&&◌, ◌||◌, ℕ, ◌-◌}
+use Rattle.std.proofs.Common.{◌≡◌, Bool, true, false, ◌&&◌, ◌||◌, ℕ, ◌-◌, ◌∙◌, arith, List, [], ◌∷◌, ◌++◌, map, le-leb}
 use Rattle.std.proofs.Math.Path.{refl, ap, sym}
-use Rattle.std.proofs.Common.{◌∙◌, arith}
 use Rattle.std.proofs.Math.Bool.{not}
-use mathlib.Core.List.{List, [], ◌∷◌, ◌++◌, map, reverse-append, reverse-cons, reverse-reverse}
-use borrow.Author.Tests.{le-leb}
+use mathlib.Core.List.{reverse-append, reverse-cons, reverse-reverse}
 use Rattle.std.proofs.Math.Dec.{eqb}
 use Rattle.std.proofs.Math.ListN.{length}
 use Rattle.std.proofs.lemmas.List.{length-map}

@@ -1,10 +1,6 @@
 -- Each rule of soundness on small registers, once yes and once no. All by computing. Assumes
 -- nothing.
-use mathlib.Core.Path.{◌≡◌, refl}
-use mathlib.Core.Bool.{true, false}
-use mathlib.Core.List.{List, [], ◌∷◌, map}
-use Prim.Native.Nat.{ℕ, ◌+◌, ◌-◌}
-use lib.ListN.{length, replicate}
+use Rattle.std.proofs.Common.{◌≡◌, refl, true, false, List, [], ◌∷◌, map, ℕ, ◌+◌, ◌-◌, length, replicate}
 use Rattle.lists.specs.Lists.{counted, distinct}
 use Rattle.rights.specs.Rights.{has_right, has_rights, bars_machine}
 use Rattle.register.specs.Register.{with_left}

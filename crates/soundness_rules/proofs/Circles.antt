@@ -1,14 +1,11 @@
 -- (e) along a chain, in plain words: no two claims of it have one holder, and none but the root is
 -- held by who granted the root. Assumes nothing.
-use mathlib.Core.Path.{◌≡◌, refl, sym, ◌∙◌, subst⁻¹}
-use mathlib.Core.Bool.{true, false}
-use mathlib.Core.List.{List, [], ◌∷◌, ◌++◌, map}
-use Prim.Native.Nat.{ℕ}
-use borrow.Author.Tests.{eqb-true, eqb-false, eq-eqb}
-use lib.Dec.{eqb}
-use Rattle.lists.specs.Tests.{cases, clash, or_left, or_right, eqb_turned}
+use Rattle.std.proofs.Common.{◌≡◌, refl, sym, ◌∙◌, true, false, List, [], ◌∷◌, ◌++◌, map, ℕ, eqb-true, eqb}
+use mathlib.Core.Path.{subst⁻¹}
+use borrow.Author.Tests.{eqb-false}
+use Rattle.lists.specs.Tests.{cases, or_left, or_right, eqb_turned}
 use Rattle.lists.specs.Lists.{any, All, distinct}
-use Rattle.lists.specs.Each.{any_map, any_same, each_all, list_cases, cons_clash}
+use Rattle.lists.specs.Each.{any_map, any_same, cons_clash}
 use Rattle.register.specs.Chain.{chain, above, chain_of, root_granted, circling}
 use Rattle.register.specs.Laws.{chain_ind, chain_zero}
 use Rattle.register.specs.declared.Claim.{Claim}

@@ -1,8 +1,5 @@
 -- Soundness of claims, latest first, rule by rule over the whole list, as 01 says it. Assumes nothing.
-use mathlib.Core.Path.{◌≡◌, ◌∙◌}
-use mathlib.Core.Bool.{Bool, ◌&&◌}
-use mathlib.Core.List.{List, [], ◌∷◌, map}
-use lib.Dec.{eqb}
+use Rattle.std.proofs.Common.{◌≡◌, ◌∙◌, Bool, ◌&&◌, List, [], ◌∷◌, map, eqb}
 use Rattle.lists.specs.Tests.{and_left, and_right, iff_same}
 use Rattle.lists.specs.Lists.{every, ands, distinct}
 use Rattle.lists.specs.Each.{ands_out, any_map}

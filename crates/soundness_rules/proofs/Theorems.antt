@@ -1,12 +1,7 @@
 -- What is proved of soundness, over claims latest first (L, M, N) and over a register's claims in their order (cs): what earlier, added
 -- and struck claims have to do with it, where chains lead, that same registers are judged alike, and its plain reading.
 -- Assumes nothing.
-use mathlib.Core.Path.{◌≡◌}
-use mathlib.Core.Bool.{Bool, true, false, not, ◌&&◌}
-use mathlib.Core.List.{List, [], ◌∷◌, ◌++◌, map}
-use Prim.Native.Nat.{ℕ, suc, ◌≤◌}
-use lib.Dec.{eqb}
-use lib.ListN.{length, take}
+use Rattle.std.proofs.Common.{◌≡◌, Bool, true, false, not, ◌&&◌, List, [], ◌∷◌, ◌++◌, map, ℕ, suc, ◌≤◌, eqb, length, take}
 use Rattle.lists.specs.Lists.{any, every, ands, filter, All, distinct}
 use Rattle.register.specs.Limits.{hop_limit}
 use Rattle.register.specs.Register.{Same}

@@ -1,9 +1,5 @@
 -- What is proved of soundness of a table of claims that is lent beside a version, actors and resources. Assumes nothing.
-use mathlib.Core.Path.{◌≡◌}
-use mathlib.Core.Bool.{false}
-use mathlib.Core.List.{List}
-use Prim.Native.Nat.{ℕ, ◌≤◌, ◌<◌}
-use lib.ListN.{length}
+use Rattle.std.proofs.Common.{◌≡◌, false, List, ℕ, ◌≤◌, ◌<◌, length}
 use Rattle.register.specs.Limits.{claim_limit}
 use Rattle.register.specs.Register.{claims_of, Shaped}
 use Rattle.register.specs.declared.Actors.{Actors}

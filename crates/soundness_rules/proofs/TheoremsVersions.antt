@@ -1,12 +1,6 @@
 -- What is proved of soundness in the two versions, over claims latest first (L, M): how many hands a claim may still pass through, and what the
 -- number that it holds has to do with it. Assumes nothing.
-use mathlib.Core.Path.{◌≡◌}
-use mathlib.Core.Bool.{true, false}
-use mathlib.Core.Logic.{◌⊎◌}
-use mathlib.Core.List.{List, ◌∷◌, ◌++◌, map}
-use Prim.Native.Nat.{ℕ, ◌+◌, ◌≤◌}
-use lib.Dec.{leb, ltb}
-use lib.ListN.{length}
+use Rattle.std.proofs.Common.{◌≡◌, true, false, ◌⊎◌, List, ◌∷◌, ◌++◌, map, ℕ, ◌+◌, ◌≤◌, leb, ltb, length}
 use Rattle.register.specs.Limits.{hop_limit, left_limit, version_one, version_two, tells_left}
 use Rattle.register.specs.Register.{claim_as}
 use Rattle.register.specs.Chain.{latest, above, hops_of}

@@ -1,13 +1,6 @@
 -- The versions of a sound register, and (d) in each of them. Assumes nothing.
-use mathlib.Core.Path.{◌≡◌}
-use mathlib.Core.Bool.{true, false}
-use mathlib.Core.Logic.{◌⊎◌, inl, inr}
-use mathlib.Core.List.{List, ◌∷◌}
-use Prim.Native.Nat.{ℕ, suc, ◌-◌, ◌≤◌}
-use native.Mathlib.Omega.{arith}
-use borrow.Author.Tests.{eqb-true, eqb-false, leb-true, ltb-true, le-leb, lt-ltb}
-use lib.Dec.{eqb, leb, ltb}
-use lib.ListN.{length}
+use Rattle.std.proofs.Common.{◌≡◌, true, false, ◌⊎◌, inl, inr, List, ◌∷◌, ℕ, suc, ◌-◌, ◌≤◌, arith, eqb-true, leb-true, ltb-true, le-leb, lt-ltb, eqb, leb, ltb, length}
+use borrow.Author.Tests.{eqb-false}
 use Rattle.lists.specs.Tests.{cases, iff_same}
 use Rattle.register.specs.Limits.{hop_limit, left_limit, version_one, version_two, tells_left}
 use Rattle.register.specs.declared.Claim.{Claim}

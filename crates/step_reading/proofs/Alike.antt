@@ -1,7 +1,5 @@
 -- What an action's lines say does not depend on the number of the line that they begin at. Assumes nothing.
-use Prim.Native.Nat.{ℕ, zero, suc}
-use mathlib.Core.Path.{◌≡◌, refl, ap, subst, ◌∙◌}
-use mathlib.Core.List.{List, [], ◌∷◌}
+use Rattle.std.proofs.Common.{ℕ, zero, suc, ◌≡◌, refl, ap, subst, ◌∙◌, List, [], ◌∷◌}
 use Rattle.actions.specs.Actions.{use_limit, govern_limit}
 use Rattle.lines.specs.Lines.{Line, line, beyond, fault}
 use Rattle.lines.specs.Reading.{State, going, failed, Read, LineForm, count, taken, read_form, parse_form, above_refusal}

@@ -1,12 +1,5 @@
 -- How a step opens, by what its line says, and what the code's answer for that line tells of it. Assumes nothing.
-use Prim.Native.Nat.{ℕ, ◌+◌, ◌≤◌, ◌<◌}
-use mathlib.Core.Path.{◌≡◌, refl, sym, ap, subst, ◌∙◌}
-use mathlib.Core.Bool.{Bool, true, false, cond, ◌&&◌, ◌||◌}
-use mathlib.Core.List.{List}
-use native.Mathlib.Omega.{arith}
-use borrow.Author.Tests.{eq-eqb, ne_eqb, leb-true}
-use lib.Dec.{eqb, leb}
-use lib.ListN.{length, drop}
+use Rattle.std.proofs.Common.{ℕ, ◌+◌, ◌≤◌, ◌<◌, ◌≡◌, refl, sym, ap, subst, ◌∙◌, Bool, true, false, cond, ◌&&◌, ◌||◌, List, arith, eq-eqb, ne_eqb, leb-true, eqb, leb, length, drop}
 use Rattle.lists.specs.Tests.{and_left, and_right, clash}
 use Rattle.refusals.specs.declared.Refusal.TheVariants.{Form, TooDeep, TooManyActions}
 use Rattle.lines.specs.Lines.{Line, line, beyond, fault, action_step, plan_step, action_step_line, plan_step_line, parse_step}
@@ -14,7 +7,7 @@ use Rattle.lines.proofs.Laws.{word_read}
 use Rattle.lines.specs.Reading.{State, going, failed, taken}
 use Rattle.lines.specs.Answers.{FieldSays, state_of, read_step}
 use Rattle.lines.specs.declared.Cursor.{Cursor}
-use Rattle.lines.specs.declared.Field.{Field}
+use Rattle.lines.specs.declared.Reading.{Reading}
 use Rattle.text_rules.proofs.Forms.{failed_going_clash}
 use Rattle.steps.specs.Nesting.{action_next, plan_next, barred, opening, opened}
 use Rattle.steps.specs.Laws.{opened_cases}
@@ -43,7 +36,7 @@ standing s c t m h = go (c.on && (leb c.at (length s) && leb c.line c.at)) refl 
 step_known : (t rest : List ℕ) (n : ℕ) → parse_step t ≡ line n rest → eqb n action_step || eqb n plan_step ≡ true
 step_known t rest n e = (word_read action_step_line action_step plan_step_line plan_step refl n rest t e).1
 
-module _ (s : List ℕ) (levels room : ℕ) (step : Field) where
+module _ (s : List ℕ) (levels room : ℕ) (step : Reading ℕ) where
   pub opens_action : (st : State) → FieldSays s step (read_step st) → step.value ≡ action_step → 0 < room → Opens s step (opened levels room st)
   unfolding opened
   opens_action (failed why l) says one some = let none = says.value in absurd (omega arith)
@@ -128,7 +121,7 @@ pub record OpensPlan (s : List ℕ) (c : Cursor) (levels room : ℕ) (st : State
   pub some : 0 < levels
   pub shrinks : remaining (state_of s c) ≤ remaining st
 
-module _ (s : List ℕ) (levels room : ℕ) (st : State) (step : Field) (opens : Opens s step (opened levels room st)) where
+module _ (s : List ℕ) (levels room : ℕ) (st : State) (step : Reading ℕ) (opens : Opens s step (opened levels room st)) where
   pub action_opens : step.value ≡ action_step → OpensAction s step.cursor levels room st
   action_opens one =
       opened_cases levels room st

@@ -1,20 +1,13 @@
 -- A walk over the steps of a plan: what is found of the rest of them is what is found of all. Assumes nothing.
-use Prim.Native.Nat.{ℕ, suc, ◌+◌, ◌-◌, ◌≤◌, ◌<◌}
-use mathlib.Core.Path.{◌≡◌, refl, sym, ap, subst, ◌∙◌}
-use mathlib.Core.Bool.{true}
-use mathlib.Core.List.{List, [], ◌∷◌, ◌++◌, map, map-append, append_assoc, append-nil}
-use native.Mathlib.Omega.{arith}
-use native.Mathlib.Numerals.{add-one}
+use Rattle.std.proofs.Common.{ℕ, suc, ◌+◌, ◌-◌, ◌≤◌, ◌<◌, ◌≡◌, refl, sym, ap, subst, ◌∙◌, true, List, [], ◌∷◌, ◌++◌, map, append_assoc, append-nil, arith, add-one, le-leb, length, take, set, length-set, length-append, take-suc-set}
+use mathlib.Core.List.{map-append}
 use native.Mathlib.Nat.{sub-zero}
-use borrow.Author.Tests.{le-leb}
-use lib.ListN.{length, take, set, length-set, length-append}
-use lib.Seq.{take-suc-set}
 use Rattle.refusals.specs.declared.Refusal.{Refusal}
 use Rattle.refusals.specs.declared.Refusal.TheVariants.{Form}
 use Rattle.lines.specs.Reading.{State, going, failed, Read, read_form, closed}
 use Rattle.lines.specs.Answers.{FieldSays, state_of}
 use Rattle.lines.specs.declared.Cursor.{Cursor}
-use Rattle.lines.specs.declared.Field.{Field}
+use Rattle.lines.specs.declared.Reading.{Reading}
 use Rattle.text_rules.specs.Actions.{read_action}
 use Rattle.text_rules.proofs.Forms.{failed_going_clash}
 use Rattle.text_rules.specs.Telling.{closed_going}
@@ -220,7 +213,7 @@ module _ {s : List ℕ} {levels k : ℕ} {p : Places} where
         w.leads found (subst (λ n. Finds s found found (read n found)) (sym none) (finds_none s (read_plan levels) levels found w.room w.sized))
 
 -- a plan: its count, then its steps
-pub finds_counted : (s : List ℕ) (levels : ℕ) (p r : Places) (counted : Field) → 0 < levels → FieldSays s counted (read_form plan_form (state_of s p.cursor))
+pub finds_counted : (s : List ℕ) (levels : ℕ) (p r : Places) (counted : Reading ℕ) → 0 < levels → FieldSays s counted (read_form plan_form (state_of s p.cursor))
     → Finds s (moving p counted.cursor) r
     (read_steps (read_plan (levels - 1)) (levels - 1) counted.value (text_action_limit - p.count) (state_of s counted.cursor))
     → Finds s p r (read_plan levels (text_action_limit - p.count) (state_of s p.cursor))

@@ -6,14 +6,14 @@ use Rattle.refusals.specs.declared.Refusal.TheVariants.{Form}
 use Rattle.lines.specs.Lines.{action_step, plan_step}
 use Rattle.lines.specs.Reading.{going, Read}
 use Rattle.lines.specs.Answers.{state_of}
-use Rattle.lines.specs.declared.Field.{Field}
+use Rattle.lines.specs.declared.Reading.{Reading}
 use Rattle.text_rules.specs.Actions.{read_action}
 use Rattle.steps.specs.Steps.{Steps, actions_in, text_action_limit}
 use Rattle.steps.specs.Nesting.{Opening, action_next, plan_next, barred}
 use Rattle.step_reading.specs.declared.Places.{Places}
 
 -- the answer for the line that opens a step: what the step is, 0 where the reading fails, and where it then stands
-abbrev pub Opens : List ℕ → Field → Opening → Type 0
+abbrev pub Opens : List ℕ → Reading ℕ → Opening → Type 0
 Opens s r (action_next st) = (r.value ≡ action_step) × (state_of s r.cursor ≡ st)
 Opens s r (plan_next st) = (r.value ≡ plan_step) × (state_of s r.cursor ≡ st)
 Opens s r (barred st) = (r.value ≡ 0) × (state_of s r.cursor ≡ st)

@@ -10,7 +10,7 @@ ghost use Rattle.steps.specs.Steps.{text_action_limit};
 ghost use Rattle.steps.specs.Nesting.{opened, read_steps, read_plan, plan_of};
 ghost use Rattle.step_reading.specs.Finding.{Opens, Finds, TextFound};
 
-use lines::{Cursor, Field};
+use lines::{Cursor, Reading};
 use refusals::Refusal;
 use steps::TEXT_ACTIONS;
 
@@ -26,31 +26,28 @@ pub struct Places {
 fn moved(p: Places, cursor: Cursor) -> Places
     ensures { result ≡ record { list = p.list; count = p.count; cursor = cursor } }
 {
-    let list = p.list;
-    Places {
-        list,
-        count: p.count,
-        cursor,
-    }
+    Places { cursor, ..p }
 }
 
 // The line that opens a step, with so many levels left below and so many actions before it: what the step is, 0 where the reading fails.
-fn open_step(s: &[u8], c: Cursor, levels: usize, count: usize) -> Field
+fn open_step(s: &[u8], c: Cursor, levels: usize, count: usize) -> Reading<u32>
     ensures { Opens s.now result (opened levels (text_action_limit - count) (state_of s.now c)) }
 {
     let step = lines::read_step(s, c);
     if step.value == lines::ACTION_STEP {
         if TEXT_ACTIONS <= count {
-            let cursor = lines::refused(step.cursor, Refusal::TooManyActions);
-            return Field { value: 0, cursor };
+            return Reading {
+                value: 0,
+                cursor: lines::refused(step.cursor, Refusal::TooManyActions),
+            };
         }
         return step;
     }
-    if step.value == lines::PLAN_STEP {
-        if levels == 0 {
-            let cursor = lines::refused(step.cursor, Refusal::TooDeep);
-            return Field { value: 0, cursor };
-        }
+    if step.value == lines::PLAN_STEP && levels == 0 {
+        return Reading {
+            value: 0,
+            cursor: lines::refused(step.cursor, Refusal::TooDeep),
+        };
     }
     step
 }
@@ -63,14 +60,13 @@ fn take_action(s: &[u8], p: Places, c: Cursor) -> Places
     ensures state { state_of s.now result.cursor ≡ (read_action (state_of s.now c)).state }
 {
     let form = action_reading::read_lines(s, c);
-    let cursor = form.cursor;
     let at = p.count;
     let mut list = p.list;
     list[at] = c.at;
     Places {
         list,
         count: at + 1,
-        cursor,
+        cursor: form.cursor,
     }
 }
 
@@ -81,18 +77,14 @@ fn read_steps(s: &[u8], k: u32, levels: usize, p: Places) -> Places
     ensures { Finds s.now p result (read_steps (read_plan levels) levels k (text_action_limit - p.count) (state_of s.now p.cursor)) }
 {
     let mut found = p;
-    let mut i: u32 = 0;
-    while i < k {
+    for i in 0..k {
         let next = open_step(s, found.cursor, levels, found.count);
         if next.value == lines::ACTION_STEP {
             found = take_action(s, found, next.cursor);
-            i += 1;
-        } else {
-            if next.value != lines::PLAN_STEP {
-                return moved(found, next.cursor);
-            }
+        } else if next.value == lines::PLAN_STEP {
             found = read_plan(s, levels, moved(found, next.cursor));
-            i += 1;
+        } else {
+            return moved(found, next.cursor);
         }
     }
     found
@@ -112,9 +104,8 @@ fn read_plan(s: &[u8], levels: usize, p: Places) -> Places
 pub fn read_text(text: &[u8]) -> Places
     ensures { TextFound text.now result (plan_of text.now) }
 {
-    let list = [0usize; TEXT_ACTIONS];
     let none = Places {
-        list,
+        list: [0; TEXT_ACTIONS],
         count: 0,
         cursor: lines::start(),
     };

@@ -1,9 +1,5 @@
 -- How many lines a reading that goes on has passed: one to each line, so the line of a refusal is told by the steps before it. Assumes nothing.
-use Prim.Native.Nat.{ℕ, zero, suc, ◌+◌, ◌-◌}
-use mathlib.Core.Path.{◌≡◌, refl, sym, subst}
-use mathlib.Core.List.{List, [], ◌∷◌, ◌++◌}
-use native.Mathlib.Omega.{arith}
-use lib.ListN.{length}
+use Rattle.std.proofs.Common.{ℕ, zero, suc, ◌+◌, ◌-◌, ◌≡◌, refl, sym, subst, List, [], ◌∷◌, ◌++◌, arith, length}
 use Rattle.actions.specs.Actions.{use_limit, govern_limit}
 use Rattle.lines.specs.Lines.{Line, line, beyond, fault, action_step_line, plan_step_line}
 use Rattle.lines.specs.Reading.{State, going, failed, Read, LineForm, count, taken, read_form, parse_form, above_refusal}

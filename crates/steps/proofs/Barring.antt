@@ -1,10 +1,6 @@
 -- 22 and 23 at their line, whatever follows: a text that is open, with the steps read so far at each level. Assumes nothing.
-use Prim.Native.Nat.{ℕ, zero, suc, ◌+◌, ◌-◌, ◌≤◌, ◌<◌}
-use mathlib.Core.Path.{◌≡◌, refl, sym, ap, subst, ◌∙◌}
-use mathlib.Core.Bool.{true}
-use mathlib.Core.List.{List, ◌++◌}
-use native.Mathlib.Omega.{arith}
-use lib.ListN.{length, length-append, length-map}
+use Rattle.std.proofs.Common.{ℕ, zero, suc, ◌+◌, ◌-◌, ◌≤◌, ◌<◌, ◌≡◌, refl, sym, ap, subst, ◌∙◌, true, List, ◌++◌, arith, length, length-append}
+use lib.ListN.{length-map}
 use Rattle.lists.specs.Lists.{All}
 use Rattle.soundness_rules.proofs.Laws.{ranged_in}
 use Rattle.register.specs.declared.Register.{Register}

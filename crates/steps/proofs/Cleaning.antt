@@ -1,8 +1,6 @@
 -- Steps with zeros past the counts of their actions: the same steps, with the same text, and what their text reads as. Assumes nothing.
-use Prim.Native.Nat.{ℕ, zero, suc, ◌≤◌}
-use mathlib.Core.Path.{◌≡◌, refl, sym, ap, subst, ◌∙◌}
-use mathlib.Core.Bool.{true}
-use mathlib.Core.List.{List, [], ◌∷◌, ◌++◌, map, map-append}
+use Rattle.std.proofs.Common.{ℕ, zero, suc, ◌≤◌, ◌≡◌, refl, sym, ap, subst, ◌∙◌, true, List, [], ◌∷◌, ◌++◌, map}
+use mathlib.Core.List.{map-append}
 use Rattle.lists.specs.Lists.{All}
 use Rattle.actions.specs.Actions.{action_fits}
 use Rattle.actions.specs.declared.Action.{Action}

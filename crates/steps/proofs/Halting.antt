@@ -1,20 +1,12 @@
 -- What stops the flat list of an accepted plan text, how a plan text is refused, and what a flag cancels. Assumes nothing.
-use Prim.Native.Nat.{ℕ, suc, ◌+◌, ◌-◌, ◌≤◌, ◌<◌}
-use mathlib.Core.Path.{◌≡◌, refl, sym, ap, subst, ◌∙◌}
-use mathlib.Core.Bool.{true, false}
-use mathlib.Core.List.{List, [], ◌∷◌, ◌++◌, map}
-use native.Mathlib.Omega.{arith}
-use borrow.Author.Tests.{le-leb}
-use lib.Dec.{eqb}
-use lib.ListN.{length, replicate}
+use Rattle.std.proofs.Common.{Err, Ok, ℕ, suc, ◌+◌, ◌-◌, ◌≤◌, ◌<◌, ◌≡◌, refl, sym, ap, subst, ◌∙◌, true, false, List, [], ◌∷◌, ◌++◌, map, arith, le-leb, eqb, length, replicate}
 use Rattle.lists.specs.Tests.{cases}
 use Rattle.lists.specs.Lists.{All, any}
 use Rattle.register.specs.Register.{actors_of}
 use Rattle.register.specs.declared.Register.{Register}
 use Rattle.soundness_rules.specs.Sound.{sound}
 use Rattle.refusals.specs.Refusals.{outcome_of}
-use Rattle.refusals.proofs.Laws.{outcome_pass, outcome_fail, outcome_nil, outcome_clash}
-use Rattle.refusals.specs.declared.Outcome.TheVariants.{Accepted, Refused}
+use Rattle.refusals.proofs.Laws.{outcome_pass, outcome_fail, outcome_nil, outcome_clash, refused_same}
 use Rattle.refusals.specs.declared.Refusal.{Refusal}
 use Rattle.refusals.specs.declared.Refusal.TheVariants.{Unsound, Range, Absent}
 use Rattle.actions.specs.Actions.{action_fits}
@@ -35,7 +27,7 @@ use Rattle.steps.proofs.Judged.{accepted_plan, accepted_flat, nested_flat, judge
 
 -- an action in its ranges passes, or its actor does not stand
 action_outcome : {A : Type 0} (r : Register) (a : Action) → action_fits a ≡ true
-    → (outcome_of (action_tests r a) ≡ Accepted → A) → (outcome_of (action_tests r a) ≡ Refused Absent → A) → A
+    → (outcome_of (action_tests r a) ≡ Ok tt → A) → (outcome_of (action_tests r a) ≡ Err Absent → A) → A
 unfolding action_tests
 action_outcome r a h f g =
     let known = any (λ b. eqb a.actor b.id) (actors_of r.actors) in
@@ -57,10 +49,6 @@ halt_known r n (a ∷ l) h f g =
     (λ e. halt_known r (suc n) l h.1 (λ k. f (first_halt_pass r n a l e ∙ k)) (λ m low high k. g m (omega arith) (omega arith) (first_halt_pass r n a l e ∙ k)))
     (λ e. g n (omega arith) (omega arith) (first_halt_fail r n a l Absent e))
 
--- what is refused has one refusal
-refused_same : (v w : Refusal) → Refused v ≡ Refused w → v ≡ w
-refused_same v w e = cc
-
 halt_sound : (r : Register) (l : List Action) → sound r ≡ true → length l ≤ text_action_limit → halt_under text_action_limit r l ≡ first_halt r 0 l
 unfolding halt_under
 halt_sound r l s few = rw (s, le-leb (length l) text_action_limit few)
@@ -70,7 +58,7 @@ unfolding halt_under
 halt_unsound r l s = rw s
 
 flat_refusing : (r : Register) (l : List Action) (why : Refusal) → length l ≤ text_action_limit → All (λ a. action_fits a ≡ true) l
-    → (flat_judged text_action_limit r l).outcome ≡ Refused why → Refusing why (flat_judged text_action_limit r l) l
+    → (flat_judged text_action_limit r l).outcome ≡ Err why → Refusing why (flat_judged text_action_limit r l) l
 flat_refusing r l why few fine h =
     let verdict : (Halt → PlanTextVerdict) = λ x. text_verdict x (judgements r false l) in
     let by : (x : Halt) → halt_under text_action_limit r l ≡ x → flat_judged text_action_limit r l ≡ verdict x = λ x e. judged_by text_action_limit r l ∙ ap verdict e in
@@ -82,18 +70,18 @@ flat_refusing r l why few fine h =
     (λ m low high e.
     let same = by (halts Absent m) (halt_sound r l s few ∙ e) in
     subst (λ (v : PlanTextVerdict). Refusing why v l) (sym same)
-    (by_action (sym (refused_same Absent why (sym (ap (λ (v : PlanTextVerdict). v.outcome) same) ∙ h))) refl (omega arith) refl)))
+    (by_action (sym (refused_same (sym (ap (λ (v : PlanTextVerdict). v.outcome) same) ∙ h))) refl (omega arith) refl)))
     (λ s.
     let same = by (halts Unsound 0) (halt_unsound r l s) in
     subst (λ (v : PlanTextVerdict). Refusing why v l) (sym same)
-    (by_register (sym (refused_same Unsound why (sym (ap (λ (v : PlanTextVerdict). v.outcome) same) ∙ h))) refl refl refl))
+    (by_register (sym (refused_same (sym (ap (λ (v : PlanTextVerdict). v.outcome) same) ∙ h))) refl refl refl))
 
-pub refused_told : (r : Register) (t : List ℕ) (why : Refusal) → (plan_text_judged r t).outcome ≡ Refused why
+pub refused_told : (r : Register) (t : List ℕ) (why : Refusal) → (plan_text_judged r t).outcome ≡ Err why
     → Refusing why (plan_text_judged r t) (plan_text_read t).actions
 refused_told r t why h =
     state_cases (plan_of t).state
     (λ rest m e.
-    let accepted : (plan_text_read t).outcome ≡ Accepted = ap (λ (x : PlanTextRead). x.outcome) (read_ending t rest m e) in
+    let accepted : (plan_text_read t).outcome ≡ (Ok tt) = ap (λ (x : PlanTextRead). x.outcome) (read_ending t rest m e) in
     let of = accepted_plan t accepted in
     let same = accepted_flat r t accepted in
     let few : length (plan_text_read t).actions ≤ text_action_limit = subst (λ (l : List Action). length l ≤ text_action_limit) (sym of.actions) of.fits.few in
@@ -104,10 +92,10 @@ refused_told r t why h =
     let told = subst (Told OfText) e (text_told t) in
     let same = failed_judged r t fault l e in
     subst (λ (v : PlanTextVerdict). Refusing why v (plan_text_read t).actions) (sym same)
-    (by_line (subst OfText (refused_same fault why (sym (ap (λ (v : PlanTextVerdict). v.outcome) same) ∙ h)) told.1) told.0 refl refl))
+    (by_line (subst OfText (refused_same (sym (ap (λ (v : PlanTextVerdict). v.outcome) same) ∙ h)) told.1) told.0 refl refl))
 
 -- the text comes before the register: a line's refusal does not depend on it
-pub text_first : (r q : Register) (t : List ℕ) (why : Refusal) → (plan_text_read t).outcome ≡ Refused why → plan_text_judged r t ≡ plan_text_judged q t
+pub text_first : (r q : Register) (t : List ℕ) (why : Refusal) → (plan_text_read t).outcome ≡ Err why → plan_text_judged r t ≡ plan_text_judged q t
 text_first r q t why h =
     state_cases (plan_of t).state
     (λ rest m e. outcome_clash (sym h ∙ ap (λ (x : PlanTextRead). x.outcome) (read_ending t rest m e)))
@@ -115,30 +103,30 @@ text_first r q t why h =
 
 -- what the failing line is refused with, and its line, is what is answered
 pub plan_refused_number : (r : Register) (t : List ℕ) (why : Refusal) (l : ℕ) → (plan_of t).state ≡ failed why l
-    → ((plan_text_judged r t).outcome ≡ Refused why) × ((plan_text_judged r t).line ≡ l)
+    → ((plan_text_judged r t).outcome ≡ Err why) × ((plan_text_judged r t).line ≡ l)
 plan_refused_number r t why l e =
     let same = failed_judged r t why l e in
     (ap (λ (v : PlanTextVerdict). v.outcome) same, ap (λ (v : PlanTextVerdict). v.line) same)
 
 -- an accepted list has its judgements
-runs_verdicts : (r : Register) (l : List Action) → (flat_judged text_action_limit r l).outcome ≡ Accepted
-    → verdicts_in (flat_judged text_action_limit r l) ≡ map (λ j. record { what = j }) (judgements r false l)
+runs_verdicts : (r : Register) (l : List Action) → (flat_judged text_action_limit r l).outcome ≡ Ok tt
+    → verdicts_in (flat_judged text_action_limit r l) ≡ judgements r false l
 runs_verdicts r l h = go (halt_under text_action_limit r l) (sym (ap (λ (v : PlanTextVerdict). v.outcome) (judged_by text_action_limit r l)) ∙ h)
     (ap verdicts_in (judged_by text_action_limit r l))
   where
-    go : (x : Halt) → (text_verdict x (judgements r false l)).outcome ≡ Accepted → verdicts_in (flat_judged text_action_limit r l) ≡ verdicts_in (text_verdict x (judgements r false l))
-        → verdicts_in (flat_judged text_action_limit r l) ≡ map (λ j. record { what = j }) (judgements r false l)
+    go : (x : Halt) → (text_verdict x (judgements r false l)).outcome ≡ Ok tt → verdicts_in (flat_judged text_action_limit r l) ≡ verdicts_in (text_verdict x (judgements r false l))
+        → verdicts_in (flat_judged text_action_limit r l) ≡ judgements r false l
     go runs z e =
-        let vs = judgements r false l in e ∙ held_front vs (text_action_limit - length vs) (record { what = Permitted })
+        let vs = judgements r false l in e ∙ held_front vs (text_action_limit - length vs) Permitted
     go (halts why n) z e = outcome_clash z
 
-pub cancelled_across : (r : Register) (s : Steps) → PlanFits s → (plan_text_judged r (plan_text s)).outcome ≡ Accepted
+pub cancelled_across : (r : Register) (s : Steps) → PlanFits s → (plan_text_judged r (plan_text s)).outcome ≡ Ok tt
     → (before : List Action) (a : Action) (after : List Action) → actions_in s ≡ before ++ a ∷ after → All (λ b. b.flags ≡ 0) before → (a.flags ≡ 0 → ⊥)
     → verdicts_in (plan_text_judged r (plan_text s))
-    ≡ map (λ j. record { what = j }) (map (λ b. judged (violations_of r b)) before ++ (judged (violations_of r a) ∷ replicate (length after) Cancelled))
+    ≡ (map (λ b. judged (violations_of r b)) before ++ (judged (violations_of r a) ∷ replicate (length after) Cancelled))
 cancelled_across r s h accepted before a after split flagless set =
     let same = nested_flat r s h in
     ap verdicts_in same
     ∙ runs_verdicts r (actions_in s) (sym (ap (λ (v : PlanTextVerdict). v.outcome) same) ∙ accepted)
-    ∙ ap (λ l. map (λ j. record { what = j }) (judgements r false l)) split
-    ∙ ap (map (λ j. record { what = j })) (judgements_flagged r before a after flagless set)
+    ∙ ap (λ l. judgements r false l) split
+    ∙ judgements_flagged r before a after flagless set

@@ -1,22 +1,15 @@
 -- The theorems of plan texts: read what was written, judged as the flat list. Assumes nothing.
-use Prim.Native.Nat.{ℕ, ◌-◌, ◌≤◌}
-use mathlib.Core.Path.{◌≡◌, refl, sym, ap, subst, ◌∙◌}
-use mathlib.Core.Bool.{true, false}
-use mathlib.Core.List.{List, [], ◌++◌, map, append-nil}
-use native.Mathlib.Omega.{arith}
-use borrow.Author.Tests.{le-leb}
-use lib.ListN.{length, take, replicate, length-map}
+use Rattle.std.proofs.Common.{Err, Ok, ℕ, ◌-◌, ◌≤◌, ◌≡◌, refl, sym, ap, subst, ◌∙◌, true, false, List, [], ◌++◌, map, append-nil, arith, le-leb, length, take, replicate}
+use lib.ListN.{length-map}
 use lib.Seq.{take-append_seam}
 use Rattle.lists.specs.Lists.{All}
 use Rattle.lists.specs.Each.{all_imp}
 use Rattle.register.specs.declared.Register.{Register}
 use Rattle.refusals.proofs.Laws.{outcome_clash}
-use Rattle.refusals.specs.declared.Outcome.TheVariants.{Accepted, Refused}
 use Rattle.refusals.specs.declared.Refusal.{Refusal}
 use Rattle.actions.specs.Actions.{action_fits, action_limit}
 use Rattle.actions.specs.declared.Action.{Action}
 use Rattle.actions.specs.declared.Plan.{Plan}
-use Rattle.actions.specs.declared.Judged.{Judged}
 use Rattle.actions.specs.declared.Judgement.{Judgement}
 use Rattle.actions.specs.declared.Judgement.TheVariants.{Permitted}
 use Rattle.lines.specs.Reading.{State, going, failed, Read, closed}
@@ -55,7 +48,7 @@ written_plan s h =
     }
 
 -- what a reading that goes on gives, and is judged as
-pub read_ending : (t : List ℕ) (rest : List ℕ) (m : ℕ) → (plan_of t).state ≡ going rest m → plan_text_read t ≡ record { actions = actions_in (plan_of t).value; outcome = Accepted; line = 0 }
+pub read_ending : (t : List ℕ) (rest : List ℕ) (m : ℕ) → (plan_of t).state ≡ going rest m → plan_text_read t ≡ record { actions = actions_in (plan_of t).value; outcome = Ok tt; line = 0 }
 unfolding plan_text_read
 read_ending t rest m e = ap (plan_text_ending (plan_of t).value) e
 
@@ -63,14 +56,14 @@ judged_ending : (r : Register) (t : List ℕ) (rest : List ℕ) (m : ℕ) → (p
 unfolding plan_text_judged
 judged_ending r t rest m e = ap (plan_text_verdict r (plan_of t).value) e
 
-pub plan_read : (s : Steps) → PlanFits s → plan_text_read (plan_text s) ≡ record { actions = map cleaned_action (actions_in s); outcome = Accepted; line = 0 }
+pub plan_read : (s : Steps) → PlanFits s → plan_text_read (plan_text s) ≡ record { actions = map cleaned_action (actions_in s); outcome = Ok tt; line = 0 }
 plan_read s h =
     let w = written_plan s h in
     read_ending (plan_text s) [] w.at w.state
-    ∙ ap (λ (l : List Action). record { actions = l; outcome = Accepted; line = 0 }) (ap actions_in w.value ∙ clean_flat s)
+    ∙ ap (λ (l : List Action). record { actions = l; outcome = Ok tt; line = 0 }) (ap actions_in w.value ∙ clean_flat s)
 
 pub plan_accepted : (s : Steps) → PlanFits s
-    → ((plan_text_read (plan_text s)).outcome ≡ Accepted) × ((plan_text_read (plan_text s)).line ≡ 0) × SameActions (plan_text_read (plan_text s)).actions (actions_in s)
+    → ((plan_text_read (plan_text s)).outcome ≡ Ok tt) × ((plan_text_read (plan_text s)).line ≡ 0) × SameActions (plan_text_read (plan_text s)).actions (actions_in s)
 plan_accepted s h =
     let e = plan_read s h in (
       ap (λ (x : PlanTextRead). x.outcome) e,
@@ -83,7 +76,7 @@ pub state_cases : {A : Type 0} (st : State) → ((t : List ℕ) (l : ℕ) → st
 state_cases (going t l) f g = f t l refl
 state_cases (failed why l) f g = g why l refl
 
-pub failed_read : (t : List ℕ) (why : Refusal) (l : ℕ) → (plan_of t).state ≡ failed why l → plan_text_read t ≡ record { actions = []; outcome = Refused why; line = l }
+pub failed_read : (t : List ℕ) (why : Refusal) (l : ℕ) → (plan_of t).state ≡ failed why l → plan_text_read t ≡ record { actions = []; outcome = Err why; line = l }
 unfolding plan_text_read
 failed_read t why l e = ap (plan_text_ending (plan_of t).value) e
 
@@ -92,7 +85,7 @@ pub failed_judged : (r : Register) (t : List ℕ) (why : Refusal) (l : ℕ) → 
 unfolding plan_text_judged
 failed_judged r t why l e = ap (plan_text_verdict r (plan_of t).value) e
 
-pub goes_on : {A : Type 0} (t : List ℕ) → (plan_text_read t).outcome ≡ Accepted → ((rest : List ℕ) (m : ℕ) → (plan_of t).state ≡ going rest m → A) → A
+pub goes_on : {A : Type 0} (t : List ℕ) → (plan_text_read t).outcome ≡ Ok tt → ((rest : List ℕ) (m : ℕ) → (plan_of t).state ≡ going rest m → A) → A
 goes_on t h f =
     state_cases (plan_of t).state f
     (λ why l e. outcome_clash (sym (ap (λ (x : PlanTextRead). x.outcome) (failed_read t why l e)) ∙ h))
@@ -123,12 +116,12 @@ going_plan t rest m e k =
       actions = k;
     }
 
-pub accepted_plan : (t : List ℕ) → (plan_text_read t).outcome ≡ Accepted → PlanTextOf t
+pub accepted_plan : (t : List ℕ) → (plan_text_read t).outcome ≡ Ok tt → PlanTextOf t
 accepted_plan t h =
     goes_on t h (λ rest m e. going_plan t rest m e (ap (λ (x : PlanTextRead). x.actions) (read_ending t rest m e)))
 
 -- judged as the flat list
-pub accepted_flat : (r : Register) (t : List ℕ) → (plan_text_read t).outcome ≡ Accepted → plan_text_judged r t ≡ flat_judged text_action_limit r (plan_text_read t).actions
+pub accepted_flat : (r : Register) (t : List ℕ) → (plan_text_read t).outcome ≡ Ok tt → plan_text_judged r t ≡ flat_judged text_action_limit r (plan_text_read t).actions
 accepted_flat r t h =
     goes_on t h (λ rest m e. judged_ending r t rest m e ∙ ap (flat_judged text_action_limit r) (sym (ap (λ (x : PlanTextRead). x.actions) (read_ending t rest m e))))
 
@@ -140,7 +133,7 @@ nested_flat r s h =
 pub regrouped_same : (r : Register) (s q : Steps) → PlanFits s → PlanFits q → SameActions (actions_in s) (actions_in q) → plan_text_judged r (plan_text s) ≡ plan_text_judged r (plan_text q)
 regrouped_same r s q h k same = nested_flat r s h ∙ flat_same r text_action_limit (actions_in s) (actions_in q) same ∙ sym (nested_flat r q k)
 
-pub texts_regrouped : (r : Register) (t u : List ℕ) → (plan_text_read t).outcome ≡ Accepted → (plan_text_read u).outcome ≡ Accepted
+pub texts_regrouped : (r : Register) (t u : List ℕ) → (plan_text_read t).outcome ≡ Ok tt → (plan_text_read u).outcome ≡ Ok tt
     → SameActions (plan_text_read t).actions (plan_text_read u).actions → plan_text_judged r t ≡ plan_text_judged r u
 texts_regrouped r t u h k same =
     accepted_flat r t h ∙ flat_same r text_action_limit (plan_text_read t).actions (plan_text_read u).actions same ∙ sym (accepted_flat r u k)
@@ -158,11 +151,8 @@ halt_few : (limit : ℕ) (r : Register) (p : Plan) → length (actions_of p) ≤
 unfolding halt_under halt_of
 halt_few limit r p few most = rw (le-leb (length (actions_of p)) limit few, le-leb p.count action_limit most)
 
-pub held_front : (vs : List Judgement) (n : ℕ) (fill : Judged) → take (length vs) (map (λ j. record { what = j }) vs ++ replicate n fill) ≡ map (λ j. record { what = j }) vs
-held_front vs n fill =
-    let front : List Judged = map (λ j. record { what = j }) vs in
-    let same : length front ≡ length vs = length-map vs (λ j. record { what = j }) in
-    ap (λ (k : ℕ). take k (front ++ replicate n fill)) (sym same) ∙ take-append_seam front (replicate n fill)
+pub held_front : (vs : List Judgement) (n : ℕ) (fill : Judgement) → take (length vs) (vs ++ replicate n fill) ≡ vs
+held_front vs n fill = take-append_seam vs (replicate n fill)
 
 as_halted : (r : Register) (p : Plan) (h : Halt) → halt_of r p ≡ h → AsPlanned (text_verdict h (judgements r false (actions_of p))) (planned r p)
 as_halted r p runs e =
@@ -173,7 +163,7 @@ as_halted r p runs e =
       line = refl;
       position = refl;
       count = refl;
-      verdicts = held_front vs (text_action_limit - length vs) (record { what = Permitted }) ∙ sym (held_front vs (action_limit - length vs) (record { what = Permitted }));
+      verdicts = held_front vs (text_action_limit - length vs) Permitted ∙ sym (held_front vs (action_limit - length vs) Permitted);
     })
 as_halted r p (halts why n) e =
     let same = planned_by r p ∙ ap (λ (h : Halt). plan_verdict h r p) e in

@@ -1,8 +1,5 @@
 -- Steps that are the same have one text, and steps with one text are the same. Assumes nothing.
-use Prim.Native.Nat.{ℕ, suc}
-use mathlib.Core.Path.{◌≡◌, refl, sym, ap, subst, ◌∙◌}
-use mathlib.Core.Bool.{true}
-use mathlib.Core.List.{List, ◌++◌}
+use Rattle.std.proofs.Common.{ℕ, suc, ◌≡◌, refl, sym, ap, subst, ◌∙◌, true, List, ◌++◌}
 use Rattle.lists.specs.Lists.{All}
 use Rattle.actions.specs.Actions.{action_fits}
 use Rattle.lines.specs.Lines.{action_step_line, plan_step_line}

@@ -1,10 +1,6 @@
 -- Reading steps and plans: what was written reads as it was, whatever follows, and where a reading goes on, it stood before the text of what it gives,
 -- within the levels and the room. Assumes nothing.
-use Prim.Native.Nat.{ℕ, zero, suc, ◌+◌, ◌-◌, ◌≤◌, ◌<◌}
-use mathlib.Core.Path.{◌≡◌, refl, sym, ap, subst, ◌∙◌}
-use mathlib.Core.List.{List, [], ◌∷◌, ◌++◌, append_assoc}
-use native.Mathlib.Omega.{arith}
-use lib.ListN.{length, length-append}
+use Rattle.std.proofs.Common.{ℕ, zero, suc, ◌+◌, ◌-◌, ◌≤◌, ◌<◌, ◌≡◌, refl, sym, ap, subst, ◌∙◌, List, [], ◌∷◌, ◌++◌, append_assoc, arith, length, length-append}
 use Rattle.lists.specs.Lists.{All}
 use Rattle.soundness_rules.proofs.Laws.{ranged_in, ranged_greatest}
 use Rattle.actions.specs.declared.Action.{Action}

@@ -1,9 +1,5 @@
 -- Flat lists of actions that are the same get the same answer. Assumes nothing.
-use mathlib.Core.Path.{◌≡◌, refl, ap}
-use mathlib.Core.Bool.{false}
-use mathlib.Core.List.{List, [], ◌∷◌}
-use Prim.Native.Nat.{ℕ, suc}
-use lib.ListN.{length}
+use Rattle.std.proofs.Common.{◌≡◌, refl, ap, false, List, [], ◌∷◌, ℕ, suc, length}
 use Rattle.register.specs.declared.Register.{Register}
 use Rattle.actions.specs.declared.Action.{Action}
 use Rattle.gate_rules.specs.Plans.{SameActions}

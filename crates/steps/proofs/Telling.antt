@@ -1,11 +1,5 @@
 -- A reading that fails is told by one of the text's refusals, at a line from 1. Assumes nothing.
-use Prim.Native.Nat.{ℕ, zero, suc, ◌+◌, ◌-◌}
-use mathlib.Core.Path.{◌≡◌, refl, sym, subst}
-use mathlib.Core.List.{List}
-use mathlib.Core.Logic.{inl, inr}
-use native.Mathlib.Omega.{arith}
-use lib.Dec.{eqb}
-use lib.ListN.{length, drop}
+use Rattle.std.proofs.Common.{ℕ, zero, suc, ◌+◌, ◌-◌, ◌≡◌, refl, sym, subst, List, inl, inr, arith, eqb, length, drop}
 use Rattle.lists.specs.Tests.{cases}
 use Rattle.refusals.specs.declared.Refusal.TheVariants.{Form, Count, TooDeep, TooManyActions}
 use Rattle.lines.specs.Lines.{begins, parse_word, action_step_line, plan_step_line}

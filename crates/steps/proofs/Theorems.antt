@@ -1,11 +1,7 @@
 -- What is proved of plans inside plans, of steps within 8 levels, 64 steps to a plan and 64 actions, each in its ranges (`PlanFits`). Assumes nothing.
-use Prim.Native.Nat.{ℕ, ◌+◌, ◌≤◌}
-use mathlib.Core.Path.{◌≡◌}
-use mathlib.Core.List.{List, ◌∷◌, ◌++◌, map}
-use lib.ListN.{length, replicate}
+use Rattle.std.proofs.Common.{Err, Ok, ℕ, ◌+◌, ◌≤◌, ◌≡◌, List, ◌∷◌, ◌++◌, map, length, replicate}
 use Rattle.lists.specs.Lists.{All}
 use Rattle.register.specs.declared.Register.{Register}
-use Rattle.refusals.specs.declared.Outcome.TheVariants.{Accepted, Refused}
 use Rattle.refusals.specs.declared.Refusal.{Refusal}
 use Rattle.refusals.specs.declared.Refusal.TheVariants.{TooDeep, TooManyActions}
 use Rattle.actions.specs.Actions.{action_limit}
@@ -28,7 +24,7 @@ use Rattle.steps.proofs.Barring as barring
 
 -- 1a. The text of steps reads, and gives their actions in reading order.
 pub plan_accepted : (s : Steps) → PlanFits s
-    → ((plan_text_read (plan_text s)).outcome ≡ Accepted) × ((plan_text_read (plan_text s)).line ≡ 0) × SameActions (plan_text_read (plan_text s)).actions (actions_in s)
+    → ((plan_text_read (plan_text s)).outcome ≡ Ok tt) × ((plan_text_read (plan_text s)).line ≡ 0) × SameActions (plan_text_read (plan_text s)).actions (actions_in s)
 plan_accepted = answers.plan_accepted
 
 -- 1b. And the same steps.
@@ -36,7 +32,7 @@ pub plan_read_written : (s : Steps) → PlanFits s → SameSteps (plan_of (plan_
 plan_read_written = one.plan_read_written
 
 -- 2. An accepted text is that of such steps, and its actions are theirs.
-pub accepted_plan : (t : List ℕ) → (plan_text_read t).outcome ≡ Accepted → PlanTextOf t
+pub accepted_plan : (t : List ℕ) → (plan_text_read t).outcome ≡ Ok tt → PlanTextOf t
 accepted_plan = answers.accepted_plan
 
 -- 3a. Steps with one text have one shape and the same actions one by one.
@@ -52,7 +48,7 @@ pub nested_flat : (r : Register) (s : Steps) → PlanFits s → plan_text_judged
 nested_flat = answers.nested_flat
 
 -- 4b. So is that for any accepted text.
-pub accepted_flat : (r : Register) (t : List ℕ) → (plan_text_read t).outcome ≡ Accepted → plan_text_judged r t ≡ flat_judged text_action_limit r (plan_text_read t).actions
+pub accepted_flat : (r : Register) (t : List ℕ) → (plan_text_read t).outcome ≡ Ok tt → plan_text_judged r t ≡ flat_judged text_action_limit r (plan_text_read t).actions
 accepted_flat = answers.accepted_flat
 
 -- 5. With at most 16 actions outcome, position, count and the verdicts below the count are those of the flat plan call.
@@ -65,10 +61,10 @@ pub regrouped_same : (r : Register) (s q : Steps) → PlanFits s → PlanFits q 
 regrouped_same = answers.regrouped_same
 
 -- 7. All behind the first action with a flag are cancelled, in whatever sub-plans they stand.
-pub cancelled_across : (r : Register) (s : Steps) → PlanFits s → (plan_text_judged r (plan_text s)).outcome ≡ Accepted
+pub cancelled_across : (r : Register) (s : Steps) → PlanFits s → (plan_text_judged r (plan_text s)).outcome ≡ Ok tt
     → (before : List Action) (a : Action) (after : List Action) → actions_in s ≡ before ++ a ∷ after → All (λ b. b.flags ≡ 0) before → (a.flags ≡ 0 → ⊥)
     → verdicts_in (plan_text_judged r (plan_text s))
-    ≡ map (λ j. record { what = j }) (map (λ b. judged (violations_of r b)) before ++ (judged (violations_of r a) ∷ replicate (length after) Cancelled))
+    ≡ (map (λ b. judged (violations_of r b)) before ++ (judged (violations_of r a) ∷ replicate (length after) Cancelled))
 cancelled_across = halting.cancelled_across
 
 -- 8. A sub-plan that would open level 9 is refused with 22 at its `step=plan` line, whatever follows.
@@ -82,15 +78,15 @@ pub many_refused : (r : Register) (o : Open) (t : List ℕ) → OpenFits 7 o →
 many_refused = barring.many_refused
 
 -- 10a. A refusal is 19, 20, 22 or 23 at a line from 1 and position 0, or 1 with 0 and 0, or 3 with line 0 and an action's position; without verdicts.
-pub refused_told : (r : Register) (t : List ℕ) (why : Refusal) → (plan_text_judged r t).outcome ≡ Refused why
+pub refused_told : (r : Register) (t : List ℕ) (why : Refusal) → (plan_text_judged r t).outcome ≡ Err why
     → Refusing why (plan_text_judged r t) (plan_text_read t).actions
 refused_told = halting.refused_told
 
 -- 10b. The text comes before the register: what a line is refused with does not depend on it.
-pub text_first : (r q : Register) (t : List ℕ) (why : Refusal) → (plan_text_read t).outcome ≡ Refused why → plan_text_judged r t ≡ plan_text_judged q t
+pub text_first : (r q : Register) (t : List ℕ) (why : Refusal) → (plan_text_read t).outcome ≡ Err why → plan_text_judged r t ≡ plan_text_judged q t
 text_first = halting.text_first
 
 -- 10c. What the failing line is refused with, and its number, is what is answered.
 pub plan_refused_number : (r : Register) (t : List ℕ) (why : Refusal) (l : ℕ) → (plan_of t).state ≡ failed why l
-    → ((plan_text_judged r t).outcome ≡ Refused why) × ((plan_text_judged r t).line ≡ l)
+    → ((plan_text_judged r t).outcome ≡ Err why) × ((plan_text_judged r t).line ≡ l)
 plan_refused_number = halting.plan_refused_number

@@ -1,13 +1,10 @@
 -- Believed: What is answered of a plan text: the text first, then the register, then the actions as one flat list with the limit 64.
-use Rattle.std.specs.Prelude.{ℕ, ◌-◌, false, cond, List, [], ◌++◌, map, leb, length, take, replicate}
+use Rattle.std.specs.Prelude.{ℕ, ◌-◌, false, cond, List, [], ◌++◌, leb, length, take, replicate, Result, Err, Ok}
 use Rattle.register.specs.declared.Register.{Register}
 use Rattle.soundness_rules.specs.Sound.{sound}
-use Rattle.refusals.specs.declared.Outcome.{Outcome}
-use Rattle.refusals.specs.declared.Outcome.TheVariants.{Accepted, Refused}
 use Rattle.refusals.specs.declared.Refusal.{Refusal}
 use Rattle.refusals.specs.declared.Refusal.TheVariants.{Unsound, Range}
 use Rattle.actions.specs.declared.Action.{Action}
-use Rattle.actions.specs.declared.Judged.{Judged}
 use Rattle.actions.specs.declared.Judgement.{Judgement}
 use Rattle.actions.specs.declared.Judgement.TheVariants.{Permitted}
 use Rattle.lines.specs.Reading.{State, going, failed}
@@ -19,12 +16,12 @@ use Rattle.steps.specs.declared.PlanTextVerdict.{PlanTextVerdict}
 -- the reading of a plan text: accepted with the actions in reading order, or the refusal with its line and no actions
 pub record PlanTextRead : Type 0 where
   pub actions : List Action
-  pub outcome : Outcome
+  pub outcome : Result Unit Refusal
   pub line : ℕ
 
 abbrev pub plan_text_ending : Steps → State → PlanTextRead
-plan_text_ending s (going t l) = record { actions = actions_in s; outcome = Accepted; line = 0 }
-plan_text_ending s (failed why l) = record { actions = []; outcome = Refused why; line = l }
+plan_text_ending s (going t l) = record { actions = actions_in s; outcome = Ok tt; line = 0 }
+plan_text_ending s (failed why l) = record { actions = []; outcome = Err why; line = l }
 
 unfoldable pub plan_text_read : List ℕ → PlanTextRead
 plan_text_read t = let read = plan_of t in plan_text_ending read.value read.state
@@ -32,24 +29,24 @@ plan_text_read t = let read = plan_of t in plan_text_ending read.value read.stat
 -- verdicts as the answer holds them, and an answer without verdicts
 abbrev pub held_text : List Judgement → PlanTextVerdict
 held_text vs = record {
-  outcome = Accepted;
+  outcome = Ok tt;
   line = 0;
   position = 0;
-  list = map (λ v. record { what = v }) vs ++ replicate (text_action_limit - length vs) (record { what = Permitted });
+  list = vs ++ replicate (text_action_limit - length vs) Permitted;
   count = length vs;
 }
 
 abbrev pub stopped_plan : Refusal → ℕ → ℕ → PlanTextVerdict
 stopped_plan why line position = record {
-  outcome = Refused why;
+  outcome = Err why;
   line = line;
   position = position;
-  list = replicate text_action_limit (record { what = Permitted });
+  list = replicate text_action_limit Permitted;
   count = 0;
 }
 
 -- the verdicts of an answer: entries past its count are ignored
-abbrev pub verdicts_in : PlanTextVerdict → List Judged
+abbrev pub verdicts_in : PlanTextVerdict → List Judgement
 verdicts_in v = take v.count v.list
 
 -- what stops a flat list of actions under a limit: test 1, then 2 on the count, then the actions

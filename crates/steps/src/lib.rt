@@ -3,8 +3,8 @@
 // equal.
 #![tactic(auto)]
 
-use actions::Judged;
-use refusals::Outcome;
+use actions::Judgement;
+use refusals::Refusal;
 
 // The levels of plans, the outermost being 1.
 pub const LEVELS: usize = 8;
@@ -19,9 +19,9 @@ pub const TEXT_ACTIONS: usize = 64;
 // so where one stops the plan. Past the count the list holds permissions that say nothing.
 #[derive(Clone, Copy)]
 pub struct PlanTextVerdict {
-    pub outcome: Outcome,
+    pub outcome: Result<(), Refusal>,
     pub line: usize,
     pub position: usize,
-    pub list: [Judged; TEXT_ACTIONS],
+    pub list: [Judgement; TEXT_ACTIONS],
     pub count: usize,
 }

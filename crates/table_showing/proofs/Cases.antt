@@ -1,10 +1,6 @@
 -- The numbers of a small register's table, by computing: folders in folders, a public resource, a machine with its owner, a claim without weight, one that
 -- has expired and one whose source is dead. Assumes nothing.
-use mathlib.Core.Path.{◌≡◌, refl}
-use mathlib.Core.Bool.{true, false}
-use mathlib.Core.List.{[], ◌∷◌, map}
-use Prim.Native.Nat.{ℕ, ◌^◌}
-use lib.ListN.{take, drop}
+use Rattle.std.proofs.Common.{◌≡◌, refl, true, false, [], ◌∷◌, map, ℕ, ◌^◌, take, drop}
 use Rattle.lists.specs.Lists.{same}
 use Rattle.paths.specs.Containment.{components, climbing, trimmed, starting, contained, reached}
 use Rattle.rights.specs.Rights.{has_right}

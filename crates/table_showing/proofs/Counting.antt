@@ -1,9 +1,6 @@
 -- Lists read at counted places. Assumes nothing.
-use mathlib.Core.Path.{◌≡◌, refl, sym, ap, ◌∙◌}
-use mathlib.Core.List.{List, [], ◌∷◌, ◌++◌, map}
-use Prim.Native.Nat.{ℕ, zero, suc, ◌+◌, ◌-◌, ◌<◌}
-use native.Mathlib.Omega.{arith}
-use lib.ListN.{length, get_or, replicate, length-map}
+use Rattle.std.proofs.Common.{◌≡◌, refl, sym, ap, ◌∙◌, List, [], ◌∷◌, ◌++◌, map, ℕ, zero, suc, ◌+◌, ◌-◌, ◌<◌, arith, length, get_or, replicate}
+use lib.ListN.{length-map}
 use Rattle.lists.specs.Lists.{counted}
 use Rattle.lists.specs.Counts.{counted_length}
 use Rattle.lists.specs.Fills.{filled_by}

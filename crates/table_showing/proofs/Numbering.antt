@@ -1,12 +1,6 @@
 -- The numbers of the table: 1 is a claim that lives, 257 a use that is not covered, and a number below 256 the place of the claim relied on. Assumes nothing.
-use mathlib.Core.Path.{◌≡◌, refl, ap, sym, ◌∙◌}
-use mathlib.Core.Bool.{Bool, true, false, not, ◌&&◌, cond}
-use mathlib.Core.List.{List, [], ◌∷◌}
-use Prim.Native.Nat.{ℕ, suc, ◌<◌, ◌+◌}
-use native.Mathlib.Omega.{arith}
-use borrow.Author.Tests.{ne_eqb, eqb-true, eqb-false, lt-ltb}
-use lib.Dec.{eqb, ltb}
-use lib.ListN.{length, length-append, length-take}
+use Rattle.std.proofs.Common.{Err, Ok, ◌≡◌, refl, ap, sym, ◌∙◌, Bool, true, false, not, ◌&&◌, cond, List, [], ◌∷◌, ℕ, suc, ◌<◌, ◌+◌, arith, ne_eqb, eqb-true, lt-ltb, eqb, ltb, length, length-append, length-take}
+use borrow.Author.Tests.{eqb-false}
 use Rattle.lists.specs.Tests.{cases}
 use Rattle.lists.specs.Lists.{any}
 use Rattle.lists.specs.Each.{cons_clash}
@@ -25,7 +19,6 @@ use Rattle.coverage_table.specs.Table.{Remark, Entry, nothing, openly, claimed, 
 use Rattle.coverage_table.proofs.Uses.{lookup_answers}
 use Rattle.refusals.specs.Refusals.{outcome_of}
 use Rattle.refusals.specs.declared.Refusal.{Refusal}
-use Rattle.refusals.specs.declared.Outcome.TheVariants.{Accepted, Refused}
 use Rattle.table_showing.specs.Shown.{remark_number, place_named, nothing_number, entry_number, table_tests, table_none, table_held, table_on, table_shown}
 use Rattle.table_showing.proofs.Showing.{place_standing_lem}
 
@@ -103,11 +96,11 @@ module _ (r : Register) (h : sound r ≡ true) (moment x : ℕ) (u : Usage) wher
       )
 
 -- what is shown by the outcome of the tests
-pub table_refused : (r : Register) (x moment : ℕ) (why : Refusal) → outcome_of (table_tests r x moment) ≡ Refused why
-    → table_shown r x moment ≡ table_none (Refused why)
+pub table_refused : (r : Register) (x moment : ℕ) (why : Refusal) → outcome_of (table_tests r x moment) ≡ Err why
+    → table_shown r x moment ≡ table_none (Err why)
 unfolding table_shown
 table_refused r x moment why refused = ap (λ o. table_on o r x moment) refused
 
-pub table_accepted : (r : Register) (x moment : ℕ) → outcome_of (table_tests r x moment) ≡ Accepted → table_shown r x moment ≡ table_held r x moment
+pub table_accepted : (r : Register) (x moment : ℕ) → outcome_of (table_tests r x moment) ≡ Ok tt → table_shown r x moment ≡ table_held r x moment
 unfolding table_shown
 table_accepted r x moment accepted = ap (λ o. table_on o r x moment) accepted

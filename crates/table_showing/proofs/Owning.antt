@@ -1,11 +1,6 @@
 -- The owner of a machine, found actor by actor; in a sound register it is another than the machine. Assumes nothing.
-use mathlib.Core.Path.{◌≡◌, refl, sym, ap, ◌∙◌}
-use mathlib.Core.Bool.{Bool, true, false, not, ◌&&◌, cond}
-use mathlib.Core.List.{List, [], ◌∷◌, map}
-use Prim.Native.Nat.{ℕ, ◌≤◌}
-use native.Mathlib.Omega.{arith}
-use borrow.Author.Tests.{eqb-true, eqb-false, not-true}
-use lib.Dec.{eqb}
+use Rattle.std.proofs.Common.{◌≡◌, refl, sym, ap, ◌∙◌, Bool, true, false, not, ◌&&◌, cond, List, [], ◌∷◌, map, ℕ, ◌≤◌, arith, eqb-true, eqb}
+use borrow.Author.Tests.{eqb-false, not-true}
 use Rattle.lists.specs.Tests.{cases, and_left, and_right}
 use Rattle.lists.specs.Lists.{any}
 use Rattle.lists.specs.Each.{every_all}
@@ -29,12 +24,14 @@ owned x a = eqb x a.id && (eqb machine_kind a.kind && not (eqb a.owner 0))
 abbrev pub first_owner : ℕ → List Actor → ℕ
 first_owner x l = owner_shown (map (λ a. a.owner) (first_of (owned x) l))
 
-pub owner_here : (x : ℕ) (a : Actor) (l : List Actor) → eqb x a.id && (eqb machine_kind a.kind && not (eqb a.owner 0)) ≡ true → first_owner x (a ∷ l) ≡ a.owner
-owner_here x a l e = ap (λ m. owner_shown (map (λ a. a.owner) m)) (first_hit (owned x) a l e)
+-- an actor is read, which is the first of those left
+pub owner_here : (x : ℕ) {a b : Actor} (l : List Actor) → b ≡ a → eqb x b.id && (eqb machine_kind b.kind && not (eqb b.owner 0)) ≡ true
+    → first_owner x (a ∷ l) ≡ b.owner
+owner_here x {a} {b} l read e = rw (← read) (ap (λ m. owner_shown (map (λ a. a.owner) m)) (first_hit (owned x) b l e))
 
-pub owner_further : (x : ℕ) (a : Actor) (l : List Actor) → eqb x a.id && (eqb machine_kind a.kind && not (eqb a.owner 0)) ≡ false
+pub owner_further : (x : ℕ) {a b : Actor} (l : List Actor) → b ≡ a → eqb x b.id && (eqb machine_kind b.kind && not (eqb b.owner 0)) ≡ false
     → first_owner x (a ∷ l) ≡ first_owner x l
-owner_further x a l e = ap (λ m. owner_shown (map (λ a. a.owner) m)) (first_miss (owned x) a l e)
+owner_further x {a} {b} l read e = rw (← read) (ap (λ m. owner_shown (map (λ a. a.owner) m)) (first_miss (owned x) b l e))
 
 pub owner_none : (x : ℕ) → first_owner x [] ≡ 0
 owner_none x = ap (λ m. owner_shown (map (λ a. a.owner) m)) (first_none (owned x) [] refl)

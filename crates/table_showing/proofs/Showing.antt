@@ -1,14 +1,6 @@
 -- What stands on the paper, as numbers, is what the definition shows. Assumes nothing.
-use mathlib.Core.Path.{◌≡◌, refl, sym, ap, ◌∙◌}
-use mathlib.Core.Bool.{true, false, cond}
-use mathlib.Core.List.{List, [], ◌∷◌, ◌++◌, map, map-map, map-append, reverse-reverse}
-use Prim.Native.Nat.{ℕ, suc, ◌+◌, ◌-◌, ◌*◌, ◌%◌, ◌<◌}
-use native.Mathlib.Nat.{zero-add}
-use native.Mathlib.Omega.{arith}
-use borrow.Author.Tests.{eq-eqb, ne_eqb}
-use lib.Dec.{eqb}
-use lib.ListN.{length, get_or, length-take}
-use lib.Seq.{get_or-take}
+use Rattle.std.proofs.Common.{Ok, ◌≡◌, refl, sym, ap, ◌∙◌, true, false, cond, List, [], ◌∷◌, ◌++◌, map, ℕ, suc, ◌+◌, ◌-◌, ◌*◌, ◌%◌, ◌<◌, zero-add, arith, eq-eqb, ne_eqb, eqb, length, get_or, length-take, get_or-take}
+use mathlib.Core.List.{map-map, map-append, reverse-reverse}
 use Rattle.lists.specs.Lists.{All, counted}
 use Rattle.lists.specs.Each.{reverse_map}
 use Rattle.lists.specs.Fills.{filled_by}
@@ -27,7 +19,6 @@ use Rattle.gate_rules.specs.Places.{all_latest}
 use Rattle.gate_rules.proofs.Coverage.{sound_place}
 use Rattle.gate_rules.specs.Authority.{IsIn}
 use Rattle.lookup.specs.Laws.{counted_number}
-use Rattle.refusals.specs.declared.Outcome.TheVariants.{Accepted}
 use Rattle.coverage_table.specs.Table.{Remark, Entry, nothing, openly, claimed, Cell, cover_table, table_owner}
 use Rattle.coverage_table.proofs.Remarks.{world_around}
 use Rattle.coverage_table.specs.Hearing.{remark_among}
@@ -161,8 +152,8 @@ module _ (r : Register) (whole : sound r ≡ true) (room : length r.claims.list 
         ∙ sym (ap (λ l. shown_in shown_cells nothing_number (rows_numbers r (owner_rows r moment l))) one))
 
     table_same : (a b : ℕ) (h i s t v w y z : List ℕ) → a ≡ b → h ≡ i → s ≡ t → v ≡ w → y ≡ z
-        → ◌≡◌ {A = TableShown} (record { outcome = Accepted; owner = a; hops = h; states = s; own = v; owners = y })
-        (record { outcome = Accepted; owner = b; hops = i; states = t; own = w; owners = z })
+        → ◌≡◌ {A = TableShown} (record { outcome = Ok tt; owner = a; hops = h; states = s; own = v; owners = y })
+        (record { outcome = Ok tt; owner = b; hops = i; states = t; own = w; owners = z })
     table_same a b h i s t v w y z e1 e2 e3 e4 e5 = rw (e1, e2, e3, e4, e5)
 
     -- so what is shown of the paper is what the definition shows
@@ -173,7 +164,7 @@ module _ (r : Register) (whole : sound r ≡ true) (room : length r.claims.list 
         → own ≡ filled_by cell_limit (λ k. cell_number (get_or p.own k 0)) (r.resources.count * right_count) nothing_number
         → rows ≡ cond (eqb owner 0) 0 r.resources.count
         → owners ≡ filled_by cell_limit (λ k. cell_number (get_or p.theirs k 0)) (rows * right_count) nothing_number
-        → ◌≡◌ {A = TableShown} (record { outcome = Accepted; owner = owner; hops = hops; states = states; own = own; owners = owners }) (table_held r actor moment)
+        → ◌≡◌ {A = TableShown} (record { outcome = Ok tt; owner = owner; hops = hops; states = states; own = own; owners = owners }) (table_held r actor moment)
     unfolding table_held
     shown_natural actor owner rows p hops states own owners written asked counted stated shown many theirs =
         table_same owner (owner_shown (table_owner r actor)) hops (shown_in claim_limit 0 (map (λ n. n.hops) (remarks_shown r actor moment)))

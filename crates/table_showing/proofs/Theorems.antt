@@ -1,10 +1,5 @@
 -- What is proved of the numbers that the cover table is shown as (02, T-06). Assumes nothing.
-use mathlib.Core.Path.{◌≡◌}
-use mathlib.Core.Bool.{true, not}
-use mathlib.Core.List.{List, [], ◌∷◌}
-use Prim.Native.Nat.{ℕ, ◌<◌}
-use lib.Dec.{eqb}
-use lib.ListN.{length}
+use Rattle.std.proofs.Common.{Err, Ok, ◌≡◌, true, not, List, [], ◌∷◌, ℕ, ◌<◌, eqb, length}
 use Rattle.register.specs.Limits.{claim_limit}
 use Rattle.register.specs.Register.{claims_of}
 use Rattle.register.specs.declared.Claim.{Claim}
@@ -16,7 +11,6 @@ use Rattle.gate_rules.specs.Authority.{IsIn}
 use Rattle.coverage_table.specs.Table.{Remark, remark_on, cover_table, looked_up}
 use Rattle.refusals.specs.Refusals.{outcome_of}
 use Rattle.refusals.specs.declared.Refusal.{Refusal}
-use Rattle.refusals.specs.declared.Outcome.TheVariants.{Accepted, Refused}
 use Rattle.table_showing.specs.Shown.{remark_number, entry_number, nothing_number, table_tests, table_none, table_held, table_shown}
 use Rattle.table_showing.proofs.Numbering as numbering
 
@@ -35,10 +29,10 @@ pub cell_number_claim : (r : Register) → sound r ≡ true → (moment x : ℕ)
 cell_number_claim = numbering.cell_number_claim
 
 -- 4a. A call that a test refuses shows the refusal, no owner, no number of a claim and nothing in every cell.
-pub table_refused : (r : Register) (x moment : ℕ) (why : Refusal) → outcome_of (table_tests r x moment) ≡ Refused why
-    → table_shown r x moment ≡ table_none (Refused why)
+pub table_refused : (r : Register) (x moment : ℕ) (why : Refusal) → outcome_of (table_tests r x moment) ≡ Err why
+    → table_shown r x moment ≡ table_none (Err why)
 table_refused = numbering.table_refused
 
 -- 4b. Any other shows the remarks on all claims, and the cells of the actor and of its owner.
-pub table_accepted : (r : Register) (x moment : ℕ) → outcome_of (table_tests r x moment) ≡ Accepted → table_shown r x moment ≡ table_held r x moment
+pub table_accepted : (r : Register) (x moment : ℕ) → outcome_of (table_tests r x moment) ≡ Ok tt → table_shown r x moment ≡ table_held r x moment
 table_accepted = numbering.table_accepted

@@ -1,5 +1,6 @@
 -- Believed: The cover table of an actor as numbers (02, T-06), for a call that shows it: what is remarked on each claim, and what stands in each cell.
-use Rattle.std.specs.Prelude.{Bool, cond, ◌&&◌, List, [], ◌∷◌, ◌++◌, map, ℕ, suc, ◌-◌, eqb, leb, ltb, length, replicate}
+use Rattle.refusals.specs.declared.Refusal.{Refusal}
+use Rattle.std.specs.Prelude.{Bool, cond, ◌&&◌, List, [], ◌∷◌, ◌++◌, map, ℕ, suc, ◌-◌, eqb, leb, ltb, length, replicate, Result, Err, Ok}
 use Rattle.lists.specs.Lists.{any}
 use Rattle.register.specs.Limits.{claim_limit, id_limit, moment_end}
 use Rattle.register.specs.Register.{actors_of, claims_of}
@@ -9,8 +10,6 @@ use Rattle.register.specs.declared.Register.{Register}
 use Rattle.soundness_rules.specs.Sound.{sound}
 use Rattle.refusals.specs.Refusals.{Test, outcome_of}
 use Rattle.refusals.specs.declared.Refusal.TheVariants.{Unsound, Range, Absent}
-use Rattle.refusals.specs.declared.Outcome.{Outcome}
-use Rattle.refusals.specs.declared.Outcome.TheVariants.{Accepted, Refused}
 use Rattle.coverage_table.specs.Table.{Remark, Entry, nothing, openly, claimed, Row, paper_of, cover_table, table_owner}
 use Rattle.table_showing.specs.declared.TableShown.{TableShown}
 
@@ -67,7 +66,7 @@ remarks_shown r actor moment = latest (paper_of r moment actor).remarks
 -- the table of an actor that stands in a sound register
 unfoldable pub table_held : Register → ℕ → ℕ → TableShown
 table_held r actor moment = record {
-  outcome = Accepted;
+  outcome = Ok tt;
   owner = owner_shown (table_owner r actor);
   hops = shown_in claim_limit 0 (map (λ n. n.hops) (remarks_shown r actor moment));
   states = shown_in claim_limit 0 (map (remark_number moment) (remarks_shown r actor moment));
@@ -76,7 +75,7 @@ table_held r actor moment = record {
 }
 
 -- nothing is shown
-abbrev pub table_none : Outcome → TableShown
+abbrev pub table_none : Result Unit Refusal → TableShown
 table_none outcome = record {
   outcome = outcome;
   owner = 0;
@@ -94,9 +93,9 @@ table_tests r actor moment =
     ∷ record { passed = any (λ a. eqb actor a.id) (actors_of r.actors); refusal = Absent }
     ∷ []
 
-abbrev pub table_on : Outcome → Register → ℕ → ℕ → TableShown
-table_on Accepted r actor moment = table_held r actor moment
-table_on (Refused why) r actor moment = table_none (Refused why)
+abbrev pub table_on : Result Unit Refusal → Register → ℕ → ℕ → TableShown
+table_on (Ok _) r actor moment = table_held r actor moment
+table_on (Err why) r actor moment = table_none (Err why)
 
 -- the cover table of an actor at a moment
 unfoldable pub table_shown : Register → ℕ → ℕ → TableShown

@@ -15,7 +15,7 @@ ghost use Rattle.table_showing.specs.Shown.{nothing_number, state_number, owner_
 ghost use Rattle.table_showing.specs.Columns.{cell_number, owners_in, tests_by};
 
 use paper::CELLS;
-use refusals::{Outcome, Refusal};
+use refusals::Refusal;
 use register::{Actor, Actors, Claim, Claims, Register};
 use soundness::Findings;
 
@@ -37,7 +37,7 @@ pub const NOTHING: u32 = 257;
 // claims; and the cells of the actor and of its owner, seventeen to a resource, with nothing past the resources and where there is no owner.
 #[derive(Clone, Copy)]
 pub struct TableShown {
-    pub outcome: Outcome,
+    pub outcome: Result<(), Refusal>,
     pub owner: u32,
     pub hops: [u32; Register::CLAIMS],
     pub states: [u32; Register::CLAIMS],
@@ -46,36 +46,39 @@ pub struct TableShown {
 }
 
 // Tests 1, 2 and 3: the register is sound, the actor and the moment are in range, and the actor stands, by the ids of the first `n` actors.
-fn table_outcome(sound: bool, names: &[u32], n: usize, actor: u32, moment: u64) -> Outcome
+fn table_outcome(
+    sound: bool,
+    names: &[u32],
+    n: usize,
+    actor: u32,
+    moment: u64,
+) -> Result<(), Refusal>
     ensures { result ≡ outcome_of (tests_by sound names.now n actor moment) }
 {
     if !sound {
-        return Outcome::Refused(Refusal::Unsound);
+        return Err(Refusal::Unsound);
     }
     if register::ID_LIMIT < actor {
-        return Outcome::Refused(Refusal::Range);
+        return Err(Refusal::Range);
     }
     if register::MOMENT_END <= moment {
-        return Outcome::Refused(Refusal::Range);
+        return Err(Refusal::Range);
     }
     if !columns::is_among(names, n, actor) {
-        return Outcome::Refused(Refusal::Absent);
+        return Err(Refusal::Absent);
     }
-    Outcome::Accepted
+    Ok(())
 }
 
 // The owner of the machine numbered `x`, 0 where it has none or is no machine of these.
 fn owner_asked(k: Actors, x: u32) -> u32
     ensures { result ≡ owner_shown (owners_in k x) }
 {
-    let top = lists::least(k.count, Register::ACTORS);
-    let mut i: usize = 0;
-    while i < top {
-        let a = k.list[i];
+    let top = k.count.min(Register::ACTORS);
+    for a in &k.list[..top] {
         if (x == a.id) & ((Actor::MACHINE == a.kind) & (a.owner != 0)) {
             return a.owner;
         }
-        i += 1;
     }
     0
 }
@@ -99,11 +102,9 @@ fn states(k: Claims, lives: &[bool], moment: u64) -> [u32; Register::CLAIMS]
     ensures { result ≡ filled_by claim_limit (λ j. state_number moment (get_or k.list j no_claim) (get_or lives.now j false)) k.count 0 }
 {
     let mut shown = [0u32; Register::CLAIMS];
-    let mut i: usize = 0;
-    while i < k.count {
+    for i in 0..k.count {
         let c = k.list[i];
         shown[i] = state(c, lives[i], moment);
-        i += 1;
     }
     shown
 }
@@ -114,10 +115,8 @@ fn hop_counts(hops: &[u16], n: usize) -> [u32; Register::CLAIMS]
     ensures { result ≡ filled_by claim_limit (λ j. get_or hops.now j 0) n 0 }
 {
     let mut shown = [0u32; Register::CLAIMS];
-    let mut i: usize = 0;
-    while i < n {
-        shown[i] = hops[i] as u32;
-        i += 1;
+    for i in 0..n {
+        shown[i] = u32::from(hops[i]);
     }
     shown
 }
@@ -132,7 +131,7 @@ fn cell_number(cell: u16) -> u32
     if cell == paper::PUBLIC {
         return PUBLIC;
     }
-    (cell as u32 - 2) % 256
+    (u32::from(cell) - 2) % 256
 }
 
 // The cells of the first `n` resources, with nothing past them.
@@ -142,10 +141,8 @@ fn cells_shown(cells: &[u16], n: usize) -> [u32; CELLS]
 {
     let top = n * rights::COUNT;
     let mut shown = [NOTHING; CELLS];
-    let mut i: usize = 0;
-    while i < top {
+    for i in 0..top {
         shown[i] = cell_number(cells[i]);
-        i += 1;
     }
     shown
 }
@@ -180,7 +177,7 @@ fn show(r: Register, sheet: &[u32], found: Findings, actor: u32, moment: u64) ->
     let rows = rows_asked(owner, r.resources.count);
     let owners = cells_shown(&page.theirs, rows);
     TableShown {
-        outcome: Outcome::Accepted,
+        outcome: Ok(()),
         owner,
         hops,
         states,
@@ -190,7 +187,7 @@ fn show(r: Register, sheet: &[u32], found: Findings, actor: u32, moment: u64) ->
 }
 
 // What is shown where a test is not passed: nothing.
-fn refused(outcome: Outcome) -> TableShown
+fn refused(outcome: Result<(), Refusal>) -> TableShown
     ensures { result ≡ table_none outcome }
 {
     TableShown {
@@ -207,11 +204,8 @@ fn refused(outcome: Outcome) -> TableShown
 pub fn cover_table(r: Register, actor: u32, moment: u64) -> TableShown
     ensures { result ≡ table_shown r actor moment }
 {
-    let a = r.actors;
-    let o = r.resources;
-    let k = r.claims;
     let mut sheet = [0u32; columns::SHEET];
-    let found = soundness::examine(&mut sheet, r.version, a, o, k);
+    let found = soundness::examine(&mut sheet, r.version, r.actors, r.resources, r.claims);
     let outcome = table_outcome(
         found.sound,
         &found.actors.names,
@@ -220,7 +214,7 @@ pub fn cover_table(r: Register, actor: u32, moment: u64) -> TableShown
         moment,
     );
     match outcome {
-        Outcome::Refused(why) => refused(Outcome::Refused(why)),
-        Outcome::Accepted => show(r, &sheet, found, actor, moment),
+        Err(why) => refused(Err(why)),
+        Ok(()) => show(r, &sheet, found, actor, moment),
     }
 }

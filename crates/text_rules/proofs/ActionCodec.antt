@@ -12,7 +12,7 @@ use Rattle.soundness_rules.proofs.Laws.{ranged_in, ranged_greatest}
 use Rattle.actions.specs.Actions.{no_use, use_limit, govern_limit, flag_count, uses_of, governs_of, action_fits, SameAction}
 use Rattle.actions.specs.declared.Usage.{Usage}
 use Rattle.actions.specs.declared.Action.{Action}
-use Rattle.lines.specs.Reading.{State, Read}
+use Rattle.lines.specs.Reading.{State}
 use Rattle.text_rules.specs.Keys.{uses_key, governs_key}
 use Rattle.text_rules.specs.Records.{values, passed, lines_text, section_text}
 use Rattle.text_rules.specs.Actions.{head_forms, head_numbers, use_forms, use_numbers, use_from, use_text, govern_form, govern_text, action_from, ShapedAction, read_uses, read_governs, read_action, action_text}

@@ -1,11 +1,7 @@
 -- What follows from the two laws of an action's text for a whole text. Assumes nothing.
-use Prim.Native.Nat.{ℕ}
-use mathlib.Core.Path.{◌≡◌, sym, ap, subst, ◌∙◌}
-use mathlib.Core.Bool.{true}
-use mathlib.Core.List.{List, [], ◌++◌, append-nil}
+use Rattle.std.proofs.Common.{Err, Ok, ℕ, ◌≡◌, sym, ap, subst, ◌∙◌, true, List, [], ◌++◌, append-nil}
 use Rattle.actions.specs.Actions.{action_fits, SameAction, no_action}
 use Rattle.actions.specs.declared.Action.{Action}
-use Rattle.refusals.specs.declared.Outcome.TheVariants.{Accepted, Refused}
 use Rattle.refusals.specs.declared.Refusal.{Refusal}
 use Rattle.lines.specs.Reading.{State, going, Read, closed}
 use Rattle.text_rules.specs.Actions.{ShapedAction, read_action, action_of, action_text, action_read, action_ending}
@@ -20,7 +16,7 @@ unfolding action_of
 from_parts t = ap (λ (x : Read Action). record { value = x.value; state = closed x.state }) (reads_parts (going t 1))
 
 -- reading what was written: accepted, and the action of its parts
-written_answer_lem : (a : Action) → action_fits a ≡ true → action_read (action_text a) ≡ record { action = action_holding (action_lists_of a); outcome = Accepted; line = 0 }
+written_answer_lem : (a : Action) → action_fits a ≡ true → action_read (action_text a) ≡ record { action = action_holding (action_lists_of a); outcome = Ok tt; line = 0 }
 unfolding action_read
 written_answer_lem a h =
     let reads = action_parts.reads (action_lists_of a) [] 1 (parts_fit a (action_lines_out a h)) in
@@ -30,7 +26,7 @@ written_answer_lem a h =
     ∙ ap (λ (p : ActionLists). action_ending (action_holding p) (closed (action_parts.read (going whole 1)).state)) reads.value
     ∙ ap (λ (st : State). action_ending (action_holding (action_lists_of a)) (closed st)) reads.state
 
-pub written_accepted : (a : Action) → action_fits a ≡ true → (action_read (action_text a)).outcome ≡ Accepted
+pub written_accepted : (a : Action) → action_fits a ≡ true → (action_read (action_text a)).outcome ≡ Ok tt
 written_accepted a h = ap (λ (x : ActionRead). x.outcome) (written_answer_lem a h)
 
 pub read_written : (a : Action) → action_fits a ≡ true → ShapedAction a → SameAction (action_read (action_text a)).action a
@@ -42,7 +38,7 @@ pub record TextOf (t : List ℕ) (a : Action) : Type 0 where
   pub shaped : ShapedAction a
   pub text : action_text a ≡ t
 
-pub accepted_text : (t : List ℕ) → (action_read t).outcome ≡ Accepted → TextOf t (action_read t).action
+pub accepted_text : (t : List ℕ) → (action_read t).outcome ≡ Ok tt → TextOf t (action_read t).action
 unfolding action_read action_of
 accepted_text t h =
     let read = read_action (going t 1) in
@@ -54,6 +50,6 @@ accepted_text t h =
       text = sym (append-nil (action_text read.value)) ∙ sym (going_same t (action_text read.value ++ []) 1 stood.at stood.before);
     })
 
-pub refused_action_read : (t : List ℕ) (why : Refusal) → (action_read t).outcome ≡ Refused why → (action_read t).action ≡ no_action
+pub refused_action_read : (t : List ℕ) (why : Refusal) → (action_read t).outcome ≡ Err why → (action_read t).action ≡ no_action
 unfolding action_read
 refused_action_read t why h = refused_action (action_of t).value (action_of t).state why h

@@ -1,13 +1,8 @@
 -- The texts on small values: case R of 01 is read and written, as a register and as an action, and damaged texts are refused with their
 -- number at their line. Computed. Assumes nothing.
-use Prim.Native.Nat.{ℕ}
+use Rattle.std.proofs.Common.{Err, Ok, ℕ, ◌≡◌, refl, cond, List, [], ◌∷◌, ◌++◌, map, eqb, replicate}
 use Prim.Native.Char.{code}
 use Prim.Native.String.{String, [] as end, ◌∷◌ as ◌then◌}
-use mathlib.Core.Path.{◌≡◌, refl}
-use mathlib.Core.Bool.{cond}
-use mathlib.Core.List.{List, [], ◌∷◌, ◌++◌, map}
-use lib.Dec.{eqb}
-use lib.ListN.{replicate}
 use Rattle.lists.specs.Lists.{distinct}
 use Rattle.register.specs.Register.{no_actor, no_resource, no_claim, empty_register}
 use Rattle.register.specs.Chain.{chain, root_granted, circling}
@@ -21,7 +16,6 @@ use Rattle.actions.specs.declared.Usage.{Usage}
 use Rattle.actions.specs.declared.Action.{Action}
 use Rattle.refusals.specs.declared.Refusal.{Refusal}
 use Rattle.refusals.specs.declared.Refusal.TheVariants.{Unsound, Form, Count}
-use Rattle.refusals.specs.declared.Outcome.TheVariants.{Accepted, Refused}
 use Rattle.decimals.specs.Decimals.{digits, digits_with, after, value, canonical, parse, digit_run}
 use Rattle.lines.specs.Lines.{begins, ended, parse_limited, at_least, decimal_line, parse_word, word_line, path_on, parse_scope, scope_line}
 use Rattle.text_rules.specs.FirstLines.{first_lines}
@@ -64,7 +58,7 @@ case_r = record {
 abbrev pub case_text : List ℕ
 case_text = lined "register=1 actors=2 actor=1 kind=human owner=0 actor=2 kind=machine owner=1 resources=1 resource=10 public=0 keeper=1 scope=site/a claims=2 claim=1 parent=0 grantor=1 holder=1 resource=10 rights=19 weight=1000 expiry=0 claim=2 parent=1 grantor=1 holder=2 resource=10 rights=1 weight=600 expiry=2000"
 
-register_case_read : register_read case_text ≡ record { register = case_r; outcome = Accepted; line = 0 }
+register_case_read : register_read case_text ≡ record { register = case_r; outcome = Ok tt; line = 0 }
 unfolding register_read register_from read_actors read_resources read_claims values passed many parse_limited at_least begins ended parse canonical digit_run after value parse_word parse_scope path_on sound within_limits sound_actors sound_resources sound_claims acceptable alone over fresh drawn over_chain machine_may drawn_from root_kept names_stand claim_fits resource_fits actor_fits each_stored distinct chain circling root_granted has_right has_rights bars_machine
 register_case_read = refl
 
@@ -74,7 +68,7 @@ register_case_written = refl
 
 -- a reading refused for a reason at a line
 abbrev pub refused_at : Refusal → ℕ → RegisterRead
-refused_at why l = record { register = empty_register; outcome = Refused why; line = l }
+refused_at why l = record { register = empty_register; outcome = Err why; line = l }
 
 -- the first failing line decides between 19 and 20
 register_case_refused : map register_read (
@@ -131,7 +125,7 @@ action_r = record {
 abbrev pub action_case : List ℕ
 action_case = lined "now=1999 actor=2 flags=0 uses=2 use=10 right=0 use=10 right=1 governs=0"
 
-action_case_read : action_read action_case ≡ record { action = action_r; outcome = Accepted; line = 0 }
+action_case_read : action_read action_case ≡ record { action = action_r; outcome = Ok tt; line = 0 }
 unfolding action_read action_of read_action read_uses read_governs values passed many parse_limited at_least begins ended parse canonical digit_run after value
 action_case_read = refl
 
@@ -140,7 +134,7 @@ unfolding action_text lines_text texts decimal_line digits digits_with
 action_case_written = refl
 
 abbrev action_refused_at : Refusal → ℕ → ActionRead
-action_refused_at why l = record { action = no_action; outcome = Refused why; line = l }
+action_refused_at why l = record { action = no_action; outcome = Err why; line = l }
 
 -- the numbers out of their ranges, the counts above their limits, an entry that is not there, a trailing byte
 action_case_refused : map action_read (

@@ -1,11 +1,8 @@
 -- Actors, resources and claims as things with one text. A resource that is read holds zeros past its path, and a claim of version 1
 -- holds 0 as left: the text does not tell what stood there. Assumes nothing.
-use Prim.Native.Nat.{ℕ, ◌-◌, ◌≤◌}
-use mathlib.Core.Path.{◌≡◌, refl, sym, ap, subst, ◌∙◌}
-use mathlib.Core.List.{List, [], ◌∷◌, map}
-use mathlib.Core.Bool.{true}
-use lib.ListN.{length, take, replicate, length-map}
-use lib.Seq.{take-append_seam, length-take-le}
+use Rattle.std.proofs.Common.{ℕ, ◌-◌, ◌≤◌, ◌≡◌, refl, sym, ap, subst, ◌∙◌, List, [], ◌∷◌, map, true, length, take, replicate, length-take-le}
+use lib.ListN.{length-map}
+use lib.Seq.{take-append_seam}
 use Rattle.lists.specs.Tests.{cases}
 use Rattle.register.specs.Limits.{claim_limit, path_limit, tells_left}
 use Rattle.register.specs.Register.{path_of, claim_as, resource_standing}

@@ -1,10 +1,5 @@
 -- Texts of a register and of an action that are the same up to and with the line at which the first one fails get one answer (Agreeing). Assumes nothing.
-use Prim.Native.Nat.{ℕ, suc, ◌-◌, ◌≤◌}
-use mathlib.Core.Path.{◌≡◌, refl, sym, ap, subst, ◌∙◌}
-use mathlib.Core.Bool.{Bool, true, false}
-use mathlib.Core.List.{List, [], ◌∷◌}
-use mathlib.Core.Logic.{inl, inr}
-use native.Mathlib.Omega.{arith}
+use Rattle.std.proofs.Common.{ℕ, suc, ◌-◌, ◌≤◌, ◌≡◌, refl, sym, ap, subst, ◌∙◌, Bool, true, false, List, [], ◌∷◌, inl, inr, arith}
 use Rattle.lists.specs.Tests.{cases}
 use Rattle.register.specs.Limits.{actor_limit, resource_limit, claim_limit, tells_left}
 use Rattle.register.specs.Chain.{latest}

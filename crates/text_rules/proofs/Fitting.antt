@@ -1,7 +1,6 @@
 -- Laws: What a sound register has in each of its lists may stand in its lines. Assumes nothing.
-use Rattle.std.specs.Prelude.{ℕ, ◌-◌, ◌^◌, ◌≤◌, ◌≡◌, refl, Bool, true, ◌&&◌, ◌||◌, eqb, leb, length, take}
-use mathlib.Core.List.{List, [], ◌∷◌, ◌++◌, reverse, reverse-cons}
-use Rattle.std.proofs.Common.{arith, length-take, leb-true}
+use Rattle.std.proofs.Common.{ℕ, ◌-◌, ◌^◌, ◌≤◌, ◌≡◌, refl, Bool, true, ◌&&◌, ◌||◌, eqb, leb, length, take, List, [], ◌∷◌, ◌++◌, reverse, arith, length-take, leb-true}
+use mathlib.Core.List.{reverse-cons}
 use Rattle.lists.specs.Tests.{cases, and_left, and_right, and_both}
 use Rattle.lists.specs.Lists.{every, All}
 use Rattle.lists.specs.Each.{all_imp, every_all, ands_out}

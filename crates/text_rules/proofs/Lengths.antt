@@ -1,10 +1,6 @@
 -- Laws: How long a text can be: each line is no longer than that of its greatest number, and so on up to the text of a sound register, which is never
 -- longer than 39,789 bytes, in version 1 than 37,741. Assumes nothing.
-use Prim.Native.Nat.{ℕ, zero, suc, ◌+◌, ◌*◌, ◌/◌, ◌≤◌, ◌<◌}
-use Rattle.std.specs.Prelude.{◌≡◌, refl, true, cond, eqb, length}
-use Rattle.std.proofs.Common.{ap}
-use mathlib.Core.List.{List, [], ◌∷◌, ◌++◌}
-use native.Mathlib.Omega.{arith}
+use Rattle.std.proofs.Common.{ℕ, zero, suc, ◌+◌, ◌*◌, ◌/◌, ◌≤◌, ◌<◌, ◌≡◌, refl, true, cond, eqb, length, ap, List, [], ◌∷◌, ◌++◌, arith}
 use Rattle.std.proofs.Math.Decide.{dec_lt}
 use Rattle.std.proofs.Math.Nat.{suc-mul}
 use Rattle.std.proofs.Math.ListN.{length-append}

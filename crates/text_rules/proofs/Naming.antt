@@ -1,20 +1,15 @@
 -- Which line and which refusal a reading names: a text that is not of the form is refused with 19 or 20 at a line from 1, and a register that is not
 -- sound, and nothing else, at line 0; and what its failing line is refused with is what is answered. Assumes nothing.
-use Prim.Native.Nat.{ℕ, ◌≤◌}
-use mathlib.Core.Path.{◌≡◌, refl, sym, ap, subst}
-use mathlib.Core.Bool.{Bool, true, false}
-use mathlib.Core.List.{List, [], ◌∷◌}
-use mathlib.Core.Logic.{◌⊎◌, inl, inr}
-use native.Mathlib.Omega.{arith}
+use Rattle.std.proofs.Common.{Err, ℕ, ◌≤◌, ◌≡◌, refl, sym, ap, subst, Bool, true, false, List, ◌⊎◌, inl, inr, arith}
 use Rattle.lists.specs.Tests.{cases}
 use Rattle.register.specs.Limits.{actor_limit, resource_limit, claim_limit, tells_left}
 use Rattle.register.specs.declared.Register.{Register}
 use Rattle.soundness_rules.specs.Sound.{sound}
 use Rattle.actions.specs.declared.Action.{Action}
-use Rattle.refusals.specs.declared.Outcome.TheVariants.{Refused}
+use Rattle.refusals.proofs.Laws.{refused_same}
 use Rattle.refusals.specs.declared.Refusal.{Refusal}
 use Rattle.refusals.specs.declared.Refusal.TheVariants.{Unsound, Form, Count}
-use Rattle.lines.specs.Reading.{State, going, failed, Read, read_form, closed}
+use Rattle.lines.specs.Reading.{State, going, failed, read_form}
 use Rattle.text_rules.specs.Keys.{actors_key, resources_key, claims_key}
 use Rattle.text_rules.specs.Records.{passed}
 use Rattle.text_rules.specs.Registers.{actor_forms, resource_forms, claim_forms, read_actor, read_resource, read_claim, read_actors, read_resources, read_claims, version_form, register_from, register_read, register_ending}
@@ -60,42 +55,39 @@ whole_told : (t : List ℕ) → Told Faulty (action_of t).state
 unfolding action_of
 whole_told t = closed_told Faulty by_form by_count (read_action (going t 1)).state (action_lines_told Faulty by_form by_count (going t 1) (omega arith))
 
-refused_same : (v w : Refusal) → Refused v ≡ Refused w → v ≡ w
-refused_same v w e = cc
-
-answer_line : (r : Register) (st : State) (why : Refusal) → Told Faulty st → (register_ending r st).outcome ≡ Refused why →
+answer_line : (r : Register) (st : State) (why : Refusal) → Told Faulty st → (register_ending r st).outcome ≡ Err why →
     ((why ≡ Unsound) × ((register_ending r st).line ≡ 0)) ⊎ (((why ≡ Form) ⊎ (why ≡ Count)) × (1 ≤ (register_ending r st).line))
-answer_line r (failed fault l) why told h = inr (subst Faulty (refused_same fault why h) told.1, told.0)
+answer_line r (failed fault l) why told h = inr (subst Faulty (refused_same h) told.1, told.0)
 answer_line r (going t l) why told h = inl (go (sound r) h)
   where
-    go : (b : Bool) → (judged r b).outcome ≡ Refused why → (why ≡ Unsound) × ((judged r b).line ≡ 0)
+    go : (b : Bool) → (judged r b).outcome ≡ Err why → (why ≡ Unsound) × ((judged r b).line ≡ 0)
     go true k = let never : ◌≡◌ {A = ℕ} 0 1 = cc in absurd (omega arith)
-    go false k = (sym (refused_same Unsound why k), refl)
+    go false k = (sym (refused_same k), refl)
 
-action_answer_line : (a : Action) (st : State) (why : Refusal) → Told Faulty st → (action_ending a st).outcome ≡ Refused why →
+action_answer_line : (a : Action) (st : State) (why : Refusal) → Told Faulty st → (action_ending a st).outcome ≡ Err why →
     ((why ≡ Form) ⊎ (why ≡ Count)) × (1 ≤ (action_ending a st).line)
-action_answer_line a (failed fault l) why told h = (subst Faulty (refused_same fault why h) told.1, told.0)
+action_answer_line a (failed fault l) why told h = (subst Faulty (refused_same h) told.1, told.0)
 action_answer_line a (going t l) why told h = let never : ◌≡◌ {A = ℕ} 0 1 = cc in absurd (omega arith)
 
-pub refused_line_lem : (t : List ℕ) (why : Refusal) → (register_read t).outcome ≡ Refused why →
+pub refused_line_lem : (t : List ℕ) (why : Refusal) → (register_read t).outcome ≡ Err why →
     ((why ≡ Unsound) × ((register_read t).line ≡ 0)) ⊎ (((why ≡ Form) ⊎ (why ≡ Count)) × (1 ≤ (register_read t).line))
 unfolding register_read
 refused_line_lem t why h = answer_line (register_from t).value (register_from t).state why (register_told t) h
 
-pub action_refused_line : (t : List ℕ) (why : Refusal) → (action_read t).outcome ≡ Refused why →
+pub action_refused_line : (t : List ℕ) (why : Refusal) → (action_read t).outcome ≡ Err why →
     ((why ≡ Form) ⊎ (why ≡ Count)) × (1 ≤ (action_read t).line)
 unfolding action_read
 action_refused_line t why h = action_answer_line (action_of t).value (action_of t).state why (whole_told t) h
 
 -- what the failing line is refused with is what is answered
 pub refused_number : (t : List ℕ) (why : Refusal) (l : ℕ) → (register_from t).state ≡ failed why l
-    → ((register_read t).outcome ≡ Refused why) × ((register_read t).line ≡ l)
+    → ((register_read t).outcome ≡ Err why) × ((register_read t).line ≡ l)
 unfolding register_read
 refused_number t why l e =
     let same = ap (register_ending (register_from t).value) e in (ap (λ (x : RegisterRead). x.outcome) same, ap (λ (x : RegisterRead). x.line) same)
 
 pub action_refused_number : (t : List ℕ) (why : Refusal) (l : ℕ) → (action_of t).state ≡ failed why l
-    → ((action_read t).outcome ≡ Refused why) × ((action_read t).line ≡ l)
+    → ((action_read t).outcome ≡ Err why) × ((action_read t).line ≡ l)
 unfolding action_read
 action_refused_number t why l e =
     let same = ap (action_ending (action_of t).value) e in (ap (λ (x : ActionRead). x.outcome) same, ap (λ (x : ActionRead). x.line) same)

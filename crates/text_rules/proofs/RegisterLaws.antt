@@ -1,12 +1,7 @@
 -- The two laws of a register's text, and what follows from them. A register is taken apart into its version, its actors, its resources
 -- and its claims, which are read one behind the other. Assumes nothing.
-use Prim.Native.Nat.{ℕ, ◌-◌, ◌≤◌}
-use mathlib.Core.Path.{◌≡◌, refl, sym, ap, subst, ◌∙◌}
-use mathlib.Core.Bool.{true}
-use mathlib.Core.List.{List, [], ◌∷◌, ◌++◌, map, append-nil}
-use native.Mathlib.Omega.{arith}
-use lib.ListN.{length, replicate, length-map}
-use lib.Seq.{length-take-le}
+use Rattle.std.proofs.Common.{Err, Ok, ℕ, ◌-◌, ◌≤◌, ◌≡◌, refl, sym, ap, subst, ◌∙◌, true, List, [], ◌∷◌, ◌++◌, map, append-nil, arith, length, replicate, length-take-le}
+use lib.ListN.{length-map}
 use Rattle.lists.specs.Each.{all_imp, all_both, all_append, all_take, all_map, every_all}
 use Rattle.lists.specs.Fills.{full_length, all_replicate}
 use Rattle.lists.specs.Lists.{All}
@@ -23,7 +18,6 @@ use Rattle.soundness_rules.proofs.Alike.{stored_claims_as, stored_claims_length}
 use Rattle.soundness_rules.proofs.Sameness.{sound_same}
 use Rattle.soundness_rules.proofs.Registers.{sound_out, resource_fits_out}
 use Rattle.refusals.proofs.Laws.{outcome_cases}
-use Rattle.refusals.specs.declared.Outcome.TheVariants.{Accepted, Refused}
 use Rattle.refusals.specs.declared.Refusal.{Refusal}
 use Rattle.lines.specs.Reading.{State, going, Read, closed}
 use Rattle.text_rules.specs.Keys.{actors_key, resources_key, claims_key}
@@ -157,14 +151,14 @@ holding_same r h shaped =
     }
 
 -- reading what was written: accepted, and the register of its parts
-written_answer_lem : (r : Register) → sound r ≡ true → Shaped r → register_read (register_text r) ≡ record { register = holding (parts_of r); outcome = Accepted; line = 0 }
+written_answer_lem : (r : Register) → sound r ≡ true → Shaped r → register_read (register_text r) ≡ record { register = holding (parts_of r); outcome = Ok tt; line = 0 }
 unfolding register_read
 written_answer_lem r h shaped =
     let read = whole_read r h in
     ap (λ (x : Read Register). register_ending x.value x.state) read.from
     ∙ sound_answer (holding (parts_of r)) [] read.at (sound_same (holding (parts_of r)) r (holding_same r h shaped) ∙ h)
 
-pub written_accepted : (r : Register) → sound r ≡ true → Shaped r → (register_read (register_text r)).outcome ≡ Accepted
+pub written_accepted : (r : Register) → sound r ≡ true → Shaped r → (register_read (register_text r)).outcome ≡ Ok tt
 written_accepted r h shaped = ap (λ (x : RegisterRead). x.outcome) (written_answer_lem r h shaped)
 
 pub read_written : (r : Register) → sound r ≡ true → Shaped r → Same (register_read (register_text r)).register r
@@ -208,7 +202,7 @@ pub record TextOf (t : List ℕ) (r : Register) : Type 0 where
   pub shaped : Shaped r
   pub text : register_text r ≡ t
 
-pub accepted_text : (t : List ℕ) → (register_read t).outcome ≡ Accepted → TextOf t (register_read t).register
+pub accepted_text : (t : List ℕ) → (register_read t).outcome ≡ Ok tt → TextOf t (register_read t).register
 unfolding register_read
 accepted_text t h =
     let read = register_from t in
@@ -226,7 +220,7 @@ accepted_text t h =
       text = text;
     })
 
-pub refused_register : (t : List ℕ) (why : Refusal) → (register_read t).outcome ≡ Refused why → (register_read t).register ≡ empty_register
+pub refused_register : (t : List ℕ) (why : Refusal) → (register_read t).outcome ≡ Err why → (register_read t).register ≡ empty_register
 unfolding register_read
 refused_register t why h = refused_answer (register_from t).value (register_from t).state why h
 

@@ -1,9 +1,6 @@
 -- Registers that are the same have one text, and registers with one text are the same; so with actions. Assumes nothing.
-use Prim.Native.Nat.{ℕ}
-use mathlib.Core.Path.{◌≡◌, refl, sym, ap, subst, ◌∙◌}
-use mathlib.Core.Bool.{true}
-use mathlib.Core.List.{List, [], ◌∷◌, ◌++◌, map}
-use lib.ListN.{length, length-map}
+use Rattle.std.proofs.Common.{ℕ, ◌≡◌, refl, sym, ap, subst, ◌∙◌, true, List, [], ◌∷◌, ◌++◌, map, length}
+use lib.ListN.{length-map}
 use Rattle.register.specs.Limits.{actor_limit, resource_limit, claim_limit}
 use Rattle.register.specs.Register.{actors_of, resources_of, claims_of, claim_as, Standing, resource_standing, Same, Shaped}
 use Rattle.register.specs.declared.Resource.{Resource}

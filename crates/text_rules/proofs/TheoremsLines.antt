@@ -1,7 +1,5 @@
 -- What is proved of the line at which a text is refused. Assumes nothing.
-use Prim.Native.Nat.{ℕ, ◌≤◌}
-use mathlib.Core.Path.{◌≡◌}
-use mathlib.Core.List.{List}
+use Rattle.std.proofs.Common.{ℕ, ◌≤◌, ◌≡◌, List}
 use Rattle.text_rules.specs.FirstLines.{first_lines}
 use Rattle.text_rules.specs.Registers.{register_read}
 use Rattle.text_rules.specs.Actions.{action_read}

@@ -1,11 +1,10 @@
 -- Believed: The text of an action, and how a text is read as one, in 01's words.
-use Rattle.std.specs.Prelude.{ℕ, ◌-◌, ◌^◌, ◌≡◌, List, [], ◌∷◌, ◌++◌, length, get_or, replicate}
+use Rattle.std.specs.Prelude.{ℕ, ◌-◌, ◌^◌, ◌≡◌, List, [], ◌∷◌, ◌++◌, length, get_or, replicate, Err, Ok}
 use Rattle.register.specs.Limits.{id_limit, moment_end}
 use Rattle.rights.specs.Rights.{right_count}
 use Rattle.actions.specs.Actions.{no_use, no_action, use_limit, govern_limit, flag_count, uses_of, governs_of}
 use Rattle.actions.specs.declared.Usage.{Usage}
 use Rattle.actions.specs.declared.Action.{Action}
-use Rattle.refusals.specs.declared.Outcome.TheVariants.{Accepted, Refused}
 use Rattle.lines.specs.Reading.{State, going, failed, Read, LineForm, number, read_form, closed}
 use Rattle.text_rules.specs.Keys.{now_key, actor_key, flags_key, uses_key, use_key, right_key, governs_key, govern_key}
 use Rattle.text_rules.specs.Records.{values, passed, lines_text, section, section_text}
@@ -90,8 +89,8 @@ action_text a =
 
 -- a refused reading gives the action of all zeros
 abbrev pub action_ending : Action → State → ActionRead
-action_ending a (going t l) = record { action = a; outcome = Accepted; line = 0 }
-action_ending a (failed why l) = record { action = no_action; outcome = Refused why; line = l }
+action_ending a (going t l) = record { action = a; outcome = Ok tt; line = 0 }
+action_ending a (failed why l) = record { action = no_action; outcome = Err why; line = l }
 
 -- the reading of a text as an action
 unfoldable pub action_read : List ℕ → ActionRead

@@ -1,9 +1,8 @@
 -- Laws: What one thing more makes of things that are read and of texts, and how many things a section has: for the proofs of readers and writers that
 -- go thing by thing. Assumes nothing.
-use Prim.Native.Nat.{ℕ, zero, suc, ◌+◌}
-use Rattle.std.specs.Prelude.{◌≡◌, List, [], ◌∷◌, ◌++◌, length}
-use Rattle.std.proofs.Math.Path.{refl, ap}
+use Rattle.std.specs.Prelude.{ℕ, zero, suc, ◌+◌, ◌≡◌, List, [], ◌∷◌, ◌++◌, length}
 use Rattle.std.proofs.Common.{add-one}
+use Rattle.std.proofs.Math.Path.{refl, ap}
 use Rattle.lines.specs.Reading.{State, Read}
 use Rattle.text_rules.specs.Records.{many, texts}
 

@@ -1,5 +1,5 @@
 -- Believed: The text of a register, and how a text is read as one, in 01's words.
-use Rattle.std.specs.Prelude.{ℕ, ◌-◌, ◌^◌, List, [], ◌∷◌, ◌++◌, cond, length, get_or, replicate}
+use Rattle.std.specs.Prelude.{ℕ, ◌-◌, ◌^◌, List, [], ◌∷◌, ◌++◌, cond, length, get_or, replicate, Err, Ok}
 use Rattle.register.specs.Limits.{actor_limit, resource_limit, claim_limit, id_limit, weight_limit, left_limit, version_one, version_two, tells_left, moment_end}
 use Rattle.register.specs.Register.{actors_of, resources_of, claims_of, path_of, no_actor, no_resource, no_claim, empty_register}
 use Rattle.register.specs.Chain.{latest}
@@ -12,7 +12,6 @@ use Rattle.register.specs.declared.Claims.{Claims}
 use Rattle.register.specs.declared.Register.{Register}
 use Rattle.rights.specs.Rights.{right_count}
 use Rattle.soundness_rules.specs.Sound.{sound, each_stored}
-use Rattle.refusals.specs.declared.Outcome.TheVariants.{Accepted, Refused}
 use Rattle.refusals.specs.declared.Refusal.TheVariants.{Unsound}
 use Rattle.lines.specs.Lines.{scope_line, held_path}
 use Rattle.lines.specs.Reading.{State, going, failed, Read, LineForm, number, kind, read_form, form_line, read_scope, closed}
@@ -159,8 +158,8 @@ text_limit = 39789
 -- soundness comes last, with 1 and line 0; a refused reading gives the empty register
 abbrev pub register_ending : Register → State → RegisterRead
 register_ending r (going t l) =
-    cond (sound r) (record { register = r; outcome = Accepted; line = 0 }) (record { register = empty_register; outcome = Refused Unsound; line = 0 })
-register_ending r (failed why l) = record { register = empty_register; outcome = Refused why; line = l }
+    cond (sound r) (record { register = r; outcome = Ok tt; line = 0 }) (record { register = empty_register; outcome = Err Unsound; line = 0 })
+register_ending r (failed why l) = record { register = empty_register; outcome = Err why; line = l }
 
 -- the reading of a text as a register
 unfoldable pub register_read : List ℕ → RegisterRead

@@ -1,9 +1,7 @@
 -- Laws: Where a reading stands: from its line 1 on it goes on, or has failed at a line from 1 with one of the refusals that its lines have; and where one
 -- stood that was closed. Assumes nothing.
-use Prim.Native.Nat.{ℕ, zero, suc, ◌≤◌}
-use Rattle.std.specs.Prelude.{◌≡◌}
+use Rattle.std.specs.Prelude.{ℕ, zero, suc, ◌≤◌, ◌≡◌, List, [], ◌∷◌}
 use Rattle.std.proofs.Common.{ap, arith}
-use mathlib.Core.List.{List, [], ◌∷◌}
 use Rattle.lists.specs.Lists.{All}
 use Rattle.actions.specs.Actions.{use_limit, govern_limit}
 use Rattle.refusals.specs.declared.Refusal.{Refusal}

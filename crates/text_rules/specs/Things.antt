@@ -1,11 +1,9 @@
 -- Laws: A thing with one text: what is read of its text, whatever follows, is the thing, and where a reading goes on, what it read is the text
 -- of what it gives. The two laws pass on to one thing behind another, to a thing made of another, to many things and to a section.
 -- Assumes nothing.
-use Prim.Native.Nat.{ℕ, zero, suc}
-use Rattle.std.specs.Prelude.{◌≡◌, length}
+use Rattle.std.specs.Prelude.{ℕ, zero, suc, ◌≡◌, length, List, [], ◌∷◌, ◌++◌}
+use Rattle.std.proofs.Common.{sym, subst, ◌∙◌, append_assoc}
 use Rattle.std.proofs.Math.Path.{refl, ap}
-use Rattle.std.proofs.Common.{sym, subst, ◌∙◌}
-use mathlib.Core.List.{List, [], ◌∷◌, ◌++◌, append_assoc}
 use Rattle.lists.specs.Lists.{All}
 use Rattle.lines.specs.Reading.{State, going, Read}
 use Rattle.text_rules.specs.Records.{many, texts}

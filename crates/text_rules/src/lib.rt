@@ -4,7 +4,7 @@
 #![tactic(auto)]
 
 use actions::Action;
-use refusals::Outcome;
+use refusals::Refusal;
 use register::Register;
 
 // No text of a sound register is longer.
@@ -18,7 +18,7 @@ pub const LAST_MOMENT: u32 = register::LAST_MOMENT as u32;
 #[derive(Clone, Copy)]
 pub struct RegisterRead {
     pub register: Register,
-    pub outcome: Outcome,
+    pub outcome: Result<(), Refusal>,
     pub line: usize,
 }
 
@@ -26,6 +26,6 @@ pub struct RegisterRead {
 #[derive(Clone, Copy)]
 pub struct ActionRead {
     pub action: Action,
-    pub outcome: Outcome,
+    pub outcome: Result<(), Refusal>,
     pub line: usize,
 }

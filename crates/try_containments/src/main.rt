@@ -14,8 +14,6 @@
 //                                             `site/ab`; `/` contains `/` and `//` and not `x`
 #![tactic(auto)]
 
-use paths::Reach;
-
 fn main() {
     row(b"");
     row(b"/");
@@ -53,8 +51,8 @@ fn row(outer: &[u8]) {
 
 fn cell(outer: &[u8], inner: &[u8]) {
     match paths::contains(outer, inner) {
-        Reach::Outside => try_printing::text(b"-"),
-        Reach::Inside(length) => try_printing::number(length),
+        None => try_printing::text(b"-"),
+        Some(length) => try_printing::number(length),
     }
     try_printing::text(b" ");
 }

@@ -25,10 +25,8 @@ fn main() {
 
 // The seventeen rights, each on its line.
 fn table() {
-    let mut b: u32 = 0;
-    while b <= rights::POLICY_MODIFY {
+    for b in 0..=rights::POLICY_MODIFY {
         right(b);
-        b += 1;
     }
 }
 

@@ -1,11 +1,6 @@
 -- A loop over the uses of an action that stores the violations of each. Assumes nothing.
-use mathlib.Core.Path.{◌≡◌, refl}
-use mathlib.Core.Bool.{Bool, true, false, not, ◌&&◌, ◌||◌}
-use mathlib.Core.List.{List, map, flatten}
-use Prim.Native.Nat.{ℕ, ◌+◌, ◌≤◌, ◌<◌, min}
-use native.Mathlib.Omega.{arith}
-use lib.Dec.{ltb}
-use lib.ListN.{length, get_or}
+use Rattle.std.proofs.Common.{◌≡◌, refl, Bool, true, false, not, ◌&&◌, ◌||◌, List, map, ℕ, ◌+◌, ◌≤◌, ◌<◌, min, arith, ltb, length, get_or}
+use mathlib.Core.List.{flatten}
 use Rattle.register.specs.Limits.{claim_limit}
 use Rattle.actions.specs.Actions.{use_limit}
 use Rattle.actions.specs.declared.Violation.{Violation}

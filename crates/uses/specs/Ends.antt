@@ -1,8 +1,7 @@
 -- Laws: The ends of a register's claims tell which are live: in a sound register, at a moment in range, a claim is live exactly before its end.
 -- Assumes nothing.
 use Rattle.std.specs.Prelude.{◌≡◌, true, ◌&&◌, List, map, ℕ, ◌≤◌, ◌<◌, ltb, get_or, take}
-use Rattle.std.proofs.Common.{sym, ap, ◌∙◌}
-use native.Mathlib.Omega.{arith}
+use Rattle.std.proofs.Common.{sym, ap, ◌∙◌, arith}
 use Rattle.std.proofs.Math.ListN.{length, length-map, get_or-map}
 use Rattle.lists.specs.Lists.{every}
 use Rattle.register.specs.Limits.{claim_limit, moment_end}

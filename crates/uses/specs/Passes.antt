@@ -1,12 +1,11 @@
 -- Working: The uses of an action judged in passes over all of them. That the passes come to the uses judged one after the other is
 -- `passes_natural` of PassesLaws.
-use Rattle.std.specs.Prelude.{Bool, not, ◌&&◌, ◌||◌, cond, ℕ, min, ltb, length, get_or}
-use mathlib.Core.List.{List, map, flatten}
+use Rattle.std.specs.Prelude.{Bool, not, ◌&&◌, ◌||◌, cond, ℕ, min, ltb, length, get_or, Option, List, map}
+use mathlib.Core.List.{flatten}
 use Rattle.lists.specs.Lists.{counted}
 use Rattle.lists.specs.Fills.{filled_by}
 use Rattle.register.specs.Limits.{claim_limit, resource_limit}
 use Rattle.columns.specs.Columns.{places_up, steps_up}
-use Rattle.columns.specs.declared.Place.{Place}
 use Rattle.actions.specs.Actions.{no_use, use_limit}
 use Rattle.actions.specs.declared.Action.{Action}
 use Rattle.actions.specs.declared.Usage.{Usage}
@@ -31,7 +30,7 @@ uses_by reports m a = record {
 }
 
 -- a place among the claims as a number: 256 for none
-abbrev pub claim_number : Place → ℕ
+abbrev pub claim_number : Option ℕ → ℕ
 claim_number p = min (place_number claim_limit p) claim_limit
 
 -- what covers each use, by gathered places and columns

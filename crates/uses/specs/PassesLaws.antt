@@ -1,19 +1,15 @@
 -- Laws: The passes over the uses of an action come to the uses judged one after the other. Assumes nothing.
-use Rattle.std.specs.Prelude.{◌≡◌, Bool, ◌||◌, ltb, get_or}
+use Rattle.std.specs.Prelude.{◌≡◌, Bool, ◌||◌, ltb, get_or, Option, ℕ, None, Some, List, [], ◌∷◌, ◌++◌, map, suc, ◌+◌, ◌-◌, ◌≤◌, ◌<◌, min}
+use Rattle.std.proofs.Common.{◌∙◌, le_refl, zero-add, lt-ltb, length-take, get_or-take, arith}
 use Rattle.std.proofs.Math.Path.{refl, sym, ap}
-use Rattle.std.proofs.Common.{◌∙◌, le_refl, zero-add, lt-ltb, length-take, get_or-take}
 use Rattle.std.proofs.Math.Bool.{or-true, or-false}
-use mathlib.Core.List.{List, [], ◌∷◌, ◌++◌, map, flatten}
-use Prim.Native.Nat.{ℕ, suc, ◌+◌, ◌-◌, ◌≤◌, ◌<◌, min}
-use native.Mathlib.Omega.{arith}
+use mathlib.Core.List.{flatten}
 use Rattle.std.proofs.Math.ListN.{length, replicate, length-map}
 use Rattle.lists.specs.Lists.{All, counted}
 use Rattle.lists.specs.Fills.{filled_length, filled_at}
 use Rattle.register.specs.Limits.{claim_limit, resource_limit}
 use Rattle.columns.specs.Columns.{latest_place}
 use Rattle.columns.specs.Laws.{place_cases, place_found_lem}
-use Rattle.columns.specs.declared.Place.{Place}
-use Rattle.columns.specs.declared.Place.TheVariants.{At, Nowhere}
 use Rattle.actions.specs.Actions.{no_use, use_limit, uses_of}
 use Rattle.actions.specs.declared.Action.{Action}
 use Rattle.actions.specs.declared.Usage.{Usage}
@@ -32,17 +28,17 @@ use Rattle.uses.specs.declared.UsesJudged.{UsesJudged}
 -- ---- a place told as a number
 
 -- the place, where there is one, is below the limit of claims
-abbrev PlaceWithin : Place → Type 0
-PlaceWithin (At j) = j < claim_limit
-PlaceWithin Nowhere = Unit {0}
+abbrev PlaceWithin : Option ℕ → Type 0
+PlaceWithin (Some j) = j < claim_limit
+PlaceWithin None = Unit {0}
 
-covered_told : (freely : Bool) (p : Place) → PlaceWithin p → freely || ltb (claim_number p) claim_limit ≡ covered_by freely p
-covered_told freely (At j) h = let same : min j claim_limit ≡ j = omega arith in rw (same, lt-ltb j claim_limit h) (or-true freely)
-covered_told freely Nowhere h = or-false freely
+covered_told : (freely : Bool) (p : Option ℕ) → PlaceWithin p → freely || ltb (claim_number p) claim_limit ≡ covered_by freely p
+covered_told freely (Some j) h = let same : min j claim_limit ≡ j = omega arith in rw (same, lt-ltb j claim_limit h) (or-true freely)
+covered_told freely None h = or-false freely
 
-hops_told_lem : (ups : List ℕ) (p : Place) → PlaceWithin p → hops_at ups (claim_number p) ≡ hops_from ups p
-hops_told_lem ups (At j) h = let same : min j claim_limit ≡ j = omega arith in rw (same, lt-ltb j claim_limit h)
-hops_told_lem ups Nowhere h = refl
+hops_told_lem : (ups : List ℕ) (p : Option ℕ) → PlaceWithin p → hops_at ups (claim_number p) ≡ hops_from ups p
+hops_told_lem ups (Some j) h = let same : min j claim_limit ≡ j = omega arith in rw (same, lt-ltb j claim_limit h)
+hops_told_lem ups None h = refl
 
 -- what covers is one of the gathered places
 module _ (places rights spots bytes lens : List ℕ) (right spot : ℕ) (each : All (λ j. j < claim_limit) places) where
@@ -117,10 +113,10 @@ module _ (s : Sight) (reports : List ℕ) (m : ℕ) (a : Action) (few : length r
     counted_place = omega arith
 
     -- the claim that the actor relies on, and the one that its owner does
-    abbrev mine : Place
+    abbrev mine : Option ℕ
     mine = relied_on s s.own (spot_place s reports m (used i)) (used i).right
 
-    abbrev other : Place
+    abbrev other : Option ℕ
     other = relied_on s s.theirs (spot_place s reports m (used i)) (used i).right
 
     mine_within : PlaceWithin mine

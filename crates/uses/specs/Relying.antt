@@ -1,10 +1,8 @@
 -- Laws: The claim that a use relies on, by gathered places: the nearest covering claim of the register. Assumes nothing.
-use Rattle.std.specs.Prelude.{◌≡◌, Bool, true, false, ◌&&◌, ◌||◌, cond, ℕ, ◌≤◌, ◌<◌, min, suc, eqb, get_or}
+use Rattle.std.specs.Prelude.{◌≡◌, Bool, true, false, ◌&&◌, ◌||◌, cond, ℕ, ◌≤◌, ◌<◌, min, suc, eqb, get_or, Option, None, Some, List, [], ◌∷◌, map}
+use Rattle.std.proofs.Common.{◌∙◌, zero-add, lt-ltb, ne_eqb, leb-false, length-take, arith}
 use Rattle.std.proofs.Math.Path.{refl, sym, ap}
-use Rattle.std.proofs.Common.{◌∙◌, zero-add, lt-ltb, ne_eqb, leb-false, length-take}
 use Rattle.std.proofs.Math.Bool.{and-true, or-true, or-false}
-use mathlib.Core.List.{List, [], ◌∷◌, map}
-use native.Mathlib.Omega.{arith}
 use Rattle.std.proofs.Math.Dec.{ltb, leb}
 use Rattle.std.proofs.Math.ListN.{length, get_or-map}
 use Rattle.std.proofs.lemmas.List.{length-map}
@@ -19,8 +17,6 @@ use Rattle.register.specs.Chain.{live, latest}
 use Rattle.register.specs.declared.Claim.{Claim}
 use Rattle.register.specs.declared.Register.{Register}
 use Rattle.columns.specs.Columns.{resource_id, public_of, claimed_of, rights_of}
-use Rattle.columns.specs.declared.Place.{Place}
-use Rattle.columns.specs.declared.Place.TheVariants.{At, Nowhere}
 use Rattle.soundness_rules.specs.Sound.{sound}
 use Rattle.soundness_rules.proofs.Registers.{sound_out}
 use Rattle.actions.specs.declared.Usage.{Usage}
@@ -41,20 +37,20 @@ use Rattle.uses.specs.Resources.{place_by, spot_by, asked_elsewhere, spot_elsewh
 -- ---- the nearest of a list, and of the places that it is read at
 
 -- what stands at a place, alone in a list, or none
-abbrev pub only_at : {A : Type 0} → (ℕ → A) → Place → List A
-only_at f (At j) = f j ∷ []
-only_at f Nowhere = []
+abbrev pub only_at : {A : Type 0} → (ℕ → A) → Option ℕ → List A
+only_at f (Some j) = f j ∷ []
+only_at f None = []
 
 -- whether there is a place
-abbrev pub placed : Place → Bool
-placed (At j) = true
-placed Nowhere = false
+abbrev pub placed : Option ℕ → Bool
+placed (Some j) = true
+placed None = false
 
 -- the place taken so far, or none
-abbrev taken_place : ℕ → ℕ → Place
-taken_place best bar = cond (eqb bar 0) Nowhere (At best)
+abbrev taken_place : ℕ → ℕ → Option ℕ
+taken_place best bar = cond (eqb bar 0) None (Some best)
 
-later_taken : (j n : ℕ) → taken_place j (suc n) ≡ At j
+later_taken : (j n : ℕ) → taken_place j (suc n) ≡ Some j
 later_taken j n = rw (ne_eqb (suc n) 0 (λ none. omega arith))
 
 module _ {A : Type 0} (f : ℕ → A) (p : A → Bool) where
@@ -105,7 +101,7 @@ claim_places r = counted 0 (length (claims_of r.claims))
 abbrev pub reach_for : Register → Usage → ℕ → ℕ
 reach_for r u j = reach_of r (claim_standing r j).resource u.resource
 
-abbrev pub nearest_place : Register → ℕ → ℕ → Usage → Place
+abbrev pub nearest_place : Register → ℕ → ℕ → Usage → Option ℕ
 nearest_place r moment x u = nearest_from (λ j. covering r moment x u (claim_standing r j)) (reach_for r u) 0 0 (claim_places r)
 
 -- the claims at those places are the register's
@@ -128,9 +124,9 @@ any_covering r moment x u =
     sym (ap (any (covering r moment x u)) (claims_read r)) ∙ any_map (claim_standing r) (covering r moment x u) (claim_places r)
     ∙ sym (nearest_placed (λ j. covering r moment x u (claim_standing r j)) (reach_for r u) 0 0 (claim_places r))
 
-either_placed : (b : Bool) (p : Place) → b || placed p ≡ covered_by b p
-either_placed b (At j) = or-true b
-either_placed b Nowhere = or-false b
+either_placed : (b : Bool) (p : Option ℕ) → b || placed p ≡ covered_by b p
+either_placed b (Some j) = or-true b
+either_placed b None = or-false b
 
 -- where the claims' resources stand
 module _ (r : Register) (shaped : Shaped r) (j : ℕ) (inside : j < length (claims_of r.claims)) where

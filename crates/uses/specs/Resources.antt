@@ -1,5 +1,5 @@
 -- Laws: What the gate asks of a register's resources by their ids, asked of what stands at their spots. Assumes nothing.
-use Rattle.std.specs.Prelude.{◌≡◌, refl, Bool, true, ◌&&◌, List, map, ℕ, ◌≤◌, ◌<◌, length, take, get_or}
+use Rattle.std.specs.Prelude.{◌≡◌, refl, Bool, true, ◌&&◌, List, map, ℕ, ◌≤◌, ◌<◌, length, take, get_or, Option, None, Some}
 use Rattle.std.proofs.Math.Path.{ap, sym}
 use Rattle.std.proofs.Common.{◌∙◌, arith, lt-ltb, le-ltb, ltb-true, eq-eqb, eqb-true, get_or-take}
 use Rattle.std.proofs.Math.Dec.{eqb, ltb}
@@ -15,8 +15,6 @@ use Rattle.register.specs.declared.Resource.{Resource}
 use Rattle.register.specs.declared.Register.{Register}
 use Rattle.columns.specs.Columns.{resource_id, public_of, latest_place}
 use Rattle.columns.specs.Laws.{place_found_lem}
-use Rattle.columns.specs.declared.Place.{Place}
-use Rattle.columns.specs.declared.Place.TheVariants.{At, Nowhere}
 use Rattle.lookup.specs.Finding.{place_number}
 use Rattle.lookup.specs.Asked.{asked_at, asked_natural}
 use Rattle.soundness_rules.specs.Sound.{sound}
@@ -31,24 +29,24 @@ use Rattle.uses.specs.Uses.{open_to}
 use Rattle.uses.specs.Sights.{spot_for}
 
 -- what is asked at a place among the first n, which are no more than the limit, is asked of them at its spot
-asked_limited : {A : Type 0} (d : A) (l : List A) (q : A → Bool) (n : ℕ) → n ≤ resource_limit → (p : Place) → ((j : ℕ) → p ≡ At j → j < n)
+asked_limited : {A : Type 0} (d : A) (l : List A) (q : A → Bool) (n : ℕ) → n ≤ resource_limit → (p : Option ℕ) → ((j : ℕ) → p ≡ Some j → j < n)
     → asked_at d l q p ≡ ltb (spot_of p) resource_limit && q (get_or (take n l) (spot_of p) d)
-asked_limited d l q n scarce (At j) below =
+asked_limited d l q n scarce (Some j) below =
     let here : j < resource_limit = omega (arith, scarce, below j refl) in rw (lt-ltb j resource_limit here, get_or-take n l j d (below j refl))
-asked_limited d l q n scarce Nowhere below = refl
+asked_limited d l q n scarce None below = refl
 
 -- what is asked at a spot is asked as well where none is another number past the spots
-pub asked_elsewhere : (none : ℕ) → resource_limit ≤ none → (q : ℕ → Bool) (p : Place)
+pub asked_elsewhere : (none : ℕ) → resource_limit ≤ none → (q : ℕ → Bool) (p : Option ℕ)
     → ltb (place_number none p) resource_limit && q (place_number none p) ≡ ltb (spot_of p) resource_limit && q (spot_of p)
-asked_elsewhere none past q (At j) = refl
-asked_elsewhere none past q Nowhere = rw (le-ltb none resource_limit past)
+asked_elsewhere none past q (Some j) = refl
+asked_elsewhere none past q None = rw (le-ltb none resource_limit past)
 
-pub spot_elsewhere : (none : ℕ) (p : Place) → ltb (spot_of p) resource_limit ≡ true → place_number none p ≡ spot_of p
-spot_elsewhere none (At j) placed = refl
-spot_elsewhere none Nowhere placed = absurd (omega (arith, ltb-true resource_limit resource_limit placed))
+pub spot_elsewhere : (none : ℕ) (p : Option ℕ) → ltb (spot_of p) resource_limit ≡ true → place_number none p ≡ spot_of p
+spot_elsewhere none (Some j) placed = refl
+spot_elsewhere none None placed = absurd (omega (arith, ltb-true resource_limit resource_limit placed))
 
 -- the place of the resource numbered x, and its spot
-abbrev pub place_by : Register → ℕ → Place
+abbrev pub place_by : Register → ℕ → Option ℕ
 place_by r x = latest_place (map resource_id r.resources.list) r.resources.count x
 
 abbrev pub spot_by : Register → ℕ → ℕ
@@ -109,17 +107,17 @@ module _ (r : Register) (h : sound r ≡ true) where
       )
 
   -- past the resources nothing is public
-  public_spot : Shaped r → (p : Place) → ((j : ℕ) → p ≡ At j → j < r.resources.count)
+  public_spot : Shaped r → (p : Option ℕ) → ((j : ℕ) → p ≡ Some j → j < r.resources.count)
       → ltb (spot_of p) resource_limit && eqb (get_or (resources_of r.resources) (spot_of p) no_resource).public 1
       ≡ eqb (get_or (map public_of r.resources.list) (spot_of p) 0) 1
-  public_spot shaped (At j) below =
+  public_spot shaped (Some j) below =
       let here : j < resource_limit = omega (arith, scarce, below j refl) in
       rw (
         lt-ltb j resource_limit here,
         get_or-take r.resources.count r.resources.list j no_resource (below j refl),
         get_or-map public_of r.resources.list j no_resource,
       )
-  public_spot shaped Nowhere below =
+  public_spot shaped None below =
       let past : length r.resources.list ≤ resource_limit = omega (arith, shaped.resources) in
       rw (get_or-map public_of r.resources.list resource_limit no_resource, get_or-eq_default r.resources.list no_resource past)
 

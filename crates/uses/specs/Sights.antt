@@ -1,12 +1,10 @@
 -- Working: What the gate sees of a register for an actor at a moment, by columns: what the passes over the uses are handed. That a use is then judged in 01's
 -- words is `use_natural` of SightsLaws.
-use Rattle.std.specs.Prelude.{Bool, not, ◌&&◌, cond, List, [], map, ℕ, eqb, get_or}
+use Rattle.std.specs.Prelude.{Bool, not, ◌&&◌, cond, List, [], map, ℕ, eqb, get_or, Option, None, Some}
 use Rattle.register.specs.Register.{actors_of}
 use Rattle.register.specs.declared.Register.{Register}
 use Rattle.soundness_rules.specs.Sound.{is_machine}
 use Rattle.columns.specs.Columns.{actor_id, actor_owner, resource_id, public_of, claim_id, parent_of, claimed_of, rights_of, latest_place, weight_of, expiry_of}
-use Rattle.columns.specs.declared.Place.{Place}
-use Rattle.columns.specs.declared.Place.TheVariants.{At, Nowhere}
 use Rattle.actions.specs.declared.Usage.{Usage}
 use Rattle.lookup.specs.Finding.{places_of, earlier_places}
 use Rattle.coverage.specs.Gathering.{spot_in, cover_places, ends_of}
@@ -14,9 +12,9 @@ use Rattle.coverage.specs.Laid.{laid}
 use Rattle.uses.specs.Uses.{Sight}
 
 -- the owner's number of the actor at a place, 0 for none
-abbrev pub owner_at : List ℕ → Place → ℕ
-owner_at owners (At j) = get_or owners j 0
-owner_at owners Nowhere = 0
+abbrev pub owner_at : List ℕ → Option ℕ → ℕ
+owner_at owners (Some j) = get_or owners j 0
+owner_at owners None = 0
 
 -- the owner's number of the actor numbered x
 abbrev pub owner_number : Register → ℕ → ℕ

@@ -1,5 +1,5 @@
 -- Laws: The judgement of a use by columns is 01's: the violations and the hop count of the use. Assumes nothing.
-use Rattle.std.specs.Prelude.{◌≡◌, Bool, true, false, ◌&&◌, cond, [], ◌∷◌, ◌++◌, map, ℕ, suc, ◌≤◌, ◌<◌, get_or, take, drop}
+use Rattle.std.specs.Prelude.{◌≡◌, Bool, true, false, ◌&&◌, cond, [], ◌∷◌, ◌++◌, map, ℕ, suc, ◌≤◌, ◌<◌, get_or, take, drop, Option, None, Some}
 use Rattle.std.proofs.Math.Path.{refl, sym, ap}
 use Rattle.std.proofs.Common.{◌∙◌, arith, length-take, get_or-take, take-take}
 use Rattle.std.proofs.Math.Bool.{not, and_assoc}
@@ -15,8 +15,6 @@ use Rattle.register.specs.declared.Actor.{Actor}
 use Rattle.register.specs.declared.Register.{Register}
 use Rattle.columns.specs.Columns.{actor_id, actor_owner, public_of, latest_place, places_up}
 use Rattle.columns.specs.Laws.{steps_within}
-use Rattle.columns.specs.declared.Place.{Place}
-use Rattle.columns.specs.declared.Place.TheVariants.{At, Nowhere}
 use Rattle.lookup.specs.Asked.{asked_at, asked_natural}
 use Rattle.soundness_rules.specs.Sound.{World, world_of, sound_claims, sound}
 use Rattle.soundness_rules.proofs.Registers.{sound_out}
@@ -68,7 +66,7 @@ module _ (r : Register) (shaped : Shaped r) (h : sound r ≡ true) where
   sound_at j inside = sound_place r h (claim_standing r j) (stands_at j inside)
 
   -- the claim at a place of the register has as many hops as the walk up from there counts
-  hops_at_lem : (j : ℕ) → j < length (claims_of r.claims) → hops_in r (only_at (claim_standing r) (At j)) ≡ hops_from (ups_of r) (At j)
+  hops_at_lem : (j : ℕ) → j < length (claims_of r.claims) → hops_in r (only_at (claim_standing r) (Some j)) ≡ hops_from (ups_of r) (Some j)
   hops_at_lem j inside =
       let at = stands_at j inside in
       let whole : hops_of (latest (claims_of r.claims)) (claim_standing r j) ≡ hops_of (latest (take j r.claims.list)) (claim_standing r j) =
@@ -88,12 +86,12 @@ module _ (r : Register) (shaped : Shaped r) (h : sound r ≡ true) where
       ap (hops_in r) (relied_natural r moment x u)
       ∙ nearest_any (reach_for r u) (λ p. hops_in r (only_at (claim_standing r) p) ≡ hops_from (ups_of r) p) _ 0 0 (claim_places r) refl
       (all_imp (λ j. j < length (claims_of r.claims))
-      (λ j. hops_in r (only_at (claim_standing r) (At j)) ≡ hops_from (ups_of r) (At j)) hops_at_lem (claim_places r) (places_within r))
+      (λ j. hops_in r (only_at (claim_standing r) (Some j)) ≡ hops_from (ups_of r) (Some j)) hops_at_lem (claim_places r) (places_within r))
 
 -- ---- the actor: whether it is a machine, and its owner
 module _ (r : Register) (h : sound r ≡ true) (x : ℕ) where
   -- where the actor numbered x stands
-  abbrev place_of_actor : Place
+  abbrev place_of_actor : Option ℕ
   place_of_actor = latest_place (map actor_id r.actors.list) r.actors.count x
 
   -- some actor has the number x and passes a test where the one at the place of x does
@@ -101,12 +99,12 @@ module _ (r : Register) (h : sound r ≡ true) (x : ℕ) where
   asked_actor q = asked_natural actor_id no_actor refl r.actors.list x q r.actors.count (sound_out r h).actors.apart
 
   -- what is asked of a machine and of its owner, place by place
-  owner_asked_lem : (f : ℕ → Bool) (p : Place)
+  owner_asked_lem : (f : ℕ → Bool) (p : Option ℕ)
       → asked_at no_actor r.actors.list (λ a. eqb machine_kind a.kind && (not (eqb a.owner 0) && not (f a.owner))) p
       ≡ (asked_at no_actor r.actors.list (λ a. eqb machine_kind a.kind) p && not (eqb (owner_at (map actor_owner r.actors.list) p) 0))
       && not (f (owner_at (map actor_owner r.actors.list) p))
-  owner_asked_lem f Nowhere = refl
-  owner_asked_lem f (At j) =
+  owner_asked_lem f None = refl
+  owner_asked_lem f (Some j) =
       rw (get_or-map actor_owner r.actors.list j no_actor)
       (sym (and_assoc (eqb machine_kind (get_or r.actors.list j no_actor).kind) (not (eqb (get_or r.actors.list j no_actor).owner 0))
       (not (f (get_or r.actors.list j no_actor).owner))))

@@ -1,12 +1,8 @@
 -- Working: The uses of an action judged by columns, one after the other. What a use comes to in 01's words is `use_natural` of SightsLaws.
-use Rattle.std.specs.Prelude.{Bool, true, not, ◌&&◌, cond, List, [], ◌∷◌, ◌++◌, map, ℕ, suc, eqb, get_or}
+use Rattle.std.specs.Prelude.{Bool, true, not, ◌&&◌, cond, List, [], ◌∷◌, ◌++◌, map, ℕ, suc, eqb, get_or, Option, None, Some}
 use Rattle.rights.specs.Rights.{reading}
 use Rattle.register.specs.Limits.{hop_limit}
 use Rattle.columns.specs.Columns.{places_up, steps_up}
-use Rattle.columns.specs.declared.Hops.{Hops}
-use Rattle.columns.specs.declared.Hops.TheVariants.{Up, Beyond}
-use Rattle.columns.specs.declared.Place.{Place}
-use Rattle.columns.specs.declared.Place.TheVariants.{At, Nowhere}
 use Rattle.actions.specs.Actions.{uses_of}
 use Rattle.actions.specs.declared.Action.{Action}
 use Rattle.actions.specs.declared.Usage.{Usage}
@@ -24,19 +20,19 @@ abbrev pub open_to : List ℕ → ℕ → ℕ → Bool
 open_to publics spot right = eqb right reading && eqb (get_or publics spot 0) 1
 
 -- the number that is told of the steps up: in a sound register there are never more than the limit
-abbrev pub steps_told : Hops → ℕ
-steps_told (Up steps) = steps
-steps_told Beyond = hop_limit
+abbrev pub steps_told : Option ℕ → ℕ
+steps_told (Some steps) = steps
+steps_told None = hop_limit
 
 -- the hop count of the claim relied on, by the walk up from its place
-abbrev pub hops_from : List ℕ → Place → ℕ
-hops_from ups Nowhere = 0
-hops_from ups (At j) = steps_told (steps_up (places_up ups j))
+abbrev pub hops_from : List ℕ → Option ℕ → ℕ
+hops_from ups None = 0
+hops_from ups (Some j) = steps_told (steps_up (places_up ups j))
 
 -- whether a use is covered: it is open, or a claim is relied on
-abbrev pub covered_by : Bool → Place → Bool
-covered_by freely (At j) = true
-covered_by freely Nowhere = freely
+abbrev pub covered_by : Bool → Option ℕ → Bool
+covered_by freely (Some j) = true
+covered_by freely None = freely
 
 -- the violations of the use at position n, by the tests in their order
 abbrev pub faults_of : ℕ → Bool → Bool → List Violation
@@ -55,7 +51,7 @@ pub record Sight : Type 0 where
   pub ups : List ℕ
 
 -- the claim relied on, by the gathered places: the nearest
-abbrev pub relied_on : Sight → List ℕ → ℕ → ℕ → Place
+abbrev pub relied_on : Sight → List ℕ → ℕ → ℕ → Option ℕ
 relied_on s places spot right = nearest_covering places s.rights s.spots s.bytes s.lens right spot
 
 -- the violations of the use at position n, of the resource at a place, and its hop count

@@ -11,8 +11,7 @@ ghost use Rattle.violations.specs.Pushed.{pushed_all};
 ghost use Rattle.uses.specs.Uses.{open_to, steps_told};
 ghost use Rattle.uses.specs.Passes.{uses_by, claim_number, relied_all, hops_at, hops_all, fault_told, faults_all};
 
-use actions::{Action, Violated, Violation, Violations};
-use columns::{Hops, Place};
+use actions::{Action, Violation, Violations};
 use register::Register;
 
 // The place of a resource that does not stand.
@@ -37,30 +36,28 @@ pub struct UsesJudged {
 pub fn uses_of(reports: &[u32], m: usize, a: Action) -> Uses
     ensures { result ≡ uses_by reports.now m a }
 {
-    let top = lists::least(a.used, Action::USES);
+    let count = a.used.min(Action::USES);
     let mut uses = Uses {
         rights: [0; Action::USES],
         spots: [NO_SPOT; Action::USES],
-        count: top,
+        count,
     };
-    let mut i: usize = 0;
-    while i < top {
+    for i in 0..count {
         let u = a.uses[i];
         let spot = coverage::spot(reports, m, u.resource);
         uses.rights[i] = u.right;
-        uses.spots[i] = lists::least(spot, Register::RESOURCES) as u16;
-        i += 1;
+        uses.spots[i] = spot.min(Register::RESOURCES) as u16;
     }
     uses
 }
 
 // A place among the claims as a number, 256 for none.
-fn claim_number(place: Place) -> u16
+fn claim_number(place: Option<usize>) -> u16
     ensures { result ≡ claim_number place }
 {
     match place {
-        Place::At(j) => lists::least(j, Register::CLAIMS) as u16,
-        Place::Nowhere => lookup::NOWHERE,
+        Some(j) => j.min(Register::CLAIMS) as u16,
+        None => lookup::NOWHERE,
     }
 }
 
@@ -76,10 +73,8 @@ pub fn relied_on<'a>(
 ) -> [u16; Action::USES]
     ensures { result ≡ relied_all (take owns own.now) rights.now spots.now bytes.now lens.now uses }
 {
-    let top = lists::least(uses.count, Action::USES);
     let mut relied = [lookup::NOWHERE; Action::USES];
-    let mut i: usize = 0;
-    while i < top {
+    for i in 0..uses.count.min(Action::USES) {
         let spot = uses.spots[i] as usize;
         let place = coverage::nearest_covering(
             own,
@@ -92,18 +87,17 @@ pub fn relied_on<'a>(
             spot,
         );
         relied[i] = claim_number(place);
-        i += 1;
     }
     relied
 }
 
 // The number that is told of the steps up. In a sound register no chain goes on beyond the limit.
-fn steps_told(walked: Hops) -> usize
+fn steps_told(walked: Option<usize>) -> usize
     ensures { result ≡ steps_told walked }
 {
     match walked {
-        Hops::Up(steps) => steps,
-        Hops::Beyond => Register::HOPS,
+        Some(steps) => steps,
+        None => Register::HOPS,
     }
 }
 
@@ -123,12 +117,9 @@ fn hops_at(ups: &[u16], j: usize) -> usize
 pub fn hop_counts<'a>(ups: &'a [u16], relied: &'a [u16], n: usize) -> [usize; Action::USES]
     ensures { result ≡ hops_all ups.now relied.now n }
 {
-    let top = lists::least(n, lists::least(Action::USES, relied.len()));
     let mut hops = [0usize; Action::USES];
-    let mut i: usize = 0;
-    while i < top {
+    for i in 0..n.min(Action::USES).min(relied.len()) {
         hops[i] = hops_at(ups, relied[i] as usize);
-        i += 1;
     }
     hops
 }
@@ -166,24 +157,13 @@ pub fn put_faults<'a>(
 ) -> Violations
     ensures { result ≡ pushed_all vs (faults_all relied.now theirs.now owned publics.now uses) }
 {
-    let long = lists::least(relied.len(), theirs.len());
-    let top = lists::least(uses.count, lists::least(Action::USES, long));
-    let mut position: u32 = 0;
-    while (position as usize) < top {
-        let i = position as usize;
+    let long = relied.len().min(theirs.len());
+    for i in 0..uses.count.min(Action::USES).min(long) {
         let freely = is_open(publics, uses.spots[i] as usize, uses.rights[i]);
         let covered = freely | ((relied[i] as usize) < Register::CLAIMS);
         let lacking = owned & !(freely | ((theirs[i] as usize) < Register::CLAIMS));
-        let at = vs.count;
-        if (lacking | !covered) & (at < Violations::MOST) {
-            let v = Violated {
-                what: fault_told(covered, position),
-            };
-            vs.list[at] = v;
-            vs.count = at + 1;
-            position += 1;
-        } else {
-            position += 1;
+        if lacking | !covered {
+            violations::put(&mut vs, fault_told(covered, i as u32));
         }
     }
     vs

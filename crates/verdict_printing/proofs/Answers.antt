@@ -1,14 +1,9 @@
 -- What is printed, by what stops the program and by what the gate decides; and what a printed permission says of the two texts. Assumes
 -- nothing.
-use Prim.Native.Nat.{ℕ}
-use mathlib.Core.Path.{◌≡◌, refl, sym, ap, ◌∙◌}
-use mathlib.Core.List.{List, [], ◌++◌}
-use native.Mathlib.Omega.{arith}
-use lib.ListN.{length, get_or}
+use Rattle.std.proofs.Common.{Err, Ok, ℕ, ◌≡◌, refl, sym, ap, ◌∙◌, List, [], ◌++◌, arith, length, get_or}
 use Rattle.lists.specs.Bytes.{bytes}
 use Rattle.refusals.specs.Refusals.{outcome_of}
 use Rattle.refusals.proofs.Laws.{outcome_cases}
-use Rattle.refusals.specs.declared.Outcome.TheVariants.{Accepted, Refused as RefusedFor}
 use Rattle.refusals.specs.declared.Refusal.{Refusal}
 use Rattle.actions.specs.declared.Violation.{Violation}
 use Rattle.actions.specs.declared.Violations.{Violations}
@@ -57,10 +52,10 @@ module _ (register action : List ℕ) where
   abbrev pub asked : Verdict
   asked = gated (register_read register).register (action_read action).action
 
-  pub register_stops : (why : Refusal) → (register_read register).outcome ≡ RefusedFor why → printed register action ≡ stopped_text why
+  pub register_stops : (why : Refusal) → (register_read register).outcome ≡ Err why → printed register action ≡ stopped_text why
   register_stops = composing.refused_printed register action
 
-  pub action_stops : (why : Refusal) → (register_read register).outcome ≡ Accepted → (action_read action).outcome ≡ RefusedFor why
+  pub action_stops : (why : Refusal) → (register_read register).outcome ≡ Ok tt → (action_read action).outcome ≡ Err why
       → printed register action ≡ stopped_text why
   action_stops why e f = composing.accepted_printed register action e refl ∙ composing.lines_refused stopped_text _ why f
 
@@ -68,7 +63,7 @@ module _ (register action : List ℕ) where
   printed_heard h =
       composing.accepted_printed register action h.registered refl ∙ composing.lines_accepted stopped_text _ h.posed
 
-  pub gate_stops : (why : Refusal) → Heard register action → outcome_of (gate_tests (register_read register).register (action_read action).action) ≡ RefusedFor why
+  pub gate_stops : (why : Refusal) → Heard register action → outcome_of (gate_tests (register_read register).register (action_read action).action) ≡ Err why
       → printed register action ≡ stopped_text why
   unfolding verdict_text
   gate_stops why h e = printed_heard h ∙ ap verdict_text (gated_stopped (register_read register).register (action_read action).action why e)
@@ -77,7 +72,7 @@ module _ (register action : List ℕ) where
   abbrev pub found : List Violation
   found = violations_of (register_read register).register (action_read action).action
 
-  judged_printed : Heard register action → outcome_of (gate_tests (register_read register).register (action_read action).action) ≡ Accepted
+  judged_printed : Heard register action → outcome_of (gate_tests (register_read register).register (action_read action).action) ≡ Ok tt
       → printed register action ≡ verdict_lines (decided found) (listed found)
   unfolding verdict_text
   judged_printed h e = printed_heard h ∙ ap verdict_text (gated_judged (register_read register).register (action_read action).action e)

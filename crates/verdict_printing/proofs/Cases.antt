@@ -1,8 +1,6 @@
 -- What is printed of case R of 01, and of small texts that are refused with 1, 3, 19 and 20; and by the JSON program with 2, 19 and 20. Computed.
 -- Assumes nothing.
-use Prim.Native.Nat.{ℕ}
-use mathlib.Core.Path.{◌≡◌, refl}
-use mathlib.Core.List.{List, [], ◌∷◌, map}
+use Rattle.std.proofs.Common.{ℕ, ◌≡◌, refl, List, [], ◌∷◌, map}
 use Rattle.lists.specs.Lists.{dropping, same, distinct}
 use Rattle.paths.specs.Containment.{components, climbing, trimmed, starting, contained}
 use Rattle.rights.specs.Rights.{has_right, has_rights, bars_machine}

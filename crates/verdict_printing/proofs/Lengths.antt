@@ -1,12 +1,6 @@
 -- How long a printed text can be: each violation names a number of 16 bits and there are at most 51, so no text is longer than 1,103 bytes.
 -- Assumes nothing.
-use Prim.Native.Nat.{ℕ, suc, ◌+◌, ◌-◌, ◌/◌, ◌%◌, ◌^◌, ◌≤◌, ◌<◌}
-use mathlib.Core.Path.{◌≡◌, refl, ap}
-use mathlib.Core.Bool.{Bool, true, false, cond, not}
-use mathlib.Core.List.{List, [], ◌∷◌, ◌++◌, map}
-use native.Mathlib.Omega.{arith}
-use lib.Dec.{eqb}
-use lib.ListN.{length, take, replicate, length-append, length-take}
+use Rattle.std.proofs.Common.{Result, Err, Ok, ℕ, suc, ◌+◌, ◌-◌, ◌/◌, ◌%◌, ◌^◌, ◌≤◌, ◌<◌, ◌≡◌, refl, ap, Bool, true, false, cond, not, List, [], ◌∷◌, ◌++◌, map, arith, eqb, length, take, replicate, length-append, length-take}
 use Rattle.lists.specs.Each.{all_imp, all_append, all_map}
 use Rattle.lists.specs.Counts.{counted_below}
 use Rattle.lists.specs.Filters.{all_dropping}
@@ -17,8 +11,6 @@ use Rattle.register.specs.declared.Register.{Register}
 use Rattle.soundness_rules.specs.Sound.{is_machine}
 use Rattle.refusals.specs.Refusals.{number_of, outcome_of}
 use Rattle.refusals.proofs.Laws.{number_bounds, outcome_cases}
-use Rattle.refusals.specs.declared.Outcome.{Outcome}
-use Rattle.refusals.specs.declared.Outcome.TheVariants.{Accepted, Refused as RefusedFor}
 use Rattle.refusals.specs.declared.Refusal.{Refusal}
 use Rattle.actions.specs.Actions.{violation_limit, flag_count, uses_of, governs_of, kind_of, value_of, action_fits}
 use Rattle.actions.specs.declared.Usage.{Usage}
@@ -167,11 +159,11 @@ gated_fitting r a =
       few = rw (gated_stopped r a why e) (omega arith);
     })
 
-unless_length : (o : Outcome) (lines : List ℕ) → length lines ≤ printed_limit → length (unless_refused stopped_text o lines) ≤ printed_limit
-unless_length Accepted lines short = short
-unless_length (RefusedFor why) lines short = stopped_length why
+unless_length : (o : Result Unit Refusal) (lines : List ℕ) → length lines ≤ printed_limit → length (unless_refused stopped_text o lines) ≤ printed_limit
+unless_length (Ok _) lines short = short
+unless_length (Err why) lines short = stopped_length why
 
-posed_length : (r : Register) (o : Outcome) (a : Action) → length (unless_refused stopped_text o (verdict_text (gated r a))) ≤ printed_limit
+posed_length : (r : Register) (o : Result Unit Refusal) (a : Action) → length (unless_refused stopped_text o (verdict_text (gated r a))) ≤ printed_limit
 posed_length r o a = unless_length o (verdict_text (gated r a)) (gated_fitting r a).text
 
 -- no printed text is longer than 1,103 bytes

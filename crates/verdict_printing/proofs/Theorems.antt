@@ -1,12 +1,8 @@
 -- What is proved of the text that the program prints of a register's text and an action's, over the definitions that the contract of
 -- `verdict_text` cites. Assumes nothing.
-use Prim.Native.Nat.{ℕ, ◌≤◌}
-use mathlib.Core.Path.{◌≡◌}
-use mathlib.Core.List.{List, ◌++◌}
-use lib.ListN.{length}
+use Rattle.std.proofs.Common.{Err, Ok, ℕ, ◌≤◌, ◌≡◌, List, ◌++◌, length}
 use Rattle.lists.specs.Bytes.{bytes}
 use Rattle.refusals.specs.Refusals.{outcome_of}
-use Rattle.refusals.specs.declared.Outcome.TheVariants.{Accepted, Refused as RefusedFor}
 use Rattle.refusals.specs.declared.Refusal.{Refusal}
 use Rattle.actions.specs.declared.Decision.TheVariants.{Permitted, Refused}
 use Rattle.gate_rules.specs.Gate.{violations_of, gate_tests, gated}
@@ -20,16 +16,16 @@ use Rattle.verdict_printing.proofs.Answers as answers
 
 module _ (register action : List ℕ) where
   -- 1a. The first refusal stops: a register's text that is refused is answered with its number, whatever the action's text is.
-  pub register_stops : (why : Refusal) → (register_read register).outcome ≡ RefusedFor why → printed register action ≡ stopped_text why
+  pub register_stops : (why : Refusal) → (register_read register).outcome ≡ Err why → printed register action ≡ stopped_text why
   register_stops = answers.register_stops register action
 
   -- 1b. Then an action's text that is refused is answered with its number.
-  pub action_stops : (why : Refusal) → (register_read register).outcome ≡ Accepted → (action_read action).outcome ≡ RefusedFor why
+  pub action_stops : (why : Refusal) → (register_read register).outcome ≡ Ok tt → (action_read action).outcome ≡ Err why
       → printed register action ≡ stopped_text why
   action_stops = answers.action_stops register action
 
   -- 1c. Then the first test of the gate that fails is.
-  pub gate_stops : (why : Refusal) → Heard register action → outcome_of (gate_tests (register_read register).register (action_read action).action) ≡ RefusedFor why
+  pub gate_stops : (why : Refusal) → Heard register action → outcome_of (gate_tests (register_read register).register (action_read action).action) ≡ Err why
       → printed register action ≡ stopped_text why
   gate_stops = answers.gate_stops register action
 

@@ -1,11 +1,9 @@
 -- Believed: The lines that 01's program prints, of the two texts that it reads, and those of the JSON program, of three.
-use Rattle.std.specs.Prelude.{ℕ, ◌-◌, List, ◌++◌, map, take, ◌≡◌}
+use Rattle.std.specs.Prelude.{ℕ, ◌-◌, List, ◌++◌, map, take, ◌≡◌, Result, Err, Ok}
 use Rattle.lists.specs.Bytes.{bytes}
 use Rattle.register.specs.Limits.{moment_end}
 use Rattle.register.specs.declared.Register.{Register}
 use Rattle.refusals.specs.Refusals.{number_of}
-use Rattle.refusals.specs.declared.Outcome.{Outcome}
-use Rattle.refusals.specs.declared.Outcome.TheVariants.{Accepted, Refused as RefusedFor}
 use Rattle.refusals.specs.declared.Refusal.{Refusal}
 use Rattle.refusals.specs.declared.Refusal.TheVariants.{Range}
 use Rattle.actions.specs.Actions.{kind_of, value_of}
@@ -71,9 +69,9 @@ unfoldable pub verdict_text : Verdict → List ℕ
 verdict_text v = verdict_lines v.decision v.violations
 
 -- the lines that are said of a text, or those of its refusal
-abbrev pub unless_refused : (Refusal → List ℕ) → Outcome → List ℕ → List ℕ
-unless_refused stopped Accepted lines = lines
-unless_refused stopped (RefusedFor why) lines = stopped why
+abbrev pub unless_refused : (Refusal → List ℕ) → Result Unit Refusal → List ℕ → List ℕ
+unless_refused stopped (Ok _) lines = lines
+unless_refused stopped (Err why) lines = stopped why
 
 -- what the program prints of a register's text, then an action's; the first refusal stops
 unfoldable pub printed : List ℕ → List ℕ → List ℕ
@@ -102,5 +100,5 @@ printed_limit = 1103
 
 -- both texts are read
 pub record Heard (register action : List ℕ) : Type 0 where
-  pub registered : (register_read register).outcome ≡ Accepted
-  pub posed : (action_read action).outcome ≡ Accepted
+  pub registered : (register_read register).outcome ≡ Ok tt
+  pub posed : (action_read action).outcome ≡ Ok tt

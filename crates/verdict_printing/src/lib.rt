@@ -17,7 +17,7 @@ ghost use Rattle.verdict_printing.specs.Printed.{clock_read, clock_lines, json_p
 
 use actions::{Action, Decision, Verdict, Violation, Violations};
 use buffers::Written;
-use refusals::{Outcome, Refusal};
+use refusals::Refusal;
 use register::Register;
 use soundness::Findings;
 use text_rules::LAST_MOMENT;
@@ -31,10 +31,8 @@ fn put_pair(buf: &mut [u8], at: usize, v: Violation) -> usize
     ensures behind { result ≡ at + length (pair_text v) }
     ensures written { buf.new ≡ splice at (pair_text v) buf.old }
 {
-    let kind = actions::kind(v);
-    let value = actions::value(v);
-    let value_at = buffers::put_line(buf, at, b"violation=", kind as u64);
-    buffers::put_line(buf, value_at, b"at=", value as u64)
+    let value_at = buffers::put_line(buf, at, b"violation=", actions::kind(v) as u64);
+    buffers::put_line(buf, value_at, b"at=", actions::value(v) as u64)
 }
 
 // Puts the number of violations and the pair of each into the buffer at `at`, and answers the position behind them.
@@ -45,12 +43,8 @@ fn put_list(buf: &mut [u8], at: usize, vs: Violations) -> usize
 {
     let count = vs.count;
     let mut end = buffers::put_line(buf, at, b"violations=", count as u64);
-    let mut i: usize = 0;
-    while i < count {
-        let entry = vs.list[i];
-        let v = entry.what;
-        end = put_pair(buf, end, v);
-        i += 1;
+    for entry in &vs.list[..count] {
+        end = put_pair(buf, end, entry.what);
     }
     end
 }
@@ -61,9 +55,8 @@ fn put_stopped(buf: &mut [u8], why: Refusal) -> usize
     ensures behind { result ≡ length (stopped_text why) }
     ensures written { buf.new ≡ splice 0 (stopped_text why) buf.old }
 {
-    let number = refusals::number(why);
     let refusal_at = buffers::put_bytes(buf, 0, b"verdict=stopped\n");
-    buffers::put_line(buf, refusal_at, b"refusal=", number as u64)
+    buffers::put_line(buf, refusal_at, b"refusal=", refusals::number(why) as u64)
 }
 
 // Puts the lines of a verdict into the buffer, and answers the position behind them.
@@ -72,16 +65,14 @@ fn put_verdict(buf: &mut [u8], v: Verdict) -> usize
     ensures behind { result ≡ length (verdict_text v) }
     ensures written { buf.new ≡ splice 0 (verdict_text v) buf.old }
 {
-    let violations = v.violations;
-    let decision = v.decision;
-    match decision {
+    match v.decision {
         Decision::Permitted => {
             let list_at = buffers::put_bytes(buf, 0, b"verdict=permitted\n");
-            put_list(buf, list_at, violations)
+            put_list(buf, list_at, v.violations)
         }
         Decision::Refused => {
             let list_at = buffers::put_bytes(buf, 0, b"verdict=refused\n");
-            put_list(buf, list_at, violations)
+            put_list(buf, list_at, v.violations)
         }
         Decision::Stopped(why) => put_stopped(buf, why),
     }
@@ -94,7 +85,7 @@ fn put_posed(
     register: Register,
     sheet: &[u32],
     known: Findings,
-    outcome: Outcome,
+    outcome: Result<(), Refusal>,
     asked: Action,
 ) -> usize
     requires { (printed_limit ≤ length buf.old) × Opened register sheet.now known }
@@ -102,8 +93,8 @@ fn put_posed(
     ensures written { buf.new ≡ splice 0 (unless_refused stopped_text outcome (verdict_text (gated register asked))) buf.old }
 {
     match outcome {
-        Outcome::Accepted => put_verdict(buf, gate::gate_by(register, sheet, known, asked)),
-        Outcome::Refused(why) => put_stopped(buf, why),
+        Ok(()) => put_verdict(buf, gate::gate_by(register, sheet, known, asked)),
+        Err(why) => put_stopped(buf, why),
     }
 }
 
@@ -132,12 +123,9 @@ fn compose_clock(
     let end = lines::finish(clock, field.cursor);
     if lines::goes_on(clock, end) {
         let posed = json_reading::read_json(action, field.value as u64);
-        let heard = posed.outcome;
-        let asked = posed.action;
-        return put_posed(buf, register, sheet, known, heard, asked);
+        return put_posed(buf, register, sheet, known, posed.outcome, posed.action);
     }
-    let why = end.refusal;
-    put_stopped(buf, why)
+    put_stopped(buf, end.refusal)
 }
 
 // Puts what is printed of a register, by a sheet of its claims and what was found of it, and an action's text, or a clock's and a JSON action's, into
@@ -159,9 +147,7 @@ fn compose_asked(
         return compose_clock(buf, register, sheet, known, clock, action);
     }
     let read = action_reading::read_action(action);
-    let heard = read.outcome;
-    let asked = read.action;
-    put_posed(buf, register, sheet, known, heard, asked)
+    put_posed(buf, register, sheet, known, read.outcome, read.action)
 }
 
 // Puts what is printed of a register's text and an action's, or a clock's and a JSON action's, into the buffer, and answers the position behind it.
@@ -171,18 +157,19 @@ fn compose(buf: &mut [u8], register: &[u8], clock: &[u8], action: &[u8], json: b
     ensures written { buf.new ≡ splice 0 (printed_by json register.now clock.now action.now) buf.old }
 {
     let form = register_reading::read_form(register);
-    let cursor = form.cursor;
-    if !lines::goes_on(register, cursor) {
-        let why = cursor.refusal;
-        return put_stopped(buf, why);
+    if !lines::goes_on(register, form.cursor) {
+        return put_stopped(buf, form.cursor.refusal);
     }
     let state = form.register;
-    let actors = state.actors;
-    let resources = state.resources;
-    let claims = state.claims;
     let mut sheet = [0u32; columns::SHEET];
-    columns::put_claims(&mut sheet, claims);
-    let known = soundness::examine_sheet(state.version, actors, resources, &sheet, claims.count);
+    columns::put_claims(&mut sheet, state.claims);
+    let known = soundness::examine_sheet(
+        state.version,
+        state.actors,
+        state.resources,
+        &sheet,
+        state.claims.count,
+    );
     if !known.sound {
         return put_stopped(buf, Refusal::Unsound);
     }
@@ -196,8 +183,7 @@ pub fn verdict_text(register: &[u8], action: &[u8], buf: &mut [u8]) -> Written
 {
     let mut sheet = [0u8; PRINTED];
     let length = compose(&mut sheet, register, b"", action, false);
-    let text: &[u8] = &sheet;
-    buffers::deliver(buf, &text[..length])
+    buffers::deliver(buf, &sheet[..length])
 }
 
 // The lines that the program for JSON actions prints of the three texts.
@@ -207,6 +193,5 @@ pub fn json_verdict_text(register: &[u8], clock: &[u8], action: &[u8], buf: &mut
 {
     let mut sheet = [0u8; PRINTED];
     let length = compose(&mut sheet, register, clock, action, true);
-    let text: &[u8] = &sheet;
-    buffers::deliver(buf, &text[..length])
+    buffers::deliver(buf, &sheet[..length])
 }

@@ -1,7 +1,5 @@
 -- A register of version 1 with a chain of three, and one claim past its count, as version 2 has it. Computed. Assumes nothing.
-use mathlib.Core.Path.{◌≡◌, refl}
-use mathlib.Core.List.{[], ◌∷◌, map}
-use Prim.Native.Nat.{ℕ}
+use Rattle.std.proofs.Common.{◌≡◌, refl, [], ◌∷◌, map, ℕ}
 use Rattle.register.specs.Chain.{chain}
 use Rattle.register.specs.declared.Claim.{Claim}
 use Rattle.register.specs.declared.Register.{Register}

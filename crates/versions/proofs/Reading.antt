@@ -1,11 +1,9 @@
 -- What is read from the text of a register of version 1 as version 2 has it gives the verdicts of the register. Assumes nothing.
-use mathlib.Core.Path.{◌≡◌, ◌∙◌}
-use mathlib.Core.Bool.{true}
+use Rattle.std.proofs.Common.{Ok, ◌≡◌, ◌∙◌, true}
 use Rattle.register.specs.Limits.{version_one}
 use Rattle.register.specs.Register.{Same, Shaped}
 use Rattle.register.specs.declared.Register.{Register}
 use Rattle.soundness_rules.specs.Sound.{sound}
-use Rattle.refusals.specs.declared.Outcome.TheVariants.{Accepted}
 use Rattle.actions.specs.declared.Action.{Action}
 use Rattle.actions.specs.declared.Plan.{Plan}
 use Rattle.gate_rules.specs.Gate.{gated}
@@ -20,7 +18,7 @@ module _ (r : Register) (one : r.version ≡ version_one) (fine : sound r ≡ tr
   two_fine : sound (as_two r) ≡ true
   two_fine = as_two_sound r one ∙ fine
 
-  pub two_accepted : (register_read (register_text (as_two r))).outcome ≡ Accepted
+  pub two_accepted : (register_read (register_text (as_two r))).outcome ≡ Ok tt
   two_accepted = register_accepted (as_two r) two_fine (as_two_shaped r shaped)
 
   pub two_read : Same (register_read (register_text (as_two r))).register (as_two r)

@@ -1,14 +1,8 @@
 -- A register of version 1 and the same as version 2 has it are alike: they hold the same but for what claims hold as left, and both are sound or
 -- neither. Assumes nothing.
-use mathlib.Core.Path.{◌≡◌, refl, ap, sym, ◌∙◌}
-use mathlib.Core.Bool.{Bool, false}
-use mathlib.Core.List.{List, [], ◌∷◌, ◌++◌, map, append-nil, reverse-reverse}
-use Prim.Native.Nat.{ℕ, ◌+◌, ◌≤◌, ◌<◌}
-use native.Mathlib.Omega.{arith}
-use borrow.Author.Tests.{ltb-true, ltb-false}
-use lib.Dec.{ltb}
-use lib.ListN.{length, take, drop, length-append, length-take, take-append-drop, drop_of_length-le}
-use lib.Seq.{take_all, take-append_seam, length-take-le}
+use Rattle.std.proofs.Common.{◌≡◌, refl, ap, sym, ◌∙◌, Bool, false, List, [], ◌∷◌, ◌++◌, map, append-nil, ℕ, ◌+◌, ◌≤◌, ◌<◌, arith, ltb-true, ltb-false, ltb, length, take, drop, length-append, length-take, take-append-drop, drop_of_length-le, take_all, length-take-le}
+use mathlib.Core.List.{reverse-reverse}
+use lib.Seq.{take-append_seam}
 use Rattle.lists.specs.Tests.{cases}
 use Rattle.lists.specs.Lists.{ands}
 use Rattle.lists.specs.Each.{reverse_map}

@@ -1,13 +1,9 @@
 -- What is proved of a register of version 1 and the same as version 2 has it: the verdicts are the same. Assumes nothing.
-use mathlib.Core.Path.{◌≡◌}
-use mathlib.Core.Bool.{true}
-use mathlib.Core.List.{List}
-use Prim.Native.Nat.{ℕ}
+use Rattle.std.proofs.Common.{Ok, ◌≡◌, true, List, ℕ}
 use Rattle.register.specs.Limits.{version_one}
 use Rattle.register.specs.Register.{Same, Shaped}
 use Rattle.register.specs.declared.Register.{Register}
 use Rattle.soundness_rules.specs.Sound.{sound}
-use Rattle.refusals.specs.declared.Outcome.TheVariants.{Accepted}
 use Rattle.actions.specs.declared.Action.{Action}
 use Rattle.actions.specs.declared.Plan.{Plan}
 use Rattle.gate_rules.specs.Gate.{gated}
@@ -38,7 +34,7 @@ as_two_plan_text r one = plan_text_alike (as_two r) r (rewriting.as_two_alike r 
 
 -- 2a. The text of a sound register as version 2 has it is accepted, and what is read from it is the register as version 2 has it.
 pub as_two_read : (r : Register) → r.version ≡ version_one → sound r ≡ true → Shaped r
-    → ((register_read (register_text (as_two r))).outcome ≡ Accepted) × Same (register_read (register_text (as_two r))).register (as_two r)
+    → ((register_read (register_text (as_two r))).outcome ≡ Ok tt) × Same (register_read (register_text (as_two r))).register (as_two r)
 as_two_read r one fine shaped = (reading.two_accepted r one fine shaped, reading.two_read r one fine shaped)
 
 -- 2b. Of what is read from it the gate answers as of the register.

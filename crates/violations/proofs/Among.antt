@@ -1,9 +1,5 @@
 -- The violations of flags and of governed entries, one number after the other. Assumes nothing.
-use mathlib.Core.Path.{◌≡◌}
-use mathlib.Core.Bool.{Bool}
-use mathlib.Core.List.{List, [], ◌∷◌, ◌++◌, map}
-use Prim.Native.Nat.{ℕ, ◌/◌, ◌%◌, ◌^◌}
-use lib.Dec.{eqb}
+use Rattle.std.proofs.Common.{◌≡◌, Bool, List, [], ◌∷◌, ◌++◌, map, ℕ, ◌/◌, ◌%◌, ◌^◌, eqb}
 use Rattle.lists.specs.Tests.{cases}
 use Rattle.lists.specs.Filters.{filter_nil, filter_hit, filter_miss}
 use Rattle.lists.specs.Lists.{filter}

@@ -1,6 +1,5 @@
 -- Violations put one list after the other. Assumes nothing.
-use mathlib.Core.Path.{◌≡◌, sym}
-use mathlib.Core.List.{List, ◌∷◌, ◌++◌}
+use Rattle.std.proofs.Common.{◌≡◌, sym, List, ◌∷◌, ◌++◌}
 use Rattle.actions.specs.declared.Violation.{Violation}
 use Rattle.actions.specs.declared.Violations.{Violations}
 use Rattle.violations.specs.Pushed.{pushed, pushed_all}

@@ -1,10 +1,8 @@
 -- Laws: A loop over the numbers from 0 that stores violations behind those of a held list, while there is a place. Assumes nothing.
-use Rattle.std.specs.Prelude.{◌≡◌, refl, Bool, true, false, ◌&&◌, cond, List, [], ◌∷◌, ◌++◌, ℕ, suc, ◌+◌, ◌-◌, ◌≤◌, ◌<◌, ltb, set}
+use Rattle.std.specs.Prelude.{◌≡◌, refl, Bool, true, false, ◌&&◌, cond, List, [], ◌∷◌, ◌++◌, ℕ, suc, ◌+◌, ◌-◌, ◌≤◌, ◌<◌, ltb}
+use Rattle.std.proofs.Common.{◌∙◌, add-one, arith}
 use Rattle.std.proofs.Math.Path.{sym}
-use Rattle.std.proofs.Common.{◌∙◌, add-one, ltb-true}
 use Rattle.std.proofs.Math.Nat.{sub-zero}
-use native.Mathlib.Omega.{arith}
-use Rattle.lists.specs.Tests.{and_right}
 use Rattle.lists.specs.Lists.{counted}
 use Rattle.actions.specs.Actions.{violation_limit}
 use Rattle.actions.specs.declared.Violation.{Violation}
@@ -16,16 +14,11 @@ use Rattle.violations.specs.PushedLaws.{pushed_all_append}
 abbrev pub one_where : Bool → Violation → List Violation
 one_where b v = cond b (v ∷ []) []
 
--- the place that the test asks for
-pub place_left : (b : Bool) (vs : Violations) → b && ltb vs.count violation_limit ≡ true → vs.count < violation_limit
-place_left b vs h = ltb-true vs.count violation_limit (and_right b (ltb vs.count violation_limit) h)
-
--- where the test holds and there is a place, it is stored there
-pub pushing_stored : (b : Bool) (v : Violation) (vs : Violations) → b && ltb vs.count violation_limit ≡ true
-    → ◌≡◌ {A = Violations} (record { list = set vs.list vs.count (record { what = v }); count = vs.count + 1 }) (pushed_all vs (one_where b v))
-unfolding pushed pushed_all
-pushing_stored true v vs h = rw h
-pushing_stored false v vs h = cc
+-- where the test holds, a violation more is the one of the test
+pub pushing_put : (b : Bool) (v : Violation) (vs : Violations) → b ≡ true → pushed vs v ≡ pushed_all vs (one_where b v)
+unfolding pushed_all
+pushing_put true v vs h = refl
+pushing_put false v vs h = cc
 
 -- else all is as it was
 pub pushing_kept : (b : Bool) (v : Violation) (vs : Violations) → b && ltb vs.count violation_limit ≡ false → vs ≡ pushed_all vs (one_where b v)

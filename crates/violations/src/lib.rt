@@ -27,13 +27,18 @@ pub fn none() -> Violations
 pub fn push(mut vs: Violations, v: Violation) -> Violations
     ensures { result ≡ pushed vs v }
 {
+    put(&mut vs, v);
+    vs
+}
+
+// The same, where they stand.
+pub fn put(vs: &mut Violations, v: Violation)
+    ensures { vs.new ≡ pushed vs.old v }
+{
     let at = vs.count;
     if at < Violations::MOST {
         vs.list[at] = Violated { what: v };
-        vs.count = at + 1;
-        vs
-    } else {
-        vs
+        vs.count += 1;
     }
 }
 
@@ -41,18 +46,9 @@ pub fn push(mut vs: Violations, v: Violation) -> Violations
 pub fn push_flags(mut vs: Violations, flags: u32) -> Violations
     ensures { result ≡ pushed_all vs (flags_set flags) }
 {
-    let mut flag: u32 = 0;
-    while flag < Action::FLAGS {
-        let at = vs.count;
-        if ((flags >> flag) % 2 == 1) & (at < Violations::MOST) {
-            let v = Violated {
-                what: Violation::FlagSet(flag),
-            };
-            vs.list[at] = v;
-            vs.count = at + 1;
-            flag += 1;
-        } else {
-            flag += 1;
+    for flag in 0..Action::FLAGS {
+        if (flags >> flag) % 2 == 1 {
+            put(&mut vs, Violation::FlagSet(flag));
         }
     }
     vs
@@ -62,20 +58,8 @@ pub fn push_flags(mut vs: Violations, flags: u32) -> Violations
 pub fn push_governs(mut vs: Violations, a: Action) -> Violations
     ensures { result ≡ pushed_all vs (governed 0 (governs_of a)) }
 {
-    let top = lists::least(a.governed, Action::GOVERNED);
-    let mut position: u32 = 0;
-    while (position as usize) < top {
-        let at = vs.count;
-        if at < Violations::MOST {
-            let v = Violated {
-                what: Violation::MachineGoverns(position),
-            };
-            vs.list[at] = v;
-            vs.count = at + 1;
-            position += 1;
-        } else {
-            position += 1;
-        }
+    for position in 0..a.governed.min(Action::GOVERNED) {
+        put(&mut vs, Violation::MachineGoverns(position as u32));
     }
     vs
 }
@@ -112,15 +96,13 @@ pub fn stopped(why: Refusal) -> Verdict
 pub fn decided(violations: Violations, hops: [usize; Action::USES]) -> Verdict
     ensures { result ≡ record { decision = cond (eqb violations.count 0) Decision.Permitted Decision.Refused; violations = violations; hops = hops } }
 {
-    if violations.count == 0 {
-        return Verdict {
-            decision: Decision::Permitted,
-            violations,
-            hops,
-        };
-    }
+    let decision = if violations.count == 0 {
+        Decision::Permitted
+    } else {
+        Decision::Refused
+    };
     Verdict {
-        decision: Decision::Refused,
+        decision,
         violations,
         hops,
     }

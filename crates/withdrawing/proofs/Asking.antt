@@ -1,11 +1,5 @@
 -- The tests of a revocation asked of the sheet of a register. Assumes nothing.
-use mathlib.Core.Path.{◌≡◌, sym, ap, ◌∙◌, refl}
-use mathlib.Core.Bool.{Bool, true}
-use mathlib.Core.List.{List}
-use Prim.Native.Nat.{ℕ}
-use native.Mathlib.Omega.{arith}
-use lib.Dec.{eqb}
-use lib.ListN.{length, take, get_or}
+use Rattle.std.proofs.Common.{◌≡◌, sym, ap, ◌∙◌, refl, Bool, true, List, ℕ, arith, eqb, length, take, get_or}
 use Rattle.lists.specs.Tests.{cases, eqb_turned}
 use Rattle.lists.specs.Lists.{any}
 use Rattle.lists.specs.Each.{each_all, any_same, any_map, any_reverse}

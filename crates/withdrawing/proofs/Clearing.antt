@@ -1,10 +1,5 @@
 -- What a withdrawal asks of the columns of actors and resources that were found, and the tests of the two clearings. Assumes nothing.
-use mathlib.Core.Path.{◌≡◌, ap, ◌∙◌}
-use mathlib.Core.Bool.{Bool}
-use mathlib.Core.List.{List}
-use Prim.Native.Nat.{ℕ}
-use lib.Dec.{eqb, ltb}
-use lib.ListN.{length, take}
+use Rattle.std.proofs.Common.{◌≡◌, ap, ◌∙◌, Bool, List, ℕ, eqb, ltb, length, take}
 use Rattle.lists.specs.Lists.{any}
 use Rattle.register.specs.Limits.{human_kind, claim_limit, moment_end}
 use Rattle.register.specs.Register.{actors_of, no_actor}

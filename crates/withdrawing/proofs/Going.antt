@@ -1,15 +1,8 @@
 -- Which claims go: a walk up the places of the parents that asks each claim, and whether each claim goes, told in turn. Assumes nothing.
-use mathlib.Core.Path.{◌≡◌, sym, ap, ◌∙◌}
-use mathlib.Core.Bool.{Bool, true, false, ◌||◌, or-false}
-use mathlib.Core.List.{List, [], ◌∷◌, ◌++◌, map, map-append}
-use Prim.Native.Nat.{ℕ, ◌+◌, ◌-◌, ◌≤◌, ◌<◌, min}
-use native.Mathlib.Nat.{zero-add}
-use native.Mathlib.Numerals.{add-one}
-use native.Mathlib.Omega.{arith}
-use borrow.Author.Tests.{ltb-true, ltb-false}
-use lib.Dec.{ltb}
-use lib.ListN.{length, get_or, set, replicate, length-map, length-append, length-replicate}
-use lib.Seq.{get_or-append-add}
+use Rattle.std.proofs.Common.{◌≡◌, sym, ap, ◌∙◌, Bool, false, ◌||◌, List, [], ◌∷◌, ◌++◌, map, ℕ, ◌+◌, ◌-◌, ◌≤◌, ◌<◌, min, zero-add, add-one, arith, ltb-true, ltb-false, ltb, length, get_or, set, replicate, get_or-append-add}
+use mathlib.Core.Bool.{or-false}
+use mathlib.Core.List.{map-append}
+use lib.ListN.{length-map}
 use Rattle.lists.specs.Tests.{cases}
 use Rattle.lists.specs.Lists.{any, counted}
 use Rattle.lists.specs.Counts.{counted_length, counted_last}
@@ -27,9 +20,6 @@ pub record Walk (p : ℕ → Bool) (ups : List ℕ) (at up : ℕ) (e : Bool) : T
   pub ahead : e ≡ any p (at ∷ places_up ups at)
 
 module _ {p : ℕ → Bool} {ups : List ℕ} {at up : ℕ} {e : Bool} (s : Walk p ups at up e) where
-  pub walk_here : p at ≡ true → e ≡ true
-  walk_here h = s.ahead ∙ rw h
-
   pub walk_root : at ≤ up → e ≡ p at
   walk_root h = s.ahead ∙ rw (places_up_none ups at (rw (← s.next) h)) (or-false (p at))
 
@@ -85,13 +75,6 @@ module _ {P : ℕ → Bool} {ups : List ℕ} {top : ℕ} where
           room = s.room;
           told = rw (s.told, own, now, then, more) (put_first (map f (counted 0 i)) claim_limit i false (f i) long (omega (arith, h, s.room)));
         }
-
-    pub telling_length : length gone ≡ claim_limit
-    unfolding gone_by
-    telling_length =
-        rw s.told
-        (length-append (map (goes_at P ups) (counted 0 (min i claim_limit))) (replicate (claim_limit - min i claim_limit) false)
-        ∙ rw (length-map (counted 0 (min i claim_limit)) (goes_at P ups), counted_length 0 (min i claim_limit), length-replicate) (omega arith))
 
     pub telling_done : top ≤ i → (n : ℕ) → top ≡ min n claim_limit → gone ≡ gone_by P ups n
     unfolding gone_by

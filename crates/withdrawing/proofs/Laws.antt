@@ -1,12 +1,9 @@
 -- In a sound register what goes by the places of the parents is what a withdrawal names with all that is drawn from it, so what is struck is what the
 -- withdrawal leaves. Assumes nothing.
-use mathlib.Core.Path.{◌≡◌, refl, ap, sym, ◌∙◌, fun_ext}
-use mathlib.Core.Bool.{Bool, true, false, ◌||◌}
-use mathlib.Core.List.{List, map}
-use Prim.Native.Nat.{ℕ, zero, suc, ◌-◌, ◌≤◌, ◌<◌, min}
-use native.Mathlib.Nat.{zero-add}
-use native.Mathlib.Omega.{arith}
-use lib.ListN.{length, take, get_or, replicate, length-take, length-map, length-reverse, get_or-map, get_or-append}
+use Rattle.std.proofs.Common.{Result, Ok, ◌≡◌, refl, ap, sym, ◌∙◌, Bool, true, false, ◌||◌, List, map, ℕ, zero, suc, ◌-◌, ◌≤◌, ◌<◌, min, zero-add, arith, length, take, get_or, replicate, length-take}
+use Rattle.refusals.specs.declared.Refusal.{Refusal}
+use mathlib.Core.Path.{fun_ext}
+use lib.ListN.{length-map, length-reverse, get_or-map, get_or-append}
 use Rattle.lists.specs.Lists.{any, Each, counted}
 use Rattle.lists.specs.Counts.{counted_length}
 use Rattle.lists.specs.Each.{any_map}
@@ -31,8 +28,6 @@ use Rattle.lookup.specs.Walks.{above_natural, sheet_few, sheet_numbered}
 use Rattle.refusals.specs.Refusals.{outcome_of}
 use Rattle.change_rules.specs.Changes.{Withdrawal, revoke, clear_resource, clear_expired, names, unstruck, revoke_tests, clear_resource_tests, clear_expired_tests, withdraw_tests, withdrawn}
 use Rattle.refusals.proofs.Laws.{outcome_cases, outcome_accepted}
-use Rattle.refusals.specs.declared.Outcome.{Outcome}
-use Rattle.refusals.specs.declared.Outcome.TheVariants.{Accepted}
 use Rattle.withdrawing.specs.Struck.{goes_at, gone_by, staying, spared, struck_claims, struck_of}
 use Rattle.withdrawing.specs.declared.Struck.{Struck}
 
@@ -113,7 +108,7 @@ module _ (r : Register) (long : length r.claims.list ≡ claim_limit) (whole : s
       ∙ ap (λ l. strike claim_id parent_of P (latest l)) (sheet_claims r.claims long))
 
 -- only in a sound register is a withdrawal accepted
-withdraw_judged : (r : Register) (w : Withdrawal) → outcome_of (withdraw_tests r w) ≡ Accepted → sound r ≡ true
+withdraw_judged : (r : Register) (w : Withdrawal) → outcome_of (withdraw_tests r w) ≡ Ok tt → sound r ≡ true
 unfolding revoke_tests clear_resource_tests clear_expired_tests
 withdraw_judged r (revoke who x) h = outcome_accepted _ _ h
 withdraw_judged r (clear_resource who o) h = outcome_accepted _ _ h
@@ -132,7 +127,7 @@ struck_natural r long w = outcome_cases (outcome_of (withdraw_tests r w))
     (λ why refused. rw refused)
 
 -- so it is where each part is told of a register that was examined
-pub struck_told : (r : Register) → length r.claims.list ≡ claim_limit → (w : Withdrawal) {s : List ℕ} {found : Findings} {gone : List Bool} {told : Outcome} {y : Struck}
+pub struck_told : (r : Register) → length r.claims.list ≡ claim_limit → (w : Withdrawal) {s : List ℕ} {found : Findings} {gone : List Bool} {told : Result Unit Refusal} {y : Struck}
     → Opened r s found → gone ≡ gone_by (λ j. names w (claim_at s j)) found.ups r.claims.count → told ≡ outcome_of (withdraw_tests r w)
     → y ≡ struck_claims r.claims s gone told → y ≡ struck_of (withdrawn r w)
 struck_told r long w {s} {found} {gone} {told} opened named decided e =

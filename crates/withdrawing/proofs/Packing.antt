@@ -1,11 +1,7 @@
 -- The claims that stay put one behind the other into a list of zero claims. Assumes nothing.
-use mathlib.Core.Path.{◌≡◌, refl, sym, ap, ◌∙◌}
-use mathlib.Core.Bool.{Bool, true, false}
-use mathlib.Core.List.{List, [], ◌∷◌, ◌++◌, map, reverse-cons}
-use Prim.Native.Nat.{min, ℕ, ◌+◌, ◌-◌, ◌≤◌, ◌<◌}
-use native.Mathlib.Numerals.{add-one}
-use native.Mathlib.Omega.{arith}
-use lib.ListN.{length, get_or, set, replicate, length-reverse}
+use Rattle.std.proofs.Common.{Result, Err, Ok, ◌≡◌, refl, sym, ap, ◌∙◌, Bool, true, false, List, [], ◌∷◌, ◌++◌, map, min, ℕ, ◌+◌, ◌-◌, ◌≤◌, ◌<◌, add-one, arith, length, get_or, set, replicate}
+use mathlib.Core.List.{reverse-cons}
+use lib.ListN.{length-reverse}
 use Rattle.lists.specs.Fills.{put_first}
 use Rattle.lists.specs.Filters.{dropping_nil, dropping_hit, dropping_miss}
 use Rattle.register.specs.Limits.{claim_limit}
@@ -15,8 +11,6 @@ use Rattle.register.specs.declared.Claim.{Claim}
 use Rattle.register.specs.declared.Claims.{Claims}
 use Rattle.columns.specs.Columns.{places}
 use Rattle.columns.specs.Sheet.{claim_at}
-use Rattle.refusals.specs.declared.Outcome.{Outcome}
-use Rattle.refusals.specs.declared.Outcome.TheVariants.{Accepted, Refused}
 use Rattle.refusals.specs.declared.Refusal.{Refusal}
 use Rattle.withdrawing.specs.Struck.{staying, spared, packed_claims, struck_claims}
 use Rattle.withdrawing.specs.declared.Struck.{Struck}
@@ -85,13 +79,13 @@ unfolding packed_claims
 packed_count s n gone = refl
 
 -- what is struck: those that stay with the zero claim behind them, or all as it came
-module _ (k : Claims) (s : List ℕ) (gone : List Bool) {o : Outcome} where
-  pub struck_accepted : o ≡ Accepted → {claims : Claims} {n : ℕ} → claims ≡ packed_claims s k.count gone
+module _ (k : Claims) (s : List ℕ) (gone : List Bool) {o : Result Unit Refusal} where
+  pub struck_accepted : o ≡ Ok tt → {claims : Claims} {n : ℕ} → claims ≡ packed_claims s k.count gone
       → n ≡ min k.count claim_limit - length (spared s k.count gone)
-      → ◌≡◌ {A = Struck} (record { claims = claims; removed = n; outcome = Accepted }) (struck_claims k s gone o)
+      → ◌≡◌ {A = Struck} (record { claims = claims; removed = n; outcome = o }) (struck_claims k s gone o)
   unfolding struck_claims packed_claims
   struck_accepted h packed went = rw (packed, went, h)
 
-  pub struck_refused : {why : Refusal} → o ≡ Refused why → ◌≡◌ {A = Struck} (record { claims = k; removed = 0; outcome = Refused why }) (struck_claims k s gone o)
+  pub struck_refused : {why : Refusal} → o ≡ Err why → ◌≡◌ {A = Struck} (record { claims = k; removed = 0; outcome = o }) (struck_claims k s gone o)
   unfolding struck_claims
   struck_refused h = rw h

@@ -1,6 +1,6 @@
 -- Working: What is left of a register's claims when some go, as one pass over them finds it: each is looked at with the claims above it by the places of
 -- the parents. Shaped for the code; in a sound register it is what `strike` leaves (Laws).
-use Rattle.std.specs.Prelude.{Bool, false, cond, List, ◌∷◌, [], ◌++◌, map, ℕ, ◌-◌, min, length, get_or, replicate}
+use Rattle.std.specs.Prelude.{Bool, false, cond, List, ◌∷◌, [], ◌++◌, map, ℕ, ◌-◌, min, length, get_or, replicate, Result}
 use Rattle.lists.specs.Lists.{any, counted, dropping}
 use Rattle.register.specs.Limits.{claim_limit}
 use Rattle.register.specs.Register.{no_claim}
@@ -10,7 +10,6 @@ use Rattle.register.specs.declared.Claims.{Claims}
 use Rattle.columns.specs.Sheet.{claim_at}
 use Rattle.columns.specs.Columns.{places, places_up}
 use Rattle.refusals.specs.Refusals.{Test, is_accepted}
-use Rattle.refusals.specs.declared.Outcome.{Outcome}
 use Rattle.refusals.specs.declared.Refusal.{Refusal}
 use Rattle.refusals.specs.declared.Refusal.TheVariants.{Unsound, NoGrantor}
 use Rattle.change_rules.specs.declared.Revoked.{Revoked}
@@ -49,7 +48,7 @@ packed_claims s n gone = record {
 }
 
 -- with an outcome: accepted, those that go are gone; refused, the claims are as they came
-unfoldable pub struck_claims : Claims → List ℕ → List Bool → Outcome → Struck
+unfoldable pub struck_claims : Claims → List ℕ → List Bool → Result Unit Refusal → Struck
 struck_claims k s gone o = record {
   claims = cond (is_accepted o) (record {
     list = spared s k.count gone ++ replicate (claim_limit - length (spared s k.count gone)) no_claim;

@@ -8,18 +8,18 @@
 // striking are shared by the three.
 #![tactic(auto)]
 
-ghost use Rattle.std.specs.Prelude.{◌≡◌, false, eqb, get_or, ◌∷◌};
+ghost use Rattle.std.specs.Prelude.{◌≡◌, ℕ, ◌<◌, Bool, false, eqb, get_or, ◌∷◌};
 ghost use Rattle.lists.specs.Lists.{any};
 ghost use Rattle.refusals.specs.Refusals.{outcome_of};
 ghost use Rattle.change_rules.specs.Changes.{revoke, withdrawn, clear_resource, clear_expired};
 ghost use Rattle.withdrawing.specs.Struck.{struck_claims, asked_tests, gone_by, packed_claims, struck_of};
+ghost use Rattle.register.specs.Limits.{claim_limit};
 ghost use Rattle.register.specs.Chain.{expired};
 ghost use Rattle.columns.specs.Columns.{latest_place, places_up};
 ghost use Rattle.columns.specs.Sheet.{claim_at};
 ghost use Rattle.lookup.specs.Walks.{up_from};
 
-use columns::Place;
-use refusals::{Outcome, Refusal};
+use refusals::Refusal;
 use register::{Actor, Claim, Claims, Register};
 
 // The claims that are left and how many went, beside the outcome. Refused: the claims as they came, and none.
@@ -27,7 +27,7 @@ use register::{Actor, Claim, Claims, Register};
 pub struct Struck {
     pub claims: Claims,
     pub removed: usize,
-    pub outcome: Outcome,
+    pub outcome: Result<(), Refusal>,
 }
 
 // The outcome of a withdrawal's tests, where it is told whether each is passed: the first asks for a sound register, the last for one who
@@ -39,22 +39,22 @@ fn outcome(
     stands: bool,
     absent: Refusal,
     may: bool,
-) -> Outcome
+) -> Result<(), Refusal>
     ensures { result ≡ outcome_of (asked_tests whole known unknown stands absent may) }
 {
     if !whole {
-        return Outcome::Refused(Refusal::Unsound);
+        return Err(Refusal::Unsound);
     }
     if !known {
-        return Outcome::Refused(unknown);
+        return Err(unknown);
     }
     if !stands {
-        return Outcome::Refused(absent);
+        return Err(absent);
     }
     if !may {
-        return Outcome::Refused(Refusal::NoGrantor);
+        return Err(Refusal::NoGrantor);
     }
-    Outcome::Accepted
+    Ok(())
 }
 
 // Whether `who` granted the claim at the place `from` or one above it. `ups` has for each place that of the parent.
@@ -86,8 +86,8 @@ fn grants_on<'a>(
 {
     let place = columns::latest_place(ids, n, x);
     match place {
-        Place::At(at) => grants_up(ups, grantors, at, who),
-        Place::Nowhere => false,
+        Some(at) => grants_up(ups, grantors, at, who),
+        None => false,
     }
 }
 
@@ -98,20 +98,25 @@ fn is_marked(marks: &[bool], at: usize) -> bool
     if at < marks.len() { marks[at] } else { false }
 }
 
-// Of the first `n` claims, those go that have `x` in the column, and those that are drawn from one that goes: a parent stands earlier, so
+// Of the first `n` claims, those go that are named by their place, and those that are drawn from one that goes: a parent stands earlier, so
 // whether it goes is known.
+fn gone_by<F: Fn(usize) -> bool>(named: F, ups: &[u16], n: usize) -> [bool; Register::CLAIMS]
+    requires { F.IsAlwaysCallable named }
+    ensures { (P : ℕ → Bool) → ((j : ℕ) → j < claim_limit → (b : Bool) → F.post named j b → b ≡ P j) → result ≡ gone_by P ups.now n }
+{
+    let mut gone = [false; Register::CLAIMS];
+    for i in 0..n.min(Register::CLAIMS) {
+        let up = columns::place_above(ups, i);
+        gone[i] = named(i) | is_marked(&gone, up);
+    }
+    gone
+}
+
+// Of the first `n` claims, those go that have `x` in the column, and those that are drawn from one that goes.
 fn gone_with<'a>(ups: &'a [u16], column: &'a [u32], n: usize, x: u32) -> [bool; Register::CLAIMS]
     ensures { result ≡ gone_by (λ j. eqb (get_or column.now j 0) x) ups.now n }
 {
-    let top = lists::least(n, Register::CLAIMS);
-    let mut gone = [false; Register::CLAIMS];
-    let mut i: usize = 0;
-    while i < top {
-        let up = columns::place_above(ups, i);
-        gone[i] = (columns::number_at(column, i) == x) | is_marked(&gone, up);
-        i += 1;
-    }
-    gone
+    gone_by(|j| columns::number_at(column, j) == x, ups, n)
 }
 
 // Whether a claim has expired at the moment: its expiry, 0 for never, is not above it.
@@ -130,16 +135,7 @@ fn gone_expired<'a>(
 ) -> [bool; Register::CLAIMS]
     ensures { result ≡ gone_by (λ j. expired moment (claim_at sheet.now j)) ups.now n }
 {
-    let top = lists::least(n, Register::CLAIMS);
-    let mut gone = [false; Register::CLAIMS];
-    let mut i: usize = 0;
-    while i < top {
-        let up = columns::place_above(ups, i);
-        let c = columns::claim_at(sheet, i);
-        gone[i] = is_expired(c, moment) | is_marked(&gone, up);
-        i += 1;
-    }
-    gone
+    gone_by(|j| is_expired(columns::claim_at(sheet, j), moment), ups, n)
 }
 
 // Of the first `n` claims of a sheet those that stay, in their order, and the zero claim in every place behind them.
@@ -149,38 +145,32 @@ fn packed(sheet: &[u32], n: usize, gone: &[bool]) -> Claims
     let none = Claim::none();
     let mut list = [none; Register::CLAIMS];
     let mut kept: usize = 0;
-    let mut i: usize = 0;
-    let top = lists::least(n, Register::CLAIMS);
-    while i < top {
-        if is_marked(gone, i) {
-            i += 1;
-        } else {
+    for i in 0..n.min(Register::CLAIMS) {
+        if !is_marked(gone, i) {
             list[kept] = columns::claim_at(sheet, i);
             kept += 1;
-            i += 1;
         }
     }
     Claims { list, count: kept }
 }
 
 // Strikes the claims that go, which a sheet has too, where the outcome lets them.
-fn strike(k: Claims, sheet: &[u32], gone: &[bool], outcome: Outcome) -> Struck
+fn strike(k: Claims, sheet: &[u32], gone: &[bool], outcome: Result<(), Refusal>) -> Struck
     ensures { result ≡ struck_claims k sheet.now gone.now outcome }
 {
     match outcome {
-        Outcome::Accepted => {
-            let top = lists::least(k.count, Register::CLAIMS);
+        Ok(()) => {
             let claims = packed(sheet, k.count, gone);
             Struck {
                 claims,
-                removed: top - claims.count,
-                outcome: Outcome::Accepted,
+                removed: k.count.min(Register::CLAIMS) - claims.count,
+                outcome,
             }
         }
-        Outcome::Refused(why) => Struck {
+        Err(_) => Struck {
             claims: k,
             removed: 0,
-            outcome: Outcome::Refused(why),
+            outcome,
         },
     }
 }

@@ -1,9 +1,6 @@
 -- A text that is found to be another is delivered as that one; and each table of the code is the one of the definitions, a line feed behind each
 -- text. Assumes nothing.
-use Prim.Native.Nat.{ℕ, min}
-use mathlib.Core.Path.{◌≡◌, refl, ap, ◌∙◌}
-use mathlib.Core.List.{List, [], ◌∷◌, ◌++◌}
-use lib.ListN.{length}
+use Rattle.std.proofs.Common.{ℕ, min, ◌≡◌, refl, ap, ◌∙◌, List, [], ◌∷◌, ◌++◌, length}
 use Rattle.buffers.specs.Buffers.{put}
 use Rattle.buffers.specs.Delivery.{delivered}
 use Rattle.buffers.specs.declared.Written.{Written}

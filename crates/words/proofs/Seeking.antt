@@ -1,11 +1,5 @@
 -- The walk through a table: what was passed of the text at hand, and the places still to go, give the text that is sought. Assumes nothing.
-use Prim.Native.Nat.{ℕ, suc, ◌+◌, ◌-◌, ◌≤◌, ◌<◌}
-use mathlib.Core.Path.{◌≡◌, sym, ap, ◌∙◌}
-use mathlib.Core.List.{List, [], ◌∷◌, ◌++◌}
-use native.Mathlib.Omega.{arith}
-use native.Mathlib.Numerals.{add-one}
-use lib.ListN.{length, take, drop, get_or, length-drop, drop_of_length-le}
-use lib.Seq.{drop-cons, take-suc, get_or-drop}
+use Rattle.std.proofs.Common.{ℕ, suc, ◌+◌, ◌-◌, ◌≤◌, ◌<◌, ◌≡◌, sym, ap, ◌∙◌, List, [], ◌∷◌, ◌++◌, arith, add-one, length, take, drop, get_or, length-drop, drop_of_length-le, drop-cons, take-suc, get_or-drop}
 use Rattle.lines.specs.Lines.{line_feed}
 use Rattle.words.specs.Tables.{text_at, text_end, text_here, text_later, text_more}
 

@@ -1,13 +1,7 @@
 -- The proofs of Theorems: no text of a number is above the limit, and none that a call can give is the text of unknown numbers. Assumes nothing.
-use Prim.Native.Nat.{ℕ, ◌≤◌}
-use mathlib.Core.Path.{◌≡◌, refl, ap, ◌∙◌}
-use mathlib.Core.Bool.{true, false}
-use mathlib.Core.List.{List}
+use Rattle.std.proofs.Common.{ℕ, ◌≤◌, ◌≡◌, refl, ap, ◌∙◌, true, false, List, arith, leb-true, leb, length, get_or}
 use native.Mathlib.Decide.{dec_lt}
-use native.Mathlib.Omega.{arith}
-use borrow.Author.Tests.{leb-true}
-use lib.Dec.{leb}
-use lib.ListN.{length, get_or, get_or-eq_default}
+use lib.ListN.{get_or-eq_default}
 use Rattle.lists.specs.Lists.{every, same}
 use Rattle.lists.specs.Each.{every_at}
 use Rattle.lists.specs.Tests.{clash}

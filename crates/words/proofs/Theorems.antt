@@ -1,8 +1,6 @@
 -- What the words tell: every refusal that a call gives and every violation that a verdict lists has a text that says more than that the number is
 -- unknown, and no text of a number is longer than 128 bytes. Assumes nothing.
-use Prim.Native.Nat.{ℕ, ◌≤◌}
-use mathlib.Core.Path.{◌≡◌}
-use lib.ListN.{length}
+use Rattle.std.proofs.Common.{ℕ, ◌≤◌, ◌≡◌, length}
 use Rattle.refusals.specs.Refusals.{number_of}
 use Rattle.refusals.specs.declared.Refusal.{Refusal}
 use Rattle.actions.specs.Actions.{kind_of}

@@ -28,17 +28,13 @@ fn text_at(table: &[u8], place: usize) -> &[u8]
 {
     let mut left = place;
     let mut from: usize = 0;
-    let mut i: usize = 0;
-    while i < table.len() {
-        if table[i] == LINE_FEED {
+    for (i, b) in table.iter().enumerate() {
+        if *b == LINE_FEED {
             if left == 0 {
                 return &table[from..i];
             }
             left -= 1;
-            i += 1;
-            from = i;
-        } else {
-            i += 1;
+            from = i + 1;
         }
     }
     &table[..0]
@@ -50,7 +46,7 @@ fn write_text(buf: &mut [u8], table: &[u8], number: u32, count: usize) -> Writte
     ensures answer { result ≡ delivered (text_at (min number count) [] table.now) buf.old }
     ensures buffer { buf.new ≡ put 0 (text_at (min number count) [] table.now) buf.old }
 {
-    let place = lists::least(number as usize, count);
+    let place = (number as usize).min(count);
     buffers::deliver(buf, text_at(table, place))
 }
 

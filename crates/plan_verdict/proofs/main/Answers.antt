@@ -1,8 +1,5 @@
 -- What `main` shows is within the buffer (`delivered_within`). Assumes nothing.
-use Rattle.std.proofs.Common.{◌≡◌, ◌≤◌, ℕ, List, length}
-use mathlib.Core.Path.{sym, ap}
-use native.Mathlib.Omega.{arith}
-use lib.Seq.{length-take-le}
+use Rattle.std.proofs.Common.{◌≡◌, ◌≤◌, ℕ, List, length, sym, ap, arith, length-take-le}
 use Rattle.buffers.specs.declared.Written.{Written}
 use Rattle.buffers.specs.Delivery.{delivered}
 use Rattle.buffers.specs.Laws.{delivered_within}

@@ -1,6 +1,5 @@
--- `portal::guvrendik_sound_table` meets its contract: each turn takes one record more into the sheet, and what is found of the sheet with all of
--- them is what is found of the table. Assumes nothing.
-use Rattle.std.proofs.Common.{refl, ◌∙◌}
+-- Each turn takes one record more into the sheet, and what is found of the sheet with all of them is what is found of the table.
+use Rattle.std.proofs.Common.{◌≡◌, refl, ◌∙◌, arith, length}
 use Rattle.portal.proofs.Taking.{taken_none, taken_next, taken_all, too_many}
 use Rattle.portal.proofs.guvrendik_sound_table.Goals as goal
 
@@ -19,5 +18,6 @@ loop-i-preserved c = record {
 
 pub returns : goal.returns
 returns c =
+    let whole : c.loop-i.i ≡ length c.args.claims.now = omega arith in
     taken_all c.loop-i.invariant.taken c.if-claims-gt-CLAIMS.false c.args.version c.args.actors c.args.resources c.loop-i-test.false
-    c.sheet_answer.ensures
+    (rw (← whole) at c.sheet_answer.ensures)

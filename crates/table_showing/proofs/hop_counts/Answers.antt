@@ -1,0 +1,6 @@
+-- `table_showing::hop_counts`: the answers to the goals that the check leaves open. Assumes nothing.
+use Rattle.lists.specs.Fills.{filling_next}
+use Rattle.table_showing.proofs.hop_counts.Goals as goal
+
+pub loop-i-preserved : goal.loop-i-preserved
+loop-i-preserved c = filling_next c.loop-i.invariant _ c.loop-i-test.true c.from.ensures
