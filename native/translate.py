@@ -138,6 +138,8 @@ def module(header, calls, text):
         sys.exit(f"header and module differ in {sorted(lines.keys() ^ {name for name, _, _ in calls})}")
     text = re.sub(r"^target (datalayout|triple).*\n", "", text, flags=re.M)
     text = re.sub(r'"(target-cpu|target-features|tune-cpu)"="[^"]*"', "", text)
+    # The same number, which is made 64 bits wide where a pointer has 32.
+    text = re.sub(r"\bptrtoaddr ptr ", "ptrtoint ptr ", text)
     text = re.sub(r"^define (.*?)@guvrendik_", r"define internal \1@by_value_", text, flags=re.M)
     return text + "".join("\n" + around(header, call, *lines[call[0]]) for call in calls)
 
