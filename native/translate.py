@@ -131,6 +131,18 @@ def around(header, call, line, said):
     return "\n".join([f"define hidden void @{INNER}{name}({', '.join(head)}) {said} {{", *body, "  ret void", "}", ""])
 
 
+PAIR = r"""  \1.first = load \2, ptr \3, align 1
+  \1.place = getelementptr i8, ptr \3, i64 8
+  \1.second = load ptr, ptr \1.place, align 1
+  \1.half = insertvalue { \2, ptr } undef, \2 \1.first, 0
+  \1 = insertvalue { \2, ptr } \1.half, ptr \1.second, 1"""
+TURNED = r"""  \1.first = load ptr, ptr \3, align 1
+  \1.place = getelementptr i8, ptr \3, i64 8
+  \1.second = load \2, ptr \1.place, align 1
+  \1.half = insertvalue { ptr, \2 } undef, ptr \1.first, 0
+  \1 = insertvalue { ptr, \2 } \1.half, \2 \1.second, 1"""
+
+
 def module(header, calls, text):
     found = re.findall(rf'^(define internal [^\n]* @"{CRATE}::guvrendik_(\w+)"\([^\n]*\)) (#\d+) \{{$', text, flags=re.M)
     lines = {name: (line, said) for line, name, said in found}
@@ -138,6 +150,9 @@ def module(header, calls, text):
         sys.exit(f"header and module differ in {sorted(lines.keys() ^ {name for name, _, _ in calls})}")
     text = re.sub(r"^target (datalayout|triple).*\n", "", text, flags=re.M)
     text = re.sub(r'"(target-cpu|target-features|tune-cpu)"="[^"]*"', "", text)
+    # A pair with an address keeps the places that it has with addresses of eight bytes.
+    text = re.sub(r"^  (%\w+) = load \{ (i8|i64), ptr \}, ptr (%\w+), align \d+$", PAIR, text, flags=re.M)
+    text = re.sub(r"^  (%\w+) = load \{ ptr, (i8|i64) \}, ptr (%\w+), align \d+$", TURNED, text, flags=re.M)
     # The same number, which is made 64 bits wide where a pointer has 32.
     text = re.sub(r"\bptrtoaddr ptr ", "ptrtoint ptr ", text)
     text = re.sub(r"^define (.*?)@guvrendik_", r"define internal \1@by_value_", text, flags=re.M)
