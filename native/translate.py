@@ -12,8 +12,9 @@ Written are
     FOLDER/values.c   the calls by value of the header, in C over the inner functions
     FOLDER/places.c   for a processor of 32 bits: the calls by pointer, with 32 bits to a length
 
-Each call of the header must be in the module with the parameters that its declaration gives it, and no other may be there. Nor may anything that
-is not the same with addresses of four bytes as with eight: no line of a function is changed, so it would be another program there, without a word.
+Each call of the header must be in the module with the parameters that its declaration gives it, and no other may be there. No line of a function is
+changed: a module that has an address as a number, or one within a type that is loaded, stored or laid out, is refused, since that lies elsewhere where an
+address has four bytes.
 """
 import re
 import sys
@@ -26,8 +27,11 @@ ALIGNED = {"uint8_t": 1, "uint32_t": 4, "uint64_t": 8, "size_t": 8}
 BITS = {1: "i8", 4: "i32", 8: "i64"}
 ALIGN = {"i8": 1, "i32": 4, "i64": 8, "ptr": 8}
 HEAD = "/* Written by native/translate.py. */\n"
-# An address as a number, a pair with an address that is no slice's, whose length lies behind eight bytes in either case, and a table of addresses.
-OTHERWISE = r"\bptrtoaddr\b|\b(?:load|store) \{ (?!ptr, i64 \})[^}\n]*\bptr\b|^@[^=]*= [^\n]*\bconstant [^\n]*\bptr\b"
+# An address as a number; and a type with an address in it, where something lies, but for a slice's, whose length lies behind eight bytes in either case.
+NUMBER = r"\b(?:ptrtoaddr|ptrtoint|inttoptr)\b"
+LIES = r"^(?:  (?:%\S+ = )?(?:load|store|alloca|getelementptr)|@.* (?:global|constant)) .*$"
+SLICE = "{ ptr, i64 }"
+WITHIN = r"(?<!load )(?<!alloca )\bptr(?=\s*[,}\]>])"
 
 
 def declared(header):
@@ -134,14 +138,20 @@ def around(header, call, line, said):
     return "\n".join([f"define hidden void @{INNER}{name}({', '.join(head)}) {said} {{", *body, "  ret void", "}", ""])
 
 
+def elsewhere(text):
+    """The lines of the module that are another thing where an address has four bytes."""
+    laid = [line for line in re.findall(LIES, text, flags=re.M) if re.search(WITHIN, line.replace(SLICE, ""))]
+    return re.findall(rf"^.*{NUMBER}.*$", text, flags=re.M) + laid
+
+
 def module(header, calls, text):
     found = re.findall(rf'^(define internal [^\n]* @"{CRATE}::guvrendik_(\w+)"\([^\n]*\)) (#\d+) \{{$', text, flags=re.M)
     lines = {name: (line, said) for line, name, said in found}
     if lines.keys() != {name for name, _, _ in calls}:
         sys.exit(f"header and module differ in {sorted(lines.keys() ^ {name for name, _, _ in calls})}")
-    otherwise = re.search(OTHERWISE, text, flags=re.M)
-    if otherwise:
-        sys.exit(f"not the same with addresses of four bytes: {otherwise[0][:100]}")
+    other = elsewhere(text)
+    if other:
+        sys.exit(f"not the same with addresses of four bytes: {other[0][:100]}")
     text = re.sub(r"^target (datalayout|triple).*\n", "", text, flags=re.M)
     text = re.sub(r'"(target-cpu|target-features|tune-cpu)"="[^"]*"', "", text)
     text = re.sub(r"^define (.*?)@guvrendik_", r"define internal \1@by_value_", text, flags=re.M)

@@ -1,7 +1,7 @@
 -- The definitions of lines at a position of a text: what one byte more, or one answer more, makes of them. Assumes nothing.
-use Rattle.std.proofs.Common.{ℕ, ◌+◌, ◌-◌, ◌≤◌, ◌<◌, Some, None, ◌&&◌, ◌≡◌, refl, ap, ◌∙◌, List, [], ◌∷◌, ◌++◌, Bool, true, false, cond, arith, eqb, length, get_or, take, drop, replicate, drop_of_length-le, length-append, length-drop, drop-drop, eq-eqb, ne_eqb, le-leb, lt-ltb, le-ltb}
+use Rattle.std.proofs.Common.{ℕ, ◌+◌, ◌-◌, ◌≤◌, ◌<◌, nat_eq, Some, None, ◌&&◌, ◌≡◌, refl, ap, ◌∙◌, List, [], ◌∷◌, ◌++◌, Bool, true, false, cond, arith, eqb, length, get_or, drop, replicate, drop_of_length-le, length-append, length-drop, drop-drop, eq-eqb, ne_eqb, le-leb, lt-ltb, le-ltb}
+use Rattle.std.specs.List.{starts_with}
 use borrow.Author.Tests.{lt-leb}
-use Rattle.lists.specs.Lists.{same}
 use Rattle.register.specs.Limits.{path_limit, path_byte_least, path_byte_greatest}
 use Rattle.decimals.specs.Decimals.{Parsed, got, large, bad, parse}
 use Rattle.decimals.specs.Walk.{drop_byte}
@@ -9,23 +9,12 @@ use Rattle.lines.specs.Lines.{line_feed, Line, line, beyond, fault, begins, ende
 use Rattle.lines.specs.Answers.{PathSays}
 use Rattle.lines.proofs.Laws.{begins_split, limited_read, decimal_line_length}
 
--- a key that is longer than the text
-pub begins_long : (key t : List ℕ) → length t < length key → begins key t ≡ false
-unfolding begins
-begins_long [] t h = absurd (omega arith)
-begins_long (k ∷ key) [] h = refl
-begins_long (k ∷ key) (b ∷ t) h = rw (begins_long key t (omega arith)) (go (eqb k b))
-  where
-    go : (x : Bool) → cond x false false ≡ false
-    go true = refl
-    go false = refl
-
 -- a text begins with a key where as many bytes at its front are the key's
-pub same_begins : (key t : List ℕ) → same key (take (length key) t) ≡ begins key t
-unfolding same begins
-same_begins [] t = refl
-same_begins (k ∷ key) [] = refl
-same_begins (k ∷ key) (b ∷ t) = rw (same_begins key t) (go (eqb k b) (begins key t))
+pub begins_starts : (key t : List ℕ) → starts_with nat_eq t key ≡ begins key t
+unfolding begins
+begins_starts [] t = refl
+begins_starts (k ∷ key) [] = refl
+begins_starts (k ∷ key) (b ∷ t) = rw (begins_starts key t) (go (eqb k b) (begins key t))
   where
     go : (x y : Bool) → (x && y) ≡ cond x y false
     go true y = refl

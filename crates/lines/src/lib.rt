@@ -102,10 +102,7 @@ fn has_key(s: &[u8], at: usize, key: &[u8]) -> bool
     requires { at ≤ length s.now }
     ensures { result ≡ begins key.now (drop at s.now) }
 {
-    if s.len() - at < key.len() {
-        return false;
-    }
-    lists::is_same(key, &s[at..at + key.len()])
+    s[at..].starts_with(key)
 }
 
 // The line of `key`, which ends with '=', with a number up to `greatest`.
