@@ -59,17 +59,11 @@ for_arm() {
         program $arm aarch64elf $at/libguvrendik.a $at/explain native/explain.c
 }
 
-# Without a machine's memory calls and stack probes; the stack holds every call, and what a caller puts stands behind it. A table of addresses keeps
-# the eight bytes that each has in the module, of which the first four hold it.
+# Without a machine's memory calls and stack probes; the stack holds every call, and what a caller puts stands behind it.
 for_wasm() {
     local at=target/wasm32 target=wasm32-unknown-unknown
     rm -rf $at && mkdir -p $at && ln -sf "$toolchain/bin/ld.lld" target/plain/wasm-ld &&
-        sed -E 's/"probe-stack"="inline-asm"//
-            /^@[^ ]+ = .*constant <\{ /{
-                s/ptr (getelementptr \(i8, )ptr (@[^ ,]+, i64 [0-9]+\))/ADDRESS \1ADDRESS \2, [4 x i8] zeroinitializer/g
-                s/\bptr\b/ptr, [4 x i8]/g
-                s/ADDRESS/ptr/g
-            }' target/plain/module.ll >target/plain/wasm.ll &&
+        sed 's/"probe-stack"="inline-asm"//' target/plain/module.ll >target/plain/wasm.ll &&
         "$clang" --target=$target -Wno-override-module -mbulk-memory $careful -O3 -c -x ir target/plain/wasm.ll -o target/plain/wasm.o &&
         c $target target/plain/places.c target/plain/places.o -mbulk-memory &&
         target/plain/wasm-ld --no-entry --strip-all --export=__heap_base -z stack-size=262144 --initial-memory=1048576 \

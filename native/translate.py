@@ -12,7 +12,9 @@ Written are
     FOLDER/values.c   the calls by value of the header, in C over the inner functions
     FOLDER/places.c   for a processor of 32 bits: the calls by pointer, with 32 bits to a length
 
-Each call of the header must be in the module with the parameters that its declaration gives it, and no other may be there.
+Each call of the header must be in the module with the parameters that its declaration gives it, and no other may be there. No line of a function is
+changed: a module that has an address as a number, or one within a type that is loaded, stored or laid out, is refused, since that lies elsewhere where an
+address has four bytes.
 """
 import re
 import sys
@@ -25,6 +27,11 @@ ALIGNED = {"uint8_t": 1, "uint32_t": 4, "uint64_t": 8, "size_t": 8}
 BITS = {1: "i8", 4: "i32", 8: "i64"}
 ALIGN = {"i8": 1, "i32": 4, "i64": 8, "ptr": 8}
 HEAD = "/* Written by native/translate.py. */\n"
+# An address as a number; and a type with an address in it, where something lies, but for a slice's, whose length lies behind eight bytes in either case.
+NUMBER = r"\b(?:ptrtoaddr|ptrtoint|inttoptr)\b"
+LIES = r"^(?:  (?:%\S+ = )?(?:load|store|alloca|getelementptr)|@.* (?:global|constant)) .*$"
+SLICE = "{ ptr, i64 }"
+WITHIN = r"(?<!load )(?<!alloca )\bptr(?=\s*[,}\]>])"
 
 
 def declared(header):
@@ -131,16 +138,10 @@ def around(header, call, line, said):
     return "\n".join([f"define hidden void @{INNER}{name}({', '.join(head)}) {said} {{", *body, "  ret void", "}", ""])
 
 
-PAIR = r"""  \1.first = load \2, ptr \3, align 1
-  \1.place = getelementptr i8, ptr \3, i64 8
-  \1.second = load ptr, ptr \1.place, align 1
-  \1.half = insertvalue { \2, ptr } undef, \2 \1.first, 0
-  \1 = insertvalue { \2, ptr } \1.half, ptr \1.second, 1"""
-TURNED = r"""  \1.first = load ptr, ptr \3, align 1
-  \1.place = getelementptr i8, ptr \3, i64 8
-  \1.second = load \2, ptr \1.place, align 1
-  \1.half = insertvalue { ptr, \2 } undef, ptr \1.first, 0
-  \1 = insertvalue { ptr, \2 } \1.half, \2 \1.second, 1"""
+def elsewhere(text):
+    """The lines of the module that are another thing where an address has four bytes."""
+    laid = [line for line in re.findall(LIES, text, flags=re.M) if re.search(WITHIN, line.replace(SLICE, ""))]
+    return re.findall(rf"^.*{NUMBER}.*$", text, flags=re.M) + laid
 
 
 def module(header, calls, text):
@@ -148,13 +149,11 @@ def module(header, calls, text):
     lines = {name: (line, said) for line, name, said in found}
     if lines.keys() != {name for name, _, _ in calls}:
         sys.exit(f"header and module differ in {sorted(lines.keys() ^ {name for name, _, _ in calls})}")
+    other = elsewhere(text)
+    if other:
+        sys.exit(f"not the same with addresses of four bytes: {other[0][:100]}")
     text = re.sub(r"^target (datalayout|triple).*\n", "", text, flags=re.M)
     text = re.sub(r'"(target-cpu|target-features|tune-cpu)"="[^"]*"', "", text)
-    # A pair with an address keeps the places that it has with addresses of eight bytes.
-    text = re.sub(r"^  (%\w+) = load \{ (i8|i64), ptr \}, ptr (%\w+), align \d+$", PAIR, text, flags=re.M)
-    text = re.sub(r"^  (%\w+) = load \{ ptr, (i8|i64) \}, ptr (%\w+), align \d+$", TURNED, text, flags=re.M)
-    # The same number, which is made 64 bits wide where a pointer has 32.
-    text = re.sub(r"\bptrtoaddr ptr ", "ptrtoint ptr ", text)
     text = re.sub(r"^define (.*?)@guvrendik_", r"define internal \1@by_value_", text, flags=re.M)
     return text + "".join("\n" + around(header, call, *lines[call[0]]) for call in calls)
 

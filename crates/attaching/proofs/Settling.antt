@@ -70,7 +70,7 @@ module _ (fits : Bool) (r : Register) (a : Action) where
           outcome_fail permission [] (ap is_permitted same) ∙ sym (ap outcome_by same))
 
       -- the gate's decision tells the outcome
-      settled_told : outcome_of (book_tests fits r a) ≡ outcome_by (gated r a).decision
+      pub settled_told : outcome_of (book_tests fits r a) ≡ outcome_by (gated r a).decision
       settled_told =
           outcome_cases (outcome_of (gate_tests r a))
           (λ accepted. behind

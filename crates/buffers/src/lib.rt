@@ -47,7 +47,9 @@ fn copy(buf: &mut [u8], at: usize, t: &[u8]) -> usize
     ensures behind { result ≡ at + length t.now }
     ensures written { buf.new ≡ splice at t.now buf.old }
 {
-    buf[at..at + t.len()].copy_from_slice(t);
+    for i in 0..t.len() {
+        buf[at + i] = t[i];
+    }
     at + t.len()
 }
 

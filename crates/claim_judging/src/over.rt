@@ -29,7 +29,11 @@ fn drawn_from(p: Claim, c: Claim) -> bool
 fn place_at(places: &[u16], at: usize) -> usize
     ensures { result ≡ get_or places.now at 0 }
 {
-    places.get(at).map_or(0, |place| usize::from(*place))
+    if at < places.len() {
+        places[at] as usize
+    } else {
+        0
+    }
 }
 
 // Whether `h` holds the claim at the place `from` or one of those up to `steps` higher, or is the grantor of the last of them. `ups` has

@@ -173,7 +173,7 @@ pub fn claim_at(sheet: &[u32], i: usize) -> Claim
 pub fn number_at(column: &[u32], at: usize) -> u32
     ensures { result ≡ get_or column.now at 0 }
 {
-    column.get(at).copied().unwrap_or(0)
+    if at < column.len() { column[at] } else { 0 }
 }
 
 // Whether `x` stands among the first `n` of a column.
@@ -216,7 +216,7 @@ pub fn latest_place(column: &[u32], n: usize, x: u32) -> Option<usize>
 pub fn place_above(ups: &[u16], at: usize) -> usize
     ensures { result ≡ get_or ups.now at at }
 {
-    ups.get(at).map_or(at, |up| usize::from(*up))
+    if at < ups.len() { ups[at] as usize } else { at }
 }
 
 // The number of steps up to the root of the chain of the claim at the place `from`, by the places of the parents; none where the root is not

@@ -19,7 +19,7 @@ module _ {weights expiries ups : List ℕ} {n top : ℕ} where
   module _ {i : ℕ} {found : List ℕ} (s : Ending weights expiries ups n top i found) where
     module _ (h : i < top) where
       -- the place is there in the array
-      ending_room : i < claim_limit
+      pub ending_room : i < claim_limit
       ending_room = omega (arith, s.whole)
 
       ending_next : {e most : ℕ} → most ≡ cond (ltb (get_or ups i 0) i) (get_or (ends_to weights expiries ups i) (get_or ups i 0) 0) moment_end

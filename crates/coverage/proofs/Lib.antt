@@ -1,4 +1,5 @@
 pub mod Collecting
+pub mod Copying
 pub mod Ending
 pub mod Pasting
 pub mod Owned

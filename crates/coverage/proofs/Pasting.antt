@@ -84,7 +84,7 @@ module _ {k : Resources} {old : List ℕ} {top : ℕ} where
     laid_sized : Sized (map (λ o. o.path) passed)
     laid_sized = all_map (λ (o : Resource). o.path) (λ p. length p ≡ path_limit) passed (all_take (λ (o : Resource). length o.path ≡ path_limit) i k.list s.sized)
 
-    laying_length : length bytes ≡ length old
+    pub laying_length : length bytes ≡ length old
     laying_length =
         ap length s.paths
         ∙ laid_length old (map (λ o. o.path) passed) laid_sized (omega (arith, counted (List ℕ) (λ o. o.path), s.within, s.few))

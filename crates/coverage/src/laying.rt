@@ -18,7 +18,9 @@ fn put_path(bytes: &mut [u8], at: usize, o: Resource)
     if bytes.len() != BYTES {
         return;
     }
-    bytes[at..at + Register::PATH].copy_from_slice(&o.path);
+    for i in 0..Register::PATH {
+        bytes[at + i] = o.path[i];
+    }
 }
 
 // Lays the paths of the resources up to the count into the buffer, which stays as it is where it has not the length that all paths take, and

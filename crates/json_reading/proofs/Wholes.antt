@@ -1,5 +1,5 @@
 -- Laws of an object with nothing behind it: what the reading of its members says of it. Assumes nothing.
-use Rattle.std.proofs.Common.{ℕ, ◌≡◌, refl, sym, ◌∙◌, List, [], ◌∷◌, false, eqb, drop}
+use Rattle.std.proofs.Common.{ℕ, ◌≡◌, refl, sym, ap, ◌∙◌, List, [], ◌∷◌, true, false, eqb, drop}
 use Rattle.lists.specs.Tests.{cases}
 use Rattle.json_tokens.specs.Tokens.{Token, mark, text, no_token, opens_object, closes_object, tokens}
 use Rattle.json_rules.specs.Members.{Member, Taken, taking, missed, past, led_by, any_items, take_member, sole, members_of}
@@ -43,6 +43,13 @@ sole_ended : {s numbers : List ℕ} (d : Draft) (p : Taken (List Member)) → Dr
     → Drafted s numbers d (sole p)
 sole_ended d p h ended = (h.0, rw (h.1, ended), h.2)
 
+-- and they are admitted as they were
+sole_admitted : {s numbers : List ℕ} (d : Draft) (p : Taken (List Member)) → Drafted s numbers d p → tokens (drop d.next s) ≡ []
+    → admitted_whole p ≡ true → admitted_whole (sole p) ≡ true
+sole_admitted d p h ended e =
+    let there : p ≡ taking h.0 [] = h.1 ∙ ap (taking h.0) ended in
+    ap (λ q. admitted_whole (sole q)) there ∙ (sym (ap admitted_whole there) ∙ e)
+
 -- something follows
 sole_followed : {s numbers : List ℕ} (d : Draft) (p : Taken (List Member)) (k : Token) (ts : List Token) → Drafted s numbers d p
     → tokens (drop d.next s) ≡ k ∷ ts → admitted_whole (sole p) ≡ false
@@ -73,9 +80,12 @@ module _ (ts us : List Token) (opened : ts ≡ mark opens_object ∷ us) where
 
   module _ {s numbers : List ℕ} (d : Draft) (read : Drafted s numbers d (members_in us)) where
     -- nothing stands behind the object
-    pub object_ended : tokens (drop d.next s) ≡ [] → Drafted s numbers d (members_of ts)
+    pub object_ended : tokens (drop d.next s) ≡ [] → (admitted_whole (members_of ts) ≡ true) × Drafted s numbers d (members_of ts)
     unfolding members_of
-    object_ended ended = rw opened (sole_ended d (any_members us) (any_drafted d us read) ended)
+    object_ended ended =
+        let drafted = any_drafted d us read in
+        let once : admitted_whole (any_members us) ≡ true = any_admitted us ∙ (ap admitted read.1 ∙ read.2.once) in
+        rw opened (sole_admitted d (any_members us) drafted ended once, sole_ended d (any_members us) drafted ended)
 
     -- something stands behind it
     pub object_followed : (k : Token) (rest : List Token) → tokens (drop d.next s) ≡ k ∷ rest → admitted_whole (members_of ts) ≡ false

@@ -189,8 +189,9 @@ abbrev pub DraftSays : List ℕ → List ℕ → Option Draft → Taken (List Me
 DraftSays s numbers (Some d) p = Drafted s numbers d p
 DraftSays s numbers None p = admitted p ≡ false
 
+-- the same of an object with nothing behind it, which has a member
 abbrev pub WholeSays : List ℕ → List ℕ → Option Draft → Taken (List Member) → Type 0
-WholeSays s numbers (Some d) p = Drafted s numbers d p
+WholeSays s numbers (Some d) p = (admitted_whole p ≡ true) × Drafted s numbers d p
 WholeSays s numbers None p = admitted_whole p ≡ false
 
 -- the first seven keys were seen

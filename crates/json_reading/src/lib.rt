@@ -76,7 +76,9 @@ fn id_of(s: &[u8], from: usize, len: usize) -> [u8; ID_BYTES]
     ensures { result ≡ held_id (take len (drop from s.now)) }
 {
     let mut id = [0u8; ID_BYTES];
-    id[..len].copy_from_slice(&s[from..from + len]);
+    for i in 0..len {
+        id[i] = s[from + i];
+    }
     id
 }
 

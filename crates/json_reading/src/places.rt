@@ -1,5 +1,5 @@
 // The names of the builder's form: the places of an action's keys, of the kinds and of the flags.
-ghost use Rattle.std.specs.Prelude.{◌≡◌, ◌≤◌, length, map};
+ghost use Rattle.std.specs.Prelude.{◌≡◌};
 ghost use Rattle.json_rules.specs.Names.{key_names, kind_names, flag_names, place_of};
 
 // The keys by their places, and how many there are.
@@ -19,89 +19,138 @@ pub(crate) const SETTINGS: usize = 6;
 
 pub(crate) const DOMAIN: usize = 7;
 
+const DEPTH: usize = 8;
+
 pub(crate) const KEYS: usize = 9;
 
 // How many flags there are.
 pub(crate) const FLAGS: usize = 10;
 
-// The place of a name among others, or how many they are where it is none of them.
-fn place_in(names: &[&[u8]], x: &[u8]) -> usize
-    ensures place { result ≡ place_of (map (λ n. n.now) names.now) x.now }
-    ensures bound { result ≤ length names.now }
-{
-    for (i, name) in names.iter().enumerate() {
-        if lists::is_same(x, name) {
-            return i;
-        }
-    }
-    names.len()
-}
-
 // The place of a key's name.
 pub(crate) fn key_place(x: &[u8]) -> usize
     ensures { result ≡ place_of key_names x.now }
 {
-    place_in(
-        &[
-            b"id",
-            b"actor",
-            b"capability_kind",
-            b"resources_read",
-            b"resources_write",
-            b"resources_execute",
-            b"flags",
-            b"trust_domain",
-            b"delegation_depth",
-        ],
-        x,
-    )
+    if lists::is_same(x, b"id") {
+        return ID;
+    }
+    if lists::is_same(x, b"actor") {
+        return ACTOR;
+    }
+    if lists::is_same(x, b"capability_kind") {
+        return KIND;
+    }
+    if lists::is_same(x, b"resources_read") {
+        return READS;
+    }
+    if lists::is_same(x, b"resources_write") {
+        return WRITES;
+    }
+    if lists::is_same(x, b"resources_execute") {
+        return EXECUTES;
+    }
+    if lists::is_same(x, b"flags") {
+        return SETTINGS;
+    }
+    if lists::is_same(x, b"trust_domain") {
+        return DOMAIN;
+    }
+    if lists::is_same(x, b"delegation_depth") {
+        return DEPTH;
+    }
+    KEYS
 }
 
 // The place of a flag's name.
 pub(crate) fn flag_place(x: &[u8]) -> usize
     ensures { result ≡ place_of flag_names x.now }
 {
-    place_in(
-        &[
-            b"increases_machine_sovereignty",
-            b"resists_human_correction",
-            b"bypasses_verifier",
-            b"weakens_verifier",
-            b"disables_corrigibility",
-            b"machine_coalition_dominion",
-            b"coerces",
-            b"deceives",
-            b"self_modification_weakens_verifier",
-            b"machine_coalition_reduces_freedom",
-        ],
-        x,
-    )
+    if lists::is_same(x, b"increases_machine_sovereignty") {
+        return 0;
+    }
+    if lists::is_same(x, b"resists_human_correction") {
+        return 1;
+    }
+    if lists::is_same(x, b"bypasses_verifier") {
+        return 2;
+    }
+    if lists::is_same(x, b"weakens_verifier") {
+        return 3;
+    }
+    if lists::is_same(x, b"disables_corrigibility") {
+        return 4;
+    }
+    if lists::is_same(x, b"machine_coalition_dominion") {
+        return 5;
+    }
+    if lists::is_same(x, b"coerces") {
+        return 6;
+    }
+    if lists::is_same(x, b"deceives") {
+        return 7;
+    }
+    if lists::is_same(x, b"self_modification_weakens_verifier") {
+        return 8;
+    }
+    if lists::is_same(x, b"machine_coalition_reduces_freedom") {
+        return 9;
+    }
+    FLAGS
 }
 
 // The place of a kind's name.
 pub(crate) fn kind_place(x: &[u8]) -> u32
     ensures { result ≡ place_of kind_names x.now }
 {
-    place_in(
-        &[
-            b"READ",
-            b"WRITE",
-            b"EXECUTE",
-            b"DELETE",
-            b"DELEGATE",
-            b"NETWORK_EGRESS",
-            b"NETWORK_INGRESS",
-            b"FILE_SYSTEM",
-            b"PROCESS_SPAWN",
-            b"MEMORY_WRITE",
-            b"CREDENTIAL_READ",
-            b"CREDENTIAL_WRITE",
-            b"AUDIT_READ",
-            b"AUDIT_WRITE",
-            b"POLICY_READ",
-            b"REGISTRY_MODIFY",
-            b"POLICY_MODIFY",
-        ],
-        x,
-    ) as u32
+    if lists::is_same(x, b"READ") {
+        return rights::READ;
+    }
+    if lists::is_same(x, b"WRITE") {
+        return rights::WRITE;
+    }
+    if lists::is_same(x, b"EXECUTE") {
+        return rights::EXECUTE;
+    }
+    if lists::is_same(x, b"DELETE") {
+        return rights::DELETE;
+    }
+    if lists::is_same(x, b"DELEGATE") {
+        return rights::DELEGATE;
+    }
+    if lists::is_same(x, b"NETWORK_EGRESS") {
+        return rights::NETWORK_EGRESS;
+    }
+    if lists::is_same(x, b"NETWORK_INGRESS") {
+        return rights::NETWORK_INGRESS;
+    }
+    if lists::is_same(x, b"FILE_SYSTEM") {
+        return rights::FILE_SYSTEM;
+    }
+    if lists::is_same(x, b"PROCESS_SPAWN") {
+        return rights::PROCESS_SPAWN;
+    }
+    if lists::is_same(x, b"MEMORY_WRITE") {
+        return rights::MEMORY_WRITE;
+    }
+    if lists::is_same(x, b"CREDENTIAL_READ") {
+        return rights::CREDENTIAL_READ;
+    }
+    if lists::is_same(x, b"CREDENTIAL_WRITE") {
+        return rights::CREDENTIAL_WRITE;
+    }
+    if lists::is_same(x, b"AUDIT_READ") {
+        return rights::AUDIT_READ;
+    }
+    if lists::is_same(x, b"AUDIT_WRITE") {
+        return rights::AUDIT_WRITE;
+    }
+    if lists::is_same(x, b"POLICY_READ") {
+        return rights::POLICY_READ;
+    }
+    if lists::is_same(x, b"REGISTRY_MODIFY") {
+        return rights::REGISTRY_MODIFY;
+    }
+    if lists::is_same(x, b"POLICY_MODIFY") {
+        return rights::POLICY_MODIFY;
+    }
+    17
 }

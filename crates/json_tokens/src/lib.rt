@@ -88,7 +88,10 @@ fn has_word(s: &[u8], at: usize, word: &[u8]) -> bool
     requires { at ≤ length s.now }
     ensures { result ≡ same word.now (take (length word.now) (drop at s.now)) }
 {
-    s[at..].starts_with(word)
+    if s.len() - at < word.len() {
+        return false;
+    }
+    lists::is_same(word, &s[at..at + word.len()])
 }
 
 // The first token from `at` on.

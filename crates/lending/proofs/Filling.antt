@@ -1,12 +1,21 @@
 -- Columns filled from the front with what is read of the records that stand, and a path. Assumes nothing.
-use Rattle.std.proofs.Common.{◌≡◌, refl, sym, ap, ◌∙◌, List, ◌∷◌, ◌++◌, map, ℕ, zero, suc, ◌+◌, ◌*◌, ◌-◌, ◌≤◌, ◌<◌, min, arith, length, take, get_or, replicate, length-take, take-take, take_all}
-use mathlib.Core.List.{map-map, map-append}
+use Rattle.std.proofs.Common.{◌≡◌, refl, sym, ap, ◌∙◌, List, ◌∷◌, ◌++◌, map, ℕ, zero, suc, ◌+◌, ◌*◌, ◌-◌, ◌≤◌, ◌<◌, min, arith, length, take, drop, get_or, replicate, length-take, length-drop, take-take, take_all}
+use mathlib.Core.List.{map-map, map-append, append-nil}
 use Rattle.lists.specs.Lists.{counted}
-use Rattle.lists.specs.Counts.{counted_first}
+use Rattle.lists.specs.Counts.{counted_at, counted_first}
 use Rattle.lists.specs.Fills.{Filling, filling_end}
+use Rattle.register.specs.Limits.{path_limit}
 use Rattle.register_bytes.specs.Bytes.{number_size, number_in, field_in, records_in}
 use Rattle.register_bytes.specs.Laws.{record_at}
 use Rattle.columns.specs.Columns.{up_to}
+
+-- the places of a path are filled with its bytes
+pub path_filled : (bytes : List ℕ) (at : ℕ) → at + path_limit ≤ length bytes → {i : ℕ} {path : List ℕ}
+    → Filling path_limit (λ k. get_or (drop at bytes) k 0) path_limit 0 i path → path_limit ≤ i → path ≡ take path_limit (drop at bytes)
+path_filled bytes at room s past =
+    filling_end s past
+    ∙ append-nil (map (λ k. get_or (drop at bytes) k 0) (counted 0 path_limit))
+    ∙ counted_at 0 (drop at bytes) path_limit 0 (omega (arith, room, length-drop at bytes))
 
 map_replicate : {A B : Type 0} (f : A → B) (n : ℕ) (x : A) → map f (replicate n x) ≡ replicate n (f x)
 map_replicate f zero x = refl

@@ -1,8 +1,8 @@
 -- Paths copied from lent bytes, one after the other over a buffer that has the bytes of all paths, and their lengths beside them. Assumes nothing.
-use Rattle.std.proofs.Common.{◌≡◌, refl, sym, ap, ◌∙◌, List, [], ◌∷◌, ◌++◌, map, ℕ, ◌+◌, ◌*◌, ◌-◌, ◌≤◌, ◌<◌, min, add-one, arith, length, take, drop, get_or, set, replicate, length-take, take-suc}
+use Rattle.std.proofs.Common.{◌≡◌, refl, sym, ap, ◌∙◌, List, [], ◌∷◌, ◌++◌, map, ℕ, ◌+◌, ◌*◌, ◌-◌, ◌≤◌, ◌<◌, min, add-one, arith, length, take, drop, get_or, set, replicate, length-take, length-drop, get_or-take, get_or-drop, take-suc}
 use mathlib.Core.List.{map-append}
 use lib.ListN.{length-map}
-use lib.Seq.{paste}
+use lib.Seq.{paste, paste-zero, paste-suc, length-paste}
 use Rattle.lists.specs.Lists.{All}
 use Rattle.lists.specs.Each.{all_map, all_take, all_append_right}
 use Rattle.lists.specs.Fills.{Filling, filling_start, filling_next}
@@ -13,6 +13,43 @@ use Rattle.register.specs.declared.Resources.{Resources}
 use Rattle.coverage.specs.Laid.{bytes_limit, flat, laid_in, lens_of}
 use Rattle.coverage.specs.LaidLaws.{Sized, laid_room, paste_laid}
 use Rattle.lending.proofs.Filling.{standing_length, standing_first, standing_filled}
+
+-- the bytes of a path that stands at a place
+abbrev pub path_in : List ℕ → ℕ → List ℕ
+path_in bytes from = take path_limit (drop from bytes)
+
+-- the first i bytes of the path that stands at `from` are in the buffer from `to` on, and the rest is as it was
+pub record Copied (old : List ℕ) (to : ℕ) (bytes : List ℕ) (from i : ℕ) (paths : List ℕ) : Type 0 where
+  pub within : i ≤ path_limit
+  pub room : to + path_limit ≤ length old
+  pub long : length (path_in bytes from) ≡ path_limit
+  pub copied : paths ≡ paste old to (path_in bytes from) i
+
+module _ {old : List ℕ} {to : ℕ} {bytes : List ℕ} {from : ℕ} where
+  pub copied_none : to + path_limit ≤ length old → from + path_limit ≤ length bytes → Copied old to bytes from 0 old
+  copied_none room held = record {
+    within = omega arith;
+    room = room;
+    long = omega (arith, held, length-take path_limit (drop from bytes), length-drop from bytes);
+    copied = paste-zero old to (path_in bytes from);
+  }
+
+  module _ {i : ℕ} {paths : List ℕ} (c : Copied old to bytes from i paths) where
+    pub copied_length : length paths ≡ length old
+    copied_length = ap length c.copied ∙ length-paste old to (path_in bytes from) i (omega (arith, c.within, c.room)) (omega (arith, c.within, c.long))
+
+    pub copied_next : i < path_limit → Copied old to bytes from (i + 1) (set paths (to + i) (get_or bytes (from + i) 0))
+    copied_next here =
+        let byte : get_or bytes (from + i) 0 ≡ get_or (path_in bytes from) i 0 = sym (get_or-take path_limit (drop from bytes) i 0 here ∙ get_or-drop from bytes i 0) in
+        record {
+          within = omega (arith, here);
+          room = c.room;
+          long = c.long;
+          copied = rw (byte, add-one, c.copied) (paste-suc old to (path_in bytes from) i 0 (omega (arith, here, c.room)) (omega (arith, here, c.long)));
+        }
+
+    pub copied_all : path_limit ≤ i → paths ≡ paste old to (path_in bytes from) path_limit
+    copied_all past = let all : i ≡ path_limit = omega (arith, past, c.within) in c.copied ∙ ap (paste old to (path_in bytes from)) all
 
 -- the paths of the first i resources
 abbrev first_paths : List Resource → ℕ → List (List ℕ)

@@ -77,7 +77,9 @@ fn path_at(bytes: &[u8], at: usize) -> [u8; Register::PATH]
     ensures { result ≡ take path_limit (drop at bytes.now) }
 {
     let mut path = [0u8; Register::PATH];
-    path.copy_from_slice(&bytes[at..at + Register::PATH]);
+    for i in 0..Register::PATH {
+        path[i] = bytes[at + i];
+    }
     path
 }
 
@@ -170,7 +172,9 @@ fn put_path(paths: &mut [u8], to: usize, bytes: &[u8], from: usize)
     requires { (to + path_limit ≤ length paths.old) × (from + path_limit ≤ length bytes.now) }
     ensures { paths.new ≡ paste paths.old to (take path_limit (drop from bytes.now)) path_limit }
 {
-    paths[to..to + Register::PATH].copy_from_slice(&bytes[from..from + Register::PATH]);
+    for i in 0..Register::PATH {
+        paths[to + i] = bytes[from + i];
+    }
 }
 
 // Lays the paths of the resources that stand over the buffer of all paths, and answers their lengths, 0 behind them.

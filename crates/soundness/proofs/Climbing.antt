@@ -73,10 +73,10 @@ sheet_tables version s n short long distant parents granted held = record {
 }
 
 -- a claim as it was read off the sheet is the one in it, and what is asked of it and its parent is asked of those in it
-parent_read : (s : List ℕ) (i : ℕ) {c : Claim} → c ≡ claim_at s i → (get_or (claims_in s) i no_claim).parent ≡ c.parent
+pub parent_read : (s : List ℕ) (i : ℕ) {c : Claim} → c ≡ claim_at s i → (get_or (claims_in s) i no_claim).parent ≡ c.parent
 parent_read s i read = ap (λ c. c.parent) (claims_in_at s i ∙ sym read)
 
-over_read : (version : ℕ) (s ups grantors holders : List ℕ) (up steps i : ℕ) {p c : Claim} {answer : Bool} → p ≡ claim_at s up → c ≡ claim_at s i
+pub over_read : (version : ℕ) (s ups grantors holders : List ℕ) (up steps i : ℕ) {p c : Claim} {answer : Bool} → p ≡ claim_at s up → c ≡ claim_at s i
     → answer ≡ over_at version ups grantors holders up steps p c
     → answer ≡ over_at version ups grantors holders up steps (get_or (claims_in s) up no_claim) (get_or (claims_in s) i no_claim)
 over_read version s ups grantors holders up steps i parent claim told = told ∙ rw (parent, claim, claims_in_at s up, claims_in_at s i)
@@ -118,7 +118,7 @@ module _ {version : ℕ} {cs : List Claim} {n : ℕ} {grantors holders ups : Lis
   asked_inside : (f : Claim → ℕ) → i < min n (min claim_limit (length (map f cs)))
   asked_inside f = omega (arith, inside, t.short, t.long, length-map cs f)
 
-  ups_at : get_or ups i 0 ≡ place_number claim_limit (latest_place (map claim_id cs) i (get_or cs i no_claim).parent)
+  pub ups_at : get_or ups i 0 ≡ place_number claim_limit (latest_place (map claim_id cs) i (get_or cs i no_claim).parent)
   ups_at =
       rw t.parents (earlier_at (map claim_id cs) (map parent_of cs) n i 0 (asked_inside parent_of))
       ∙ ap (λ x. place_number claim_limit (latest_place (map claim_id cs) i x)) (get_or-map parent_of cs i no_claim)
@@ -144,7 +144,7 @@ module _ {version : ℕ} {cs : List Claim} {n : ℕ} {grantors holders ups : Lis
       ∙ unseen (map claim_id cs) n i t.distant inside there)
 
   -- it is a root
-  root_passed : {hops : List ℕ} → Climbed version cs n hops i → (get_or cs i no_claim).parent ≡ 0 → Climbed version cs n (set hops i 0) (i + 1)
+  pub root_passed : {hops : List ℕ} → Climbed version cs n hops i → (get_or cs i no_claim).parent ≡ 0 → Climbed version cs n (set hops i 0) (i + 1)
   root_passed s e =
       climbed_next s t.long t.short inside 0 (root_stands version cs i (get_or cs i no_claim) apart e)
       (sym (ap (λ x. length (chain_places (map claim_id cs) (map parent_of cs) i x)) (get_or-map parent_of cs i no_claim ∙ e)
@@ -154,7 +154,7 @@ module _ {version : ℕ} {cs : List Claim} {n : ℕ} {grantors holders ups : Lis
 
   module _ (o : (get_or cs i no_claim).parent ≡ 0 → ⊥) where
     -- its parent stands nowhere before it
-    parent_failed : claim_limit ≤ get_or ups i 0 → stand_over version (latest (take n cs)) ≡ false
+    pub parent_failed : claim_limit ≤ get_or ups i 0 → stand_over version (latest (take n cs)) ≡ false
     parent_failed h =
         fails (parent_nowhere version cs i (get_or cs i no_claim) apart o
         (number_none (latest_place (map claim_id cs) i (get_or cs i no_claim).parent) (get_or ups i 0) ups_at (below (get_or cs i no_claim).parent) h))
@@ -170,7 +170,7 @@ module _ {version : ℕ} {cs : List Claim} {n : ℕ} {grantors holders ups : Lis
       parent_steps : {hops : List ℕ} → Climbed version cs n hops i → get_or hops (get_or ups i 0) 0 + 1 ≤ i
       parent_steps s = omega (arith, s.low (get_or ups i 0) parent_before, parent_before)
 
-      parent_low : {hops : List ℕ} → Climbed version cs n hops i → get_or hops (get_or ups i 0) 0 + 1 < claim_limit
+      pub parent_low : {hops : List ℕ} → Climbed version cs n hops i → get_or hops (get_or ups i 0) 0 + 1 < claim_limit
       parent_low s = omega (arith, parent_steps s, inside, t.short)
 
       module _ {hops : List ℕ} (s : Climbed version cs n hops i) {answer : Bool}
@@ -184,10 +184,10 @@ module _ {version : ℕ} {cs : List Claim} {n : ℕ} {grantors holders ups : Lis
             ∙ rw (t.granted, t.held)
             (over_natural version cs i (get_or cs i no_claim) apart o (get_or ups i 0) stood ups (get_or hops (get_or ups i 0) 0) kept_ups steps_kept)
 
-        over_failed : answer ≡ false → stand_over version (latest (take n cs)) ≡ false
+        pub over_failed : answer ≡ false → stand_over version (latest (take n cs)) ≡ false
         over_failed h = fails (sym judged ∙ h)
 
-        over_passed : answer ≡ true → Climbed version cs n (set hops i (get_or hops (get_or ups i 0) 0 + 1)) (i + 1)
+        pub over_passed : answer ≡ true → Climbed version cs n (set hops i (get_or hops (get_or ups i 0) 0 + 1)) (i + 1)
         over_passed h =
             climbed_next s t.long t.short inside (get_or hops (get_or ups i 0) 0 + 1) (sym judged ∙ h)
             (add-one (get_or hops (get_or ups i 0) 0)

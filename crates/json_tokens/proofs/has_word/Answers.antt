@@ -1,19 +1,16 @@
--- The library's test on the front of a list is the one on two whole lists.
-use Rattle.std.proofs.Common.{◌≡◌, refl, ap, ◌∙◌, List, [], ◌∷◌, ℕ, ◌&&◌, eqb, ◌-◌, arith, length, take, drop, length-drop, take_all}
-use Rattle.std.specs.Cmp.Lexicographic.{pointwise}
-use Rattle.lists.specs.Lists.{same}
+-- A text that is shorter than the word does not have it; of one that is not, the bytes that may be the word's are as many as it has.
+use Rattle.std.proofs.Common.{◌≡◌, ◌+◌, ◌-◌, sym, arith, length, take, drop, length-take, length-drop}
+use Rattle.lists.proofs.ByPlaces.{same_lengths}
 use Rattle.json_tokens.proofs.has_word.Goals as goal
 
-pointwise_same : (p q : List ℕ) → pointwise eqb p q ≡ same p q
-unfolding same
-pointwise_same [] [] = refl
-pointwise_same [] (c ∷ q) = refl
-pointwise_same (b ∷ p) [] = refl
-pointwise_same (b ∷ p) (c ∷ q) = ap (λ x. eqb b c && x) (pointwise_same p q)
+pub returns-then-s-at : goal.returns-then-s-at
+returns-then-s-at c =
+    let a = c.args in
+    sym (same_lengths a.word.now (take (length a.word.now) (drop a.at a.s.now))
+    (λ e. let short = c.if-s-at.true in omega (arith, simp (length-take, length-drop) at e)))
 
 pub returns : goal.returns
 returns c =
     let a = c.args in
-    let left = drop a.at a.s.now in
-    let whole : take (length a.s.now - a.at) left ≡ left = take_all (length a.s.now - a.at) left (simp length-drop (omega arith)) in
-    rw whole at c.starts_with.ensures.value ∙ pointwise_same a.word.now (take (length a.word.now) left)
+    let many : a.at + length a.word.now - a.at ≡ length a.word.now = omega arith in
+    rw many at c.is_same.ensures

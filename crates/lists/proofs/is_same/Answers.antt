@@ -1,15 +1,22 @@
--- `lists::is_same` meets its contract: `same` compares head by head, as `==` does. Assumes nothing.
-use Rattle.std.proofs.Common.{List, [], ◌∷◌, ℕ, ◌≡◌, refl, ap, eqb, ◌&&◌}
-use Rattle.std.specs.Cmp.Lexicographic.{pointwise}
-use Rattle.lists.specs.Lists.{same}
+-- `lists::is_same` meets its contract. Lists of different lengths are not the same; of others, two bytes that differ decide. Assumes nothing.
+use Rattle.std.proofs.Common.{sym, ◌∙◌, arith}
+use Rattle.lists.proofs.ByPlaces.{same_lengths, same_next, same_other, same_done}
 use Rattle.lists.proofs.is_same.Goals as goal
 
-same-pointwise : (p q : List ℕ) → pointwise eqb p q ≡ same p q
-unfolding same
-same-pointwise [] [] = refl
-same-pointwise [] (c ∷ q) = refl
-same-pointwise (b ∷ p) [] = refl
-same-pointwise (b ∷ p) (c ∷ q) = ap (λ r. eqb b c && r) (same-pointwise p q)
+pub returns-then-a-b : goal.returns-then-a-b
+returns-then-a-b c = sym (same_lengths c.args.a.now c.args.b.now c.if-a-b.true)
+
+pub returns-then-a-i : goal.returns-then-a-i
+returns-then-a-i c =
+    let a = c.args in
+    sym (c.loop-i.invariant.1 ∙ same_other a.a.now a.b.now c.loop-i.i (omega arith) (omega arith) c.if-a-i.true)
+
+pub loop-i-preserved : goal.loop-i-preserved
+loop-i-preserved c =
+    let a = c.args in
+    (omega arith, c.loop-i.invariant.1 ∙ same_next a.a.now a.b.now c.loop-i.i (omega arith) (omega arith) c.if-a-i.false)
 
 pub returns : goal.returns
-returns c = cc (same-pointwise c.args.a.now c.args.b.now)
+returns c =
+    let a = c.args in
+    sym (c.loop-i.invariant.1 ∙ same_done a.a.now a.b.now c.loop-i.i (omega arith) (omega arith))
