@@ -12,8 +12,8 @@ Written are
     FOLDER/values.c   the calls by value of the header, in C over the inner functions
     FOLDER/places.c   for a processor of 32 bits: the calls by pointer, with 32 bits to a length
 
-Each call of the header must be in the module with the parameters that its declaration gives it, and no other may be there. No line of a function is
-changed: a module that has an address as a number, or one within a type that is loaded, stored or laid out, is refused, since that lies elsewhere where an
+Each call of the header must be in the module with the parameters that its declaration gives it, and no other may be there. No instruction of a function
+is changed: a module that has an address as a number, or one within a type that is loaded, stored or laid out, is refused, since that lies elsewhere where an
 address has four bytes.
 """
 import re
